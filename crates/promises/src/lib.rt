@@ -1,0 +1,1 @@
+// The promises over the definitions are in specs/; this crate has no code.

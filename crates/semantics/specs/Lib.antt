@@ -1,0 +1,17 @@
+pub mod Words
+pub mod Numbers
+pub mod Model
+pub mod Bytes
+pub mod Record
+pub mod Decode
+pub mod State
+pub mod Value
+pub mod Claim
+pub mod Walk
+pub mod Step
+pub mod Sound
+pub mod Run
+pub mod Bound
+pub mod Journal
+pub mod Plan
+pub mod Plans

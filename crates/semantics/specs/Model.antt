@@ -1,0 +1,72 @@
+-- A model: what a model file that is not refused says (document 01, "The model file").
+-- Assumes nothing.
+use Prim.Native.Nat.{ℕ}
+use mathlib.Core.List.{List, [], _∷_}
+use lib.ListN.{getD}
+use lib.IntN.{ℤ}
+
+-- 0 literal, 1 global, 2 local, 3 add, 4 subtract, 5 multiply, 6 lesser, 7 greater, 8 clock, 9 negate
+pub data Expr : Type 0 where
+  literal : ℤ → Expr
+  global local : ℕ → Expr
+  add subtract multiply lesser greater : Expr → Expr → Expr
+  theClock : Expr
+  negate : Expr → Expr
+
+-- What a claim can get: 0 getR, 1 getB, 2 getS.
+pub data Kind : Type 0 where
+  resource bin sync : Kind
+
+-- 1 `<`, 2 `<=`, 3 `=`, 4 `<>`, 5 `>=`, 6 `>`
+pub data Relation : Type 0 where
+  below atMost equals differs atLeast above : Relation
+
+pub data Item : Type 0 where
+  get : Kind → ℕ → ℕ → Item  -- of what kind, its number, the amount
+  condition : ℕ → Relation → ℤ → Item  -- global variable, relation, amount
+
+abbrev pub Claim : Type 0
+Claim = List Item
+
+-- A branch of a TRY.
+pub record Branch : Type 0 where
+  pub block : ℕ
+  pub claim : Claim
+
+-- What a START hands over of one resource.
+pub record Share : Type 0 where
+  pub of : ℕ
+  pub amount : ℕ
+
+pub data Action : Type 0 where
+  HOLD PRIO TRACE : Expr → Action
+  SET LSET : ℕ → Expr → Action  -- variable or local, expression
+  DO : ℕ → ℕ → Action  -- rounds, block
+  PUTR PUTB PUTS : ℕ → ℕ → Action  -- number, amount or count
+  BECOME : ℕ → Action  -- sync
+  REQ : Claim → Action
+  TRY : List Branch → Action
+  WHILE : ℕ → Claim → Action  -- block, claim
+  START : ℕ → ℕ → List Share → Action  -- class, offset, what is handed over
+  CLOSE : Action
+
+pub record Entity : Type 0 where
+  pub class : ℕ
+  pub offset : ℕ
+
+-- Things of one kind stand in file order, so that their numbers are their indices.
+pub record Model : Type 0 where
+  pub totals : List ℕ  -- of the RES
+  pub amounts : List ℕ  -- that the BINs start with
+  pub syncs : ℕ  -- how many
+  pub vars : List ℤ  -- the values that the VARs start with
+  pub classes : List ℕ  -- their body blocks
+  pub entities : List Entity
+  pub blocks : List (List Action)
+
+-- The actions of block b, and the body block of class c.
+abbrev pub block : Model → ℕ → List Action
+block m b = getD (m .blocks) b []
+
+abbrev pub body : Model → ℕ → ℕ
+body m c = getD (m .classes) c 0

@@ -1,0 +1,119 @@
+-- The numbers that document 01 gives ("Numbers the desk sees", "The journal and one whole run"), by their names.
+-- Assumes nothing.
+use Prim.Native.Nat.{ℕ}
+
+-- 1 to 10 refuse a model.
+abbrev pub SHORT : ℕ
+SHORT = 1
+
+abbrev pub KIND : ℕ
+KIND = 2
+
+abbrev pub PLACE : ℕ
+PLACE = 3
+
+abbrev pub MANY : ℕ
+MANY = 4
+
+abbrev pub SIZE : ℕ
+SIZE = 5
+
+abbrev pub VALUE : ℕ
+VALUE = 6
+
+abbrev pub TWICE : ℕ
+TWICE = 7
+
+abbrev pub NAME : ℕ
+NAME = 8
+
+abbrev pub ORDER : ℕ
+ORDER = 9
+
+abbrev pub DEEP : ℕ
+DEEP = 10
+
+-- 20 to 30 are faults.
+abbrev pub STATE : ℕ
+STATE = 20
+
+abbrev pub SUM : ℕ
+SUM = 21
+
+abbrev pub BACK : ℕ
+BACK = 22
+
+abbrev pub LATE : ℕ
+LATE = 23
+
+abbrev pub HELD : ℕ
+HELD = 24
+
+abbrev pub OWNED : ℕ
+OWNED = 25
+
+abbrev pub OWING : ℕ
+OWING = 26
+
+abbrev pub FULL : ℕ
+FULL = 27
+
+abbrev pub BIN : ℕ
+BIN = 28
+
+abbrev pub NOTICES : ℕ
+NOTICES = 29
+
+abbrev pub JOURNAL : ℕ
+JOURNAL = 30
+
+-- The kinds of a journal line.
+abbrev pub started : ℕ
+started = 1
+
+abbrev pub ended : ℕ
+ended = 2
+
+abbrev pub blocked : ℕ
+blocked = 3
+
+abbrev pub granted : ℕ
+granted = 4
+
+abbrev pub resourceReturned : ℕ
+resourceReturned = 5
+
+abbrev pub binReturned : ℕ
+binReturned = 6
+
+abbrev pub waitingAsSlave : ℕ
+waitingAsSlave = 7
+
+abbrev pub freed : ℕ
+freed = 8
+
+abbrev pub traced : ℕ
+traced = 9
+
+abbrev pub closed : ℕ
+closed = 10
+
+-- Times go to 2,000,000,000, process numbers to 2,147,483,647, a bin to 1,000,000,000; there are 64 places, 64 returns may
+-- wait, and a process has 8 locals.
+abbrev pub latest : ℕ
+latest = 2_000_000_000
+
+abbrev pub lastNumber : ℕ
+lastNumber = 2_147_483_647
+
+abbrev pub fullBin : ℕ
+fullBin = 1_000_000_000
+
+abbrev pub places : ℕ
+places = 64
+
+abbrev pub returns : ℕ
+returns = 64
+
+abbrev pub locals : ℕ
+locals = 8

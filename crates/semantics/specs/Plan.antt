@@ -1,0 +1,38 @@
+-- What the program `plan` prints of a file, as data (document 01, "The journal and one whole run").
+-- Assumes nothing.
+use Prim.Native.Nat.{ℕ}
+use mathlib.Core.List.{List, [], _∷_, map}
+use lib.IntN.{ℤ}
+use Rattle.semantics.specs.Model.{Model}
+use Rattle.semantics.specs.State.{fresh}
+use Rattle.semantics.specs.Walk.{Line}
+use Rattle.semantics.specs.Run.{Answer, Ran, endless, run}
+use Rattle.semantics.specs.Bound.{Bounded, boundIs}
+use Rattle.semantics.specs.Decode.{Checked, refused, accepted, decode}
+
+-- Each line as time, process, kind, value.
+abbrev pub Row : Type 0
+Row = ℕ × ℕ × ℕ × ℤ
+
+abbrev pub row : Line → Row
+row l = (l .time, l .process, l .kind, l .value)
+
+-- A refusal prints only its number and place; else the lines, the answer, the steps, and the bound.
+pub data Printed : Type 0 where
+  refusedAt : ℕ → ℕ → Printed
+  ran : List Row → Answer → ℕ → Bounded → Printed
+
+-- The journal is emptied between calls so that 30 isn't met: its room is endless.
+unfoldable pub planFor : ℕ → List ℕ → Printed
+unfolding decode run fresh boundIs
+planFor limit bs =
+    elim (decode bs) [
+      | refused n p ↦ refusedAt n p
+      | accepted m ↦
+          let r : Ran = run m limit endless (fresh m) in
+          ran (map row (r .lines)) (r .answer) (r .steps) (boundIs m)
+    ]
+
+unfoldable pub plan : List ℕ → Printed
+unfolding planFor
+plan bs = planFor 1_000_000 bs

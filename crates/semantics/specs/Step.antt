@@ -1,0 +1,266 @@
+-- One step (document 01, "One step"): the next state with the journal lines of the step, or the number of a fault.
+-- Each action tests for its faults in ascending number, on the state before the step; so the lowest that applies is given.
+-- Assumes nothing.
+use Prim.Native.Nat.{ℕ, zero, suc, _+_, _-_}
+use mathlib.Core.List.{List, [], _∷_, _++_, map}
+use mathlib.Core.Bool.{Bool, true, false, not, _&&_, _||_}
+use mathlib.Core.Option.{Option, none, some}
+use lib.Dec.{eqb, leb, ltb}
+use lib.ListN.{length, getD, set}
+use lib.IntN.{ℤ, pos, negsuc, natAbs}
+use lib.Signed.{leZ, nonNeg}
+use Rattle.semantics.specs.Words.{
+  if_then_else_, Outcome, ok, fails, _>>=_, _>>_, need, all, keep, isEmpty, more, less
+}
+use Rattle.semantics.specs.Numbers as No
+use Rattle.semantics.specs.Model.{
+  Expr, Claim, Branch, Share, Model,
+  Action, HOLD, PRIO, TRACE, SET, LSET, DO, PUTR, PUTB, PUTS, BECOME, REQ, TRY, WHILE, START, CLOSE
+}
+use Rattle.semantics.specs.State.{
+  State, Process, Frame, Slave, Waiter, Event, Floor, empty, held, Notice, wakes, returnsR, returnsB, nobody, process, put,
+  at-clock, now-closed, with-globals, with-free, with-bins, with-waiting, with-floor, with-events, with-blocked,
+  with-priority, with-locals, with-held, with-slaves, with-frames, enter, wake, join, onward, past, into, begin, living
+}
+use Rattle.semantics.specs.Value.{eval}
+use Rattle.semantics.specs.Claim.{offers, standsIn, Choice, waits, goes, choice, grant}
+use Rattle.semantics.specs.Walk.{Next, line, quiet, after, walk}
+
+-- The lowest priority of a process, -10,000, and that of a return notice, -15,000.
+abbrev pub lowest : ℤ
+lowest = negsuc 9_999
+
+abbrev pub ofReturns : ℤ
+ofReturns = negsuc 14_999
+
+abbrev pub isReturn : Event → Bool
+isReturn e = elim (e .notice) [ wakes p ↦ false | returnsR i n g ↦ true | returnsB i n g ↦ true ]
+
+-- What a START hands over, added to what the new process holds and taken from what the giver holds.
+unfoldable pub handed : List Share → List ℕ → List ℕ
+handed [] l = l
+handed (x ∷ xs) l = handed xs (more l (x .of) (x .amount))
+
+unfoldable pub kept : List Share → List ℕ → List ℕ
+kept [] l = l
+kept (x ∷ xs) l = kept xs (less l (x .of) (x .amount))
+
+-- The first n slaves of sync i in the order claimed, and those that stay.
+unfoldable pub freed : ℕ → ℕ → List Slave → List ℕ
+freed i zero xs = []
+freed i (suc n) [] = []
+freed i (suc n) (x ∷ xs) = elim (eqb (x .of) i) [ true ↦ x .place ∷ freed i n xs | false ↦ freed i (suc n) xs ]
+
+unfoldable pub stay : ℕ → ℕ → List Slave → List Slave
+stay i zero xs = xs
+stay i (suc n) [] = []
+stay i (suc n) (x ∷ xs) = elim (eqb (x .of) i) [ true ↦ stay i n xs | false ↦ x ∷ stay i (suc n) xs ]
+
+-- Each of them enters the event list now.
+unfoldable pub freeAll : ℕ → List ℕ → State → Next
+unfolding wake
+freeAll i [] s = quiet s
+freeAll i (r ∷ rs) s = after (line s (process s r .number) No.freed (pos i)) (freeAll i rs (wake (s .clock) r s))
+
+-- A block that is left: the process goes past the action that named it, but meets a WHILE again.
+abbrev pub comesBack : Action → Bool
+comesBack (HOLD e) = false
+comesBack (PRIO e) = false
+comesBack (TRACE e) = false
+comesBack (SET i e) = false
+comesBack (LSET i e) = false
+comesBack (DO n b) = false
+comesBack (PUTR i n) = false
+comesBack (PUTB i n) = false
+comesBack (PUTS i n) = false
+comesBack (BECOME i) = false
+comesBack (REQ c) = false
+comesBack (TRY bs) = false
+comesBack (WHILE b c) = true
+comesBack (START c t h) = false
+comesBack CLOSE = false
+
+abbrev pub leave : Model → List Frame → List Frame
+leave m fs = elim (standsIn m fs) [ none ↦ fs | some a ↦ if comesBack a then fs else onward fs ]
+
+-- WHAT THE PROCESS q in place p, which has the floor, does. `on r`: it goes on as r and keeps the floor; `off r`: it loses it.
+module _ (m : Model) (s : State) (p : ℕ) (q : Process) where
+  abbrev on : Process → State
+  on r = put p r s
+
+  abbrev off : Process → State
+  off r = with-floor (on r) empty
+
+  -- Leaving the class body ends the process, which has no resource held above 0 and no slave.
+  unfoldable pub ends : Outcome Next
+  ends = do
+    need No.OWING (all (λ n. eqb n 0) (q .held) && isEmpty (q .slaves))
+    ok (after (line s (q .number) No.ended (pos 0)) (quiet (off nobody)))
+
+  -- Innermost block exhausted: one round less; go round again, or leave the block.
+  unfoldable pub exhausted : List Frame → Outcome Next
+  unfolding ends onward
+  exhausted [] = fails No.STATE
+  exhausted (f ∷ fs) =
+      if ltb 1 (f .rounds)
+      then ok (quiet (on (with-frames q (record { block = f .block; at = 0; rounds = f .rounds - 1 } ∷ fs))))
+      else if isEmpty fs then ends else ok (quiet (on (with-frames q (leave m fs))))
+
+  -- HOLD e: enter the list at clock + e; floor lost.
+  unfoldable pub hold : Expr → Outcome Next
+  unfolding eval wake past
+  hold e = do
+    v ← eval s q e
+    need No.BACK (nonNeg v)
+    need No.LATE (leb (s .clock + natAbs v) No.latest)
+    ok (quiet (wake (s .clock + natAbs v) p (off (past q))))
+
+  -- PRIO e: priority e, but never below -10,000.
+  unfoldable pub prio : Expr → Outcome Next
+  unfolding eval past
+  prio e = do
+    v ← eval s q e
+    ok (quiet (on (past (with-priority q (if leZ lowest v then v else lowest)))))
+
+  -- SET, LSET; SET then walks.
+  unfoldable pub setGlobal : ℕ → Expr → Outcome Next
+  unfolding eval past walk
+  setGlobal i e = do
+    v ← eval s q e
+    ok (walk m (with-globals (on (past q)) (set (s .globals) i v)))
+
+  unfoldable pub setLocal : ℕ → Expr → Outcome Next
+  unfolding eval past
+  setLocal i e = do
+    v ← eval s q e
+    ok (quiet (on (past (with-locals q (set (q .locals) i v)))))
+
+  -- DO 0 passes on; DO n enters the block for n rounds.
+  unfoldable pub doTimes : ℕ → ℕ → Outcome Next
+  unfolding past into
+  doTimes zero b = ok (quiet (on (past q)))
+  doTimes (suc n) b = ok (quiet (on (into (suc n) b q)))
+
+  -- PUTR, PUTB: both enter a return notice at this time; PUTR takes the amount from the holder.
+  unfoldable pub notify : Notice → Process → Outcome Next
+  unfolding past enter
+  notify n r = do
+    need No.NOTICES (ltb (length (keep isReturn (s .events))) No.returns)
+    ok (quiet (with-events (on (past r)) (enter (record { time = s .clock; priority = ofReturns; notice = n }) (s .events))))
+
+  unfoldable pub putr : ℕ → ℕ → Outcome Next
+  unfolding notify
+  putr i n = do
+    need No.HELD (leb n (getD (q .held) i 0))
+    notify (returnsR i n (q .number)) (with-held q (less (q .held) i n))
+
+  unfoldable pub putb : ℕ → ℕ → Outcome Next
+  unfolding notify
+  putb i n = notify (returnsB i n (q .number)) q
+
+  -- BECOME: join the sync's waiting list; floor lost; walk.
+  unfoldable pub become : ℕ → Outcome Next
+  unfolding past join walk
+  become i =
+      let t : State = off (past q) in
+      ok (after (line s (q .number) No.waitingAsSlave (pos i))
+      (walk m (with-waiting t (set (t .waiting) i (join t p (getD (t .waiting) i []))))))
+
+  -- PUTS n: the first n owned slaves of that sync enter the event list now.
+  unfoldable pub puts : ℕ → ℕ → Outcome Next
+  unfolding freed stay freeAll past
+  puts i n = do
+    need No.OWNED (leb n (length (keep (λ x. eqb (x .of) i) (q .slaves))))
+    ok (freeAll i (freed i n (q .slaves)) (on (past (with-slaves q (stay i n (q .slaves))))))
+
+  -- START: hand over, and enter the new process at clock + offset.
+  unfoldable pub start : ℕ → ℕ → List Share → Outcome Next
+  unfolding begin past handed kept
+  start c t h = do
+    need No.LATE (leb (s .clock + t) No.latest)
+    need No.HELD (all (λ x. leb (x .amount) (getD (q .held) (x .of) 0)) h)
+    need No.FULL (ltb (living s) No.places && ltb (s .last) No.lastNumber)
+    ok (
+      after (line s (s .last + 1) No.started (pos c))
+      (quiet (begin m c (s .clock + t) (handed h (map (λ x. 0) (q .held))) (on (past (with-held q (kept h (q .held)))))))
+    )
+
+  -- On the floor one is barred by any blocked process of equal or higher priority.
+  abbrev pub before : List Waiter
+  before = keep (λ w. leZ (q .priority) (w .priority)) (s .blocked)
+
+  -- REQ, TRY: take the first branch that can be met, or join the blocked list; floor lost.
+  unfoldable pub request : Action → Outcome Next
+  unfolding choice grant join
+  request a =
+      elim (choice m s before (offers a)) [
+        | waits ↦
+            ok (after (line s (q .number) No.blocked (pos 0))
+            (quiet (with-blocked (with-floor s empty) (join s p (s .blocked)))))
+        | goes i o ↦ ok (after (line s (q .number) No.granted (pos i)) (quiet (grant p o s)))
+      ]
+
+  -- WHILE: take it and enter the block for one round, or pass on.
+  unfoldable pub while : Action → Outcome Next
+  unfolding choice grant past
+  while a =
+      elim (choice m s before (offers a)) [
+        | waits ↦ ok (quiet (on (past q)))
+        | goes i o ↦ ok (after (line s (q .number) No.granted (pos i)) (quiet (grant p o s)))
+      ]
+
+  -- TRACE writes its value. CLOSE closes.
+  unfoldable pub trace : Expr → Outcome Next
+  unfolding eval past
+  trace e = do
+    v ← eval s q e
+    ok (after (line s (q .number) No.traced v) (quiet (on (past q))))
+
+  unfoldable pub close : Outcome Next
+  unfolding past
+  close = ok (after (line s (q .number) No.closed (pos 0)) (quiet (now-closed (on (past q)))))
+
+  unfoldable pub act : Action → Outcome Next
+  unfolding hold prio setGlobal setLocal doTimes putr putb become puts start request while trace close
+  act (HOLD e) = hold e
+  act (PRIO e) = prio e
+  act (TRACE e) = trace e
+  act (SET i e) = setGlobal i e
+  act (LSET i e) = setLocal i e
+  act (DO n b) = doTimes n b
+  act (PUTR i n) = putr i n
+  act (PUTB i n) = putb i n
+  act (PUTS i n) = puts i n
+  act (BECOME i) = become i
+  act (REQ c) = request (REQ c)
+  act (TRY bs) = request (TRY bs)
+  act (WHILE b c) = while (WHILE b c)
+  act (START c t h) = start c t h
+  act CLOSE = close
+
+-- The process in place p has the floor and does one thing.
+unfoldable pub moves : Model → State → ℕ → Outcome Next
+unfolding act exhausted
+moves m s p =
+    elim (standsIn m (process s p .frames))
+    [ none ↦ exhausted m s p (process s p) (process s p .frames) | some a ↦ act m s p (process s p) a ]
+
+-- A return notice, when first, adds the amount, walks and is gone.
+unfoldable pub occurs : Model → State → Notice → Outcome Next
+unfolding moves walk
+occurs m s (wakes p) = moves m (with-floor s (held p)) p
+occurs m s (returnsR i n g) =
+    ok (after (line s g No.resourceReturned (pos i)) (walk m (with-free s (more (s .free) i n))))
+occurs m s (returnsB i n g) = do
+  need No.BIN (leb (getD (s .bins) i 0 + n) No.fullBin)
+  ok (after (line s g No.binReturned (pos i)) (walk m (with-bins s (more (s .bins) i n))))
+
+-- If nobody has the floor, the first of the event list takes it and the clock becomes its time.
+unfoldable pub next : Model → State → List Event → Outcome Next
+unfolding occurs
+next m s [] = fails No.STATE
+next m s (e ∷ es) = occurs m (with-events (at-clock s (e .time)) es) (e .notice)
+
+unfoldable pub step : Model → State → Outcome Next
+unfolding moves next _>>=_ _>>_ need
+step m s = elim (s .floor) [ held p ↦ moves m s p | empty ↦ next m s (s .events) ]
