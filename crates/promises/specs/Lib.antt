@@ -1,3 +1,16 @@
 pub mod Laws
 pub mod Fit
+pub mod Passes
+pub mod Counted
+pub mod Valued
+pub mod Accepted
 pub mod Sound
+pub mod Says
+pub mod Decides
+pub mod Capacity
+pub mod Nests
+pub mod Safe
+pub mod Weight
+pub mod Left
+pub mod Answers
+pub mod Demand3

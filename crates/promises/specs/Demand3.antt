@@ -1,0 +1,273 @@
+-- Demand 3 over calls: from fresh on, a model whose bound is a number makes no more steps than that and has ended by then; and
+-- exactly so many if it has no TRY and nothing is left. From fresh on a call is the run: the test for 20 is always passed.
+-- Assumes nothing.
+use Prim.Native.Nat.{ℕ, _+_, _≤_, _<_}
+use native.Mathlib.Omega.{arith}
+use native.Mathlib.Nat.{zero-add}
+use mathlib.Core.Path.{_≡_, refl, ap, _∙_}
+use mathlib.Core.List.{List, [], _∷_, map}
+use mathlib.Core.Bool.{Bool, true, false}
+use lib.ListN.{length, getD, set, length-set}
+use Rattle.semantics.specs.Words.{if_then_else_}
+use Rattle.semantics.specs.Numbers as No
+use Rattle.semantics.specs.Model.{Model, Entity}
+use Rattle.semantics.specs.Decode.{accepted, decode}
+use Rattle.semantics.specs.State.{
+  State, Process, Frame, Waiter, Event, Notice, wakes, returnsR, returnsB, Floor, empty, held, nobody, process, freePlace,
+  newcomer, wake, begin, beginAll, bare, fresh
+}
+use Rattle.semantics.specs.Walk.{Line}
+use Rattle.semantics.specs.Step.{step}
+use Rattle.semantics.specs.Sound.{soundIn}
+use Rattle.semantics.specs.Run.{
+  Answer, Ran, Before, isClosed, isIdle, goesOn, before, Room, run, Ask, callIn, call, isNumber, noEnd, leaves, stepsOf,
+  limitsOf, noneEnds
+}
+use Rattle.semantics.specs.Bound.{classWeight, bound}
+use Rattle.promises.specs.Laws.{
+  no-way, and-true, Good, good-out, AllOf, over, over-set, over-at, once, once-self, only, only-none
+}
+use Rattle.promises.specs.Fit.{Forward}
+use Rattle.promises.specs.Sound.{al, onFloor, noticed, inEvents, waits, owes, returning, Sound}
+use Rattle.promises.specs.Left.{
+  AtMost, exactly, likewise, together, noTry, NoTry, no-try, framesLeft, allLeft, total, all-left-set, alive, some-free,
+  lives-in, free-empty, begin-total, begin-blocked, Falls, step-falls
+}
+use Rattle.promises.specs.Answers.{
+  run-keeps, Why, was-closed, was-idle, at-limit, at-fault, no-room, run-why
+}
+
+-- FRESH. What is left of it is the bound.
+module _ (m : Model) where
+  begin-alive : (c d : ℕ) (h : List ℕ) (s : State) → freePlace s < length (s .processes) →
+      (alive (begin m c d h s .processes) ≡ 1 + alive (s .processes))
+      × (length (begin m c d h s .processes) ≡ length (s .processes))
+  unfolding begin wake
+  begin-alive c d h s l =
+      let new = newcomer m (s .last + 1) c h in
+      let x = over-set (λ q. al (q .frames)) (s .processes) (freePlace s) new nobody l in
+      let z = ap al (free-empty (s .processes) l) in
+      (omega arith, length-set (s .processes) (freePlace s) new)
+
+  begin-all-total : Forward m → (es : List Entity) (s : State) → length es + alive (s .processes) ≤ length (s .processes) →
+      (total m (beginAll m es s) ≡ total m s + over (λ e. classWeight m (e .class)) es)
+      × (length (beginAll m es s .blocked) ≡ length (s .blocked))
+  unfolding beginAll classWeight
+  begin-all-total t [] s h = (omega arith, refl)
+  begin-all-total t (e ∷ es) s h =
+      let z : List ℕ = map (λ n. 0) (m .totals) in
+      let i = some-free (s .processes) (omega arith) in
+      let x = begin-alive (e .class) (e .offset) z s i in
+      let x₁ = x .0 in let x₂ = x .1 in
+      let y = begin-total m t (e .class) (e .offset) z s i in
+      let b = begin-blocked m (e .class) (e .offset) z s in
+      let ih = begin-all-total t es (begin m (e .class) (e .offset) z s) (omega arith) in
+      let i₁ = ih .0 in let i₂ = ih .1 in
+      (omega arith, omega arith)
+
+  fresh-total : Forward m → length (m .entities) ≤ 64 → (total m (fresh m) ≡ bound m) × (length (fresh m .blocked) ≡ 0)
+  unfolding fresh bound total
+  fresh-total t h =
+      let l : length (m .entities) + 0 ≤ 64 = omega arith in
+      let z = begin-all-total t (m .entities) (bare m) l in
+      (z .0 ∙ zero-add _, z .1)
+
+-- PLACES that are listed at most as often as a living process is in them are no more than the steps that those have left.
+at-most-one : (fs : List Frame) → al fs ≤ 1
+at-most-one [] = omega arith
+at-most-one (f ∷ fs) = omega arith
+
+-- Without the process in place p, the others live.
+without : (ps : List Process) (p k : ℕ) → 1 ≤ al (getD ps p nobody .frames) →
+    al (getD ps k nobody .frames) ≡ al (getD (set ps p nobody) k nobody .frames) + once k p
+without ps p k h =
+    let a = at-most-one (getD ps p nobody .frames) in
+    let b = over-at (λ q. al (q .frames)) ps p k nobody nobody (lives-in ps p h) in
+    let c = only-none k p in
+    let d : only k p (al (getD ps p nobody .frames)) ≡ once k p = ap (only k p) (omega arith) in
+    omega arith
+
+module _ (m : Model) where
+  alive-left : (fs : List Frame) → al fs ≤ framesLeft m fs
+  alive-left [] = omega arith
+  alive-left (f ∷ fs) = omega arith
+
+  listed-left : (ws : List Waiter) (ps : List Process) → ((k : ℕ) → waits k ws ≤ al (getD ps k nobody .frames)) →
+      length ws ≤ allLeft m ps
+  listed-left [] ps h = omega arith
+  listed-left (w ∷ ws) ps h =
+      let p = w .place in
+      let a = h p in
+      let b = once-self p in
+      let l : 1 ≤ al (getD ps p nobody .frames) = omega arith in
+      let c = all-left-set m ps p nobody (lives-in ps p l) in
+      let d = alive-left (getD ps p nobody .frames) in
+      let ih = listed-left ws (set ps p nobody) (λ k. let u = h k in let v = without ps p k l in omega arith) in
+      omega arith
+
+  nothing-left : (ps : List Process) → AllOf (λ q. q .frames ≡ []) ps → allLeft m ps ≡ 0
+  nothing-left [] h = refl
+  nothing-left (q ∷ qs) h = let ih = nothing-left qs (h .1) in let a = ap (framesLeft m) (h .0) in omega arith
+
+  module _ (s : State) (h : Sound m s) where
+    blocked-left : length (s .blocked) ≤ allLeft m (s .processes)
+    blocked-left = listed-left (s .blocked) (s .processes) (λ k. let a = h .in-one k in omega arith)
+
+    -- A state from which the run goes on has a step left that no blocked process has paid.
+    some-left : before s ≡ goesOn → length (s .blocked) + 1 ≤ total m s
+    unfolding total
+    some-left e = go (s .floor) (s .events) refl refl
+      where
+        -- closed and idle are no going on
+        stays : (c : Bool) → _≡_ {A = Before} (if c then isClosed else isIdle) goesOn → ⊥
+        stays true e = let z : _≡_ {A = ℕ} 0 1 = cc in omega arith
+        stays false e = let z : _≡_ {A = ℕ} 0 1 = cc in omega arith
+
+        -- who has the floor or wakes next is alive and not blocked
+        one-more : (p : ℕ) → ((k : ℕ) → once k p ≤ onFloor k (s .floor) + inEvents k (s .events)) →
+            length (s .blocked) + 1 ≤ allLeft m (s .processes)
+        one-more p g =
+            let w : Waiter = record { priority = process s p .priority; place = p } in
+            let x = listed-left (w ∷ s .blocked) (s .processes) (λ k. let a = g k in let b = h .in-one k in omega arith) in
+            omega arith
+
+        at-first : (n : Notice) (x : Event) (xs : List Event) → s .events ≡ x ∷ xs → x .notice ≡ n →
+            length (s .blocked) + 1 ≤ allLeft m (s .processes) + returning (s .events)
+        at-first (wakes p) x xs e g =
+            let y = one-more p (λ k. let a = ap (inEvents k) e in let b = ap (noticed k) g in omega arith) in omega arith
+        at-first (returnsR i n b) x xs e g =
+            let y = blocked-left in let a = ap returning e in let c = ap owes g in omega arith
+        at-first (returnsB i n b) x xs e g =
+            let y = blocked-left in let a = ap returning e in let c = ap owes g in omega arith
+
+        go : (f : Floor) (es : List Event) → s .floor ≡ f → s .events ≡ es →
+            length (s .blocked) + 1 ≤ allLeft m (s .processes) + returning (s .events)
+        go (held p) es ef ee = let x = one-more p (λ k. let a = ap (onFloor k) ef in omega arith) in omega arith
+        go empty [] ef ee = absurd (stays (s .closed) (rw (ef, ee) at e))
+        go empty (x ∷ xs) ef ee = at-first (x .notice) x xs ee refl
+
+-- ONE CALL on a sound run. LIMIT comes after as many steps as the limit, and where LIMIT or 30 is answered the run could go on.
+abbrev Counts : ℕ → Answer → ℕ → State → Type 0
+Counts n a k t = ((if isNumber No.JOURNAL a then 0 else n) ≤ k) × (before t ≡ goesOn)
+
+no-end : {m : Model} {n : ℕ} {r : Room} {a : Answer} {k : ℕ} {ls : List Line} {t : State} → Why m n r a k ls t →
+    noEnd a ≡ true → Counts n a k t
+no-end (was-closed e) h = no-way h
+no-end (was-idle e) h = no-way h
+no-end (at-limit e g) h = (omega arith, e)
+no-end (at-fault e g f) h = (rw h (omega arith), e)
+no-end (no-room e g f j) h = (omega arith, e)
+
+-- What k steps, from s to t, take from what is left.
+abbrev Fell : Model → State → ℕ → State → Type 0
+Fell m s k t = AtMost (NoTry m) (total m t + length (s .blocked) + k) (total m s + length (t .blocked))
+
+-- What a call on s with limit n does, if it leaves y.
+record Does (m : Model) (n : ℕ) (s : State) (y : Ran) : Type 0 where
+  is-sound : Sound m (y .state)
+  falls : Fell m s (y .steps) (y .state)
+  counts : noEnd (y .answer) ≡ true → Counts n (y .answer) (y .steps) (y .state)
+
+-- The last three hypotheses are promises of their own: fresh is sound, a step keeps it so, and soundIn finds it so.
+module _ (bs : List ℕ) (m : Model) (e : decode bs ≡ accepted m) (f : Forward m) (few : length (m .entities) ≤ 64)
+  (fresh-ok : Sound m (fresh m)) (keeps : (s : State) → Sound m s → Good (λ n. Sound m (n .state)) (step m s))
+  (tests : (s : State) → Sound m s → soundIn m s ≡ true) where
+  call-is : (a : Ask) (s : State) → Sound m s → call bs a s ≡ run m (a .limit) (a .room) s
+  unfolding call callIn
+  call-is a s h = rw (call, e, callIn, tests s h) refl
+
+  run-sound : (n : ℕ) (r : Room) (s : State) → Sound m s → Sound m (run m n r s .state)
+  run-sound =
+      run-keeps m (λ n r s y. Sound m s → Sound m (y .state)) (λ n r s a h. h)
+      (λ n r s x y b g l ih h. ih (good-out (λ n. Sound m (n .state)) (step m s) x g (keeps s h)))
+
+  run-falls : (n : ℕ) (r : Room) (s : State) → Sound m s → Fell m s (run m n r s .steps) (run m n r s .state)
+  run-falls =
+      run-keeps m (λ n r s y. Sound m s → Fell m s (y .steps) (y .state)) (λ n r s a h. exactly (omega arith))
+      (λ n r s x y b g l ih h.
+      let one = good-out (Falls m s) (step m s) x g (step-falls m f s h) in
+      let rest = ih (good-out (λ n. Sound m (n .state)) (step m s) x g (keeps s h)) in
+      likewise (together one rest) (omega arith))
+
+  does : (a : Ask) (s : State) → Sound m s → Does m (a .limit) s (call bs a s)
+  does a s h =
+      rw (call-is a s h)
+      (record {
+        is-sound = run-sound (a .limit) (a .room) s h; falls = run-falls (a .limit) (a .room) s h;
+        counts = no-end (run-why m (a .limit) (a .room) s)
+      })
+
+  -- CALLS from a sound run.
+  leaves-sound : (l : List Ask) (s : State) → Sound m s → Sound m (leaves bs l s)
+  leaves-sound [] s h = h
+  leaves-sound (a ∷ l) s h = leaves-sound l (call bs a s .state) (does a s h .is-sound)
+
+  calls-fall : (l : List Ask) (s : State) → Sound m s → Fell m s (stepsOf bs l s) (leaves bs l s)
+  calls-fall [] s h = exactly (omega arith)
+  calls-fall (a ∷ l) s h =
+      let d = does a s h in
+      likewise (together (d .falls) (calls-fall l (call bs a s .state) (d .is-sound))) (omega arith)
+
+  -- As long as no call answers an end, a step is left beside those that the limits allowed.
+  abbrev Remains : List Ask → State → Type 0
+  Remains l s = limitsOf bs l s + length (s .blocked) + 1 ≤ total m s
+
+  remains-first : (a : Ask) (l : List Ask) (s : State) → Sound m s → noEnd (call bs a s .answer) ≡ true →
+      (before (call bs a s .state) ≡ goesOn → Remains l (call bs a s .state)) → Remains (a ∷ l) s
+  remains-first a l s h n rest =
+      let d = does a s h in
+      let c = d .counts n in
+      let c₁ = c .0 in
+      let x = d .falls .le in
+      let y = rest (c .1) in
+      omega arith
+
+  remains : (a : Ask) (l : List Ask) (s : State) → Sound m s → noneEnds bs (a ∷ l) s ≡ true → Remains (a ∷ l) s
+  remains a [] s h n =
+      remains-first a [] s h (and-true _ _ n .0) λ g.
+      let x = some-left m (call bs a s .state) (does a s h .is-sound) g in omega arith
+  remains a (b ∷ l) s h n =
+      let c = and-true (noEnd (call bs a s .answer)) _ n in
+      remains-first a (b ∷ l) s h (c .0) λ g. remains b l (call bs a s .state) (does a s h .is-sound) (c .1)
+
+  -- CALLS FROM FRESH.
+  pub calls-sound : (l : List Ask) → Sound m (leaves bs l (fresh m))
+  calls-sound l = leaves-sound l (fresh m) fresh-ok
+
+  -- so a call never answers 20
+  pub call-is-run : (l : List Ask) (a : Ask) →
+      call bs a (leaves bs l (fresh m)) ≡ run m (a .limit) (a .room) (leaves bs l (fresh m))
+  call-is-run l a = call-is a (leaves bs l (fresh m)) (calls-sound l)
+
+  -- Whatever the limits and rooms, all calls together make no more steps than the bound.
+  pub steps-at-most : (l : List Ask) → stepsOf bs l (fresh m) ≤ bound m
+  unfolding total
+  steps-at-most l =
+      let b = blocked-left m (leaves bs l (fresh m)) (calls-sound l) in
+      let c = calls-fall l (fresh m) fresh-ok .le in
+      let t = fresh-total m f few in let t₁ = t .0 in let t₂ = t .1 in
+      omega arith
+
+  -- When the limits of the calls that don't answer 30 add up to the bound, some call has answered an end.
+  pub ended-by-the-bound : (a : Ask) (l : List Ask) → bound m ≤ limitsOf bs (a ∷ l) (fresh m) →
+      noneEnds bs (a ∷ l) (fresh m) ≡ false
+  ended-by-the-bound a l b = go (noneEnds bs (a ∷ l) (fresh m)) refl
+    where
+      go : (x : Bool) → noneEnds bs (a ∷ l) (fresh m) ≡ x → x ≡ false
+      go false n = refl
+      go true n =
+          let x = remains a l (fresh m) fresh-ok n in
+          let t = fresh-total m f few .0 in
+          absurd (omega arith)
+
+  -- Without TRY, when the event list is empty and every process has ended, the steps are the bound.
+  pub exactly-the-bound : noTry m ≡ true → (l : List Ask) → leaves bs l (fresh m) .events ≡ [] →
+      AllOf (λ q. q .frames ≡ []) (leaves bs l (fresh m) .processes) → stepsOf bs l (fresh m) ≡ bound m
+  unfolding total
+  exactly-the-bound q l v p =
+      let b = blocked-left m (leaves bs l (fresh m)) (calls-sound l) in
+      let c = calls-fall l (fresh m) fresh-ok .eq (no-try m q) in
+      let t = fresh-total m f few in let t₁ = t .0 in let t₂ = t .1 in
+      let n = nothing-left m (leaves bs l (fresh m) .processes) p in
+      let r = ap returning v in
+      omega arith

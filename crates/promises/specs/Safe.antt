@@ -1,0 +1,142 @@
+-- A step out of a sound state that goes on never faults with 20: its faults are 21 to 29.
+-- Assumes nothing.
+use Prim.Native.Nat.{ℕ, zero, suc, _≤_, _<_}
+use native.Mathlib.Omega.{arith}
+use mathlib.Core.Path.{_≡_, refl, ap}
+use mathlib.Core.List.{List, [], _∷_}
+use mathlib.Core.Bool.{Bool, true, false, _&&_}
+use mathlib.Core.Option.{Option, none, some}
+use lib.Dec.{ltb}
+use borrow.Author.Tests.{ltb-true}
+use lib.IntN.{ℤ, negℤ, _+ℤ_, _-ℤ_, _*ℤ_}
+use Rattle.semantics.specs.Words.{if_then_else_, Outcome, ok, fails, _>>=_, _>>_, need, isEmpty}
+use Rattle.semantics.specs.Model.{
+  Expr, literal, global, local, add, subtract, multiply, lesser, greater, negate, theClock, Model,
+  Action, HOLD, PRIO, TRACE, SET, LSET, DO, PUTR, PUTB, PUTS, BECOME, REQ, TRY, WHILE, START, CLOSE
+}
+use Rattle.semantics.specs.State.{
+  State, Process, Frame, Event, Notice, wakes, returnsR, returnsB, Floor, empty, held, process, with-floor, with-events, at-clock
+}
+use Rattle.semantics.specs.Value.{isI32, inRange, eval}
+use Rattle.semantics.specs.Claim.{Offer, offers, standsIn, Choice, waits, goes, choice}
+use Rattle.semantics.specs.Walk.{Next}
+use Rattle.semantics.specs.Step as Step
+use Rattle.semantics.specs.Step.{
+  ends, exhausted, hold, prio, setGlobal, setLocal, doTimes, notify, putr, putb, become, puts, start, request, while, trace,
+  close, act, moves, occurs, next, step
+}
+use Rattle.semantics.specs.Run.{Before, isClosed, isIdle, goesOn, before}
+use Rattle.promises.specs.Laws.{and-true, if-has, once-self}
+use Rattle.promises.specs.Sound.{al, onFloor, noticed, inEvents, Sound}
+
+pub data Safe {A : Type 0} : Outcome A → Type 0 where
+  safe : {a : A} → Safe (ok a)
+  above : {n : ℕ} → 20 < n → n < 30 → Safe (fails n)
+
+-- OUTCOMES. The number of a need computes, and so does that it is one of 21 to 29.
+safe-bind : {A B : Type 0} {o : Outcome A} {f : A → Outcome B} → Safe o → ((a : A) → Safe (f a)) → Safe (_>>=_ o f)
+unfolding _>>=_
+safe-bind (safe {a}) h = h a
+safe-bind (above l g) h = above l g
+
+safe-need : {B : Type 0} (k : ℕ) (b : Bool) {r : Outcome B}
+    → ltb 20 k && ltb k 30 ≡ true → Safe r → Safe (_>>_ (need k b) r)
+unfolding _>>_ need
+safe-need k true e h = h
+safe-need k false e h = let f = and-true (ltb 20 k) (ltb k 30) e in above (ltb-true 20 k (f .0)) (ltb-true k 30 (f .1))
+
+-- AN EXPRESSION gives 21 at most.
+safe-range : (v : ℤ) → Safe (inRange v)
+safe-range v = safe-need 21 (isI32 v) refl safe
+
+module _ (s : State) (q : Process) where
+  eval-safe : (e : Expr) → Safe (eval s q e)
+  unfolding eval
+  eval-safe (literal v) = safe
+  eval-safe (global i) = safe
+  eval-safe (local i) = safe
+  eval-safe (add a b) = safe-bind (eval-safe a) λ x. safe-bind (eval-safe b) λ y. safe-range (x +ℤ y)
+  eval-safe (subtract a b) = safe-bind (eval-safe a) λ x. safe-bind (eval-safe b) λ y. safe-range (x -ℤ y)
+  eval-safe (multiply a b) = safe-bind (eval-safe a) λ x. safe-bind (eval-safe b) λ y. safe-range (x *ℤ y)
+  eval-safe (lesser a b) = safe-bind (eval-safe a) λ x. safe-bind (eval-safe b) λ y. safe
+  eval-safe (greater a b) = safe-bind (eval-safe a) λ x. safe-bind (eval-safe b) λ y. safe
+  eval-safe (negate a) = safe-bind (eval-safe a) λ x. safe-range (negℤ x)
+  eval-safe theClock = safe
+
+-- AN ACTION.
+choice-safe : (c : Choice) {x : Outcome Next} {y : ℕ → Offer → Outcome Next}
+    → Safe x → ((i : ℕ) (o : Offer) → Safe (y i o)) → Safe {A = Next} (elim c [ waits ↦ x | goes i o ↦ y i o ])
+choice-safe waits h k = h
+choice-safe (goes i o) h k = k i o
+
+module _ (m : Model) (s : State) (p : ℕ) (q : Process) where
+  do-safe : (n b : ℕ) → Safe (doTimes m s p q n b)
+  unfolding doTimes
+  do-safe zero b = safe
+  do-safe (suc n) b = safe
+
+  abbrev chosen : Action → Choice
+  chosen a = choice m s (Step.before m s p q) (offers a)
+
+  act-safe : (a : Action) → Safe (act m s p q a)
+  unfolding act hold prio trace setGlobal setLocal putr putb notify puts become start request while close
+  act-safe (HOLD x) = safe-bind (eval-safe s q x) λ v. safe-need _ _ refl (safe-need _ _ refl safe)
+  act-safe (PRIO x) = safe-bind (eval-safe s q x) λ v. safe
+  act-safe (TRACE x) = safe-bind (eval-safe s q x) λ v. safe
+  act-safe (SET i x) = safe-bind (eval-safe s q x) λ v. safe
+  act-safe (LSET i x) = safe-bind (eval-safe s q x) λ v. safe
+  act-safe (DO n b) = do-safe n b
+  act-safe (PUTR i n) = safe-need _ _ refl (safe-need _ _ refl safe)
+  act-safe (PUTB i n) = safe-need _ _ refl safe
+  act-safe (PUTS i n) = safe-need _ _ refl safe
+  act-safe (BECOME i) = safe
+  act-safe (REQ c) = choice-safe (chosen (REQ c)) safe (λ i o. safe)
+  act-safe (TRY bs) = choice-safe (chosen (TRY bs)) safe (λ i o. safe)
+  act-safe (WHILE b c) = choice-safe (chosen (WHILE b c)) safe (λ i o. safe)
+  act-safe (START c t h) = safe-need _ _ refl (safe-need _ _ refl (safe-need _ _ refl safe))
+  act-safe CLOSE = safe
+
+  -- A process that lives is in a block.
+  exhausted-safe : (fs : List Frame) → 1 ≤ al fs → Safe (exhausted m s p q fs)
+  unfolding exhausted ends
+  exhausted-safe [] l = absurd (omega arith)
+  exhausted-safe (f ∷ fs) l =
+      if-has Safe (ltb 1 (f .rounds)) (λ e. safe)
+      (λ e. if-has Safe (isEmpty fs) (λ g. safe-need _ _ refl safe) (λ g. safe))
+
+module _ (m : Model) where
+  moves-safe : (s : State) (p : ℕ) → 1 ≤ al (process s p .frames) → Safe (moves m s p)
+  unfolding moves
+  moves-safe s p l = go (standsIn m (process s p .frames))
+    where
+      go : (x : Option Action)
+          → Safe {A = Next}
+          (elim x [ none ↦ exhausted m s p (process s p) (process s p .frames) | some a ↦ act m s p (process s p) a ])
+      go none = exhausted-safe m s p (process s p) (process s p .frames) l
+      go (some a) = act-safe m s p (process s p) a
+
+  -- THE FIRST of the event list.
+  occurs-safe : (s : State) (n : Notice) → ((p : ℕ) → noticed p n ≤ al (process s p .frames)) → Safe (occurs m s n)
+  unfolding occurs
+  occurs-safe s (wakes p) l =
+      moves-safe (with-floor s (held p)) p (let a = l p in let b = once-self p in omega arith)
+  occurs-safe s (returnsR i n g) l = safe
+  occurs-safe s (returnsB i n g) l = safe-need _ _ refl safe
+
+  -- A STEP. Whoever has the floor, or is first, is listed, and so lives.
+  idle-stops : (c : Bool) → _≡_ {A = Before} (if c then isClosed else isIdle) goesOn → ⊥
+  idle-stops true e = let z : _≡_ {A = ℕ} 0 1 = cc in omega arith
+  idle-stops false e = let z : _≡_ {A = ℕ} 0 1 = cc in omega arith
+
+  pub step-safe : (s : State) → Sound m s → before s ≡ goesOn → Safe (step m s)
+  unfolding step next
+  step-safe s h b = go (s .floor) (s .events) refl refl
+    where
+      go : (f : Floor) (es : List Event) → s .floor ≡ f → s .events ≡ es
+          → Safe {A = Next} (elim f [ held p ↦ moves m s p | empty ↦ next m s es ])
+      go (held p) es e g =
+          moves-safe s p (let a = h .in-one p in let l = once-self p in let c = ap (onFloor p) e in omega arith)
+      go empty [] e g = absurd (idle-stops (s .closed) (rw (e, g) at b))
+      go empty (x ∷ xs) e g =
+          occurs-safe (with-events (at-clock s (x .time)) xs) (x .notice)
+          (λ p. let a = h .in-one p in let c = ap (inEvents p) g in omega arith)

@@ -1,0 +1,47 @@
+-- Tails and tests on branches by the numbers that the code gives them; and how long a tail of its size is. Assumes nothing.
+use mathlib.Core.Path.{_≡_, refl, sym, _∙_}
+use mathlib.Core.List.{List, [], _∷_}
+use mathlib.Core.Bool.{Bool, true, false, _&&_}
+use Prim.Native.Nat.{ℕ, zero, suc, _+_, _*_, _-_, _≤_, _<_, _/_, _%_}
+use native.Mathlib.Omega.{arith}
+use borrow.Author.Tests.{leb-true, eqb-true}
+use lib.Dec.{leb, eqb}
+use lib.ListN.{length}
+use Rattle.semantics.specs.Words.{within}
+use Rattle.semantics.specs.Bytes.{u16}
+use Rattle.semantics.specs.Record.{
+  Part, nothing, expression, branches, sized, partSize, listSized, oneTree, pile, nodes, branchesFit
+}
+use Rattle.tails.specs.Tails.{tailOf, branchPasses}
+use Rattle.tails.proofs.Branches.{and-left, and-right}
+
+pub no-tail : (t : ℕ) → (t ≡ 1 → ⊥) → (t ≡ 2 → ⊥) → (t ≡ 3 → ⊥) → (t ≡ 4 → ⊥) → tailOf t ≡ nothing
+unfolding tailOf
+no-tail zero e f g h = refl
+no-tail (suc zero) e f g h = absurd (e refl)
+no-tail (suc (suc zero)) e f g h = absurd (f refl)
+no-tail (suc (suc (suc zero))) e f g h = absurd (g refl)
+no-tail (suc (suc (suc (suc zero)))) e f g h = absurd (h refl)
+no-tail (suc (suc (suc (suc (suc t))))) e f g h = refl
+
+pub last-branch-test : (t : ℕ) → (t ≡ 0 → ⊥) → (t ≡ 1 → ⊥) → (t ≡ 2 → ⊥) → (n : List ℕ) (own : ℕ) (b : List ℕ) → branchPasses t n own b ≡ leb own (u16 b 0)
+unfolding branchPasses
+last-branch-test zero e f g n own b = absurd (e refl)
+last-branch-test (suc zero) e f g n own b = absurd (f refl)
+last-branch-test (suc (suc zero)) e f g n own b = absurd (g refl)
+last-branch-test (suc (suc (suc t))) e f g n own b = refl
+
+-- What a tail of its size has room for.
+module _ (bs : List ℕ) where
+  pub expression-few : sized expression bs ≡ true → length bs / 6 ≤ 16
+  expression-few e =
+      let a = and-right (eqb (length bs % 6) 0) _ e in
+      leb-true _ _ (and-right (leb 1 (length bs / 6)) _ (and-left (within 1 16 (length bs / 6)) _ a))
+
+  pub list-room : (p : Part) → listSized p bs ≡ true → (2 ≤ length bs) × (2 + partSize p * u16 bs 0 ≤ length bs)
+  list-room p e =
+      let l = eqb-true (length bs) (2 + partSize p * u16 bs 0) (and-right (leb 2 (length bs)) _ e) in
+      (leb-true _ _ (and-left (leb 2 (length bs)) _ e), omega arith)
+
+  pub branches-room : sized branches bs ≡ true → 2 ≤ length bs
+  branches-room e = leb-true _ _ (and-left (leb 2 (length bs)) _ e)
