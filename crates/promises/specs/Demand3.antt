@@ -28,6 +28,10 @@ use Rattle.promises.specs.Laws.{
   no-way, and-true, Good, good-out, AllOf, over, over-set, over-at, once, once-self, only, only-none
 }
 use Rattle.promises.specs.Fit.{Forward}
+use Rattle.promises.specs.Accepted.{accepted-fit}
+use Rattle.promises.specs.Stays.{step-sound}
+use Rattle.promises.specs.FreshSound.{fresh-sound}
+use Rattle.promises.specs.Calls.{call-is, run-sound, calls-sound}
 use Rattle.promises.specs.Sound.{al, onFloor, noticed, inEvents, waits, owes, returning, Sound}
 use Rattle.promises.specs.Left.{
   AtMost, exactly, likewise, together, noTry, NoTry, no-try, framesLeft, allLeft, total, all-left-set, alive, some-free,
@@ -168,18 +172,12 @@ record Does (m : Model) (n : ℕ) (s : State) (y : Ran) : Type 0 where
   falls : Fell m s (y .steps) (y .state)
   counts : noEnd (y .answer) ≡ true → Counts n (y .answer) (y .steps) (y .state)
 
--- The last three hypotheses are promises of their own: fresh is sound, a step keeps it so, and soundIn finds it so.
-module _ (bs : List ℕ) (m : Model) (e : decode bs ≡ accepted m) (f : Forward m) (few : length (m .entities) ≤ 64)
-  (fresh-ok : Sound m (fresh m)) (keeps : (s : State) → Sound m s → Good (λ n. Sound m (n .state)) (step m s))
-  (tests : (s : State) → Sound m s → soundIn m s ≡ true) where
-  call-is : (a : Ask) (s : State) → Sound m s → call bs a s ≡ run m (a .limit) (a .room) s
-  unfolding call callIn
-  call-is a s h = rw (call, e, callIn, tests s h) refl
+module _ (bs : List ℕ) (m : Model) (e : decode bs ≡ accepted m) (f : Forward m) where
+  keeps : (s : State) → Sound m s → Good (λ n. Sound m (n .state)) (step m s)
+  keeps = step-sound m (accepted-fit bs m e)
 
-  run-sound : (n : ℕ) (r : Room) (s : State) → Sound m s → Sound m (run m n r s .state)
-  run-sound =
-      run-keeps m (λ n r s y. Sound m s → Sound m (y .state)) (λ n r s a h. h)
-      (λ n r s x y b g l ih h. ih (good-out (λ n. Sound m (n .state)) (step m s) x g (keeps s h)))
+  fresh-ok : Sound m (fresh m)
+  fresh-ok = fresh-sound m (accepted-fit bs m e)
 
   run-falls : (n : ℕ) (r : Room) (s : State) → Sound m s → Fell m s (run m n r s .steps) (run m n r s .state)
   run-falls =
@@ -191,17 +189,13 @@ module _ (bs : List ℕ) (m : Model) (e : decode bs ≡ accepted m) (f : Forward
 
   does : (a : Ask) (s : State) → Sound m s → Does m (a .limit) s (call bs a s)
   does a s h =
-      rw (call-is a s h)
+      rw (call-is bs m e a s h)
       (record {
-        is-sound = run-sound (a .limit) (a .room) s h; falls = run-falls (a .limit) (a .room) s h;
+        is-sound = run-sound bs m e (a .limit) (a .room) s h; falls = run-falls (a .limit) (a .room) s h;
         counts = no-end (run-why m (a .limit) (a .room) s)
       })
 
   -- CALLS from a sound run.
-  leaves-sound : (l : List Ask) (s : State) → Sound m s → Sound m (leaves bs l s)
-  leaves-sound [] s h = h
-  leaves-sound (a ∷ l) s h = leaves-sound l (call bs a s .state) (does a s h .is-sound)
-
   calls-fall : (l : List Ask) (s : State) → Sound m s → Fell m s (stepsOf bs l s) (leaves bs l s)
   calls-fall [] s h = exactly (omega arith)
   calls-fall (a ∷ l) s h =
@@ -231,21 +225,13 @@ module _ (bs : List ℕ) (m : Model) (e : decode bs ≡ accepted m) (f : Forward
       remains-first a (b ∷ l) s h (c .0) λ g. remains b l (call bs a s .state) (does a s h .is-sound) (c .1)
 
   -- CALLS FROM FRESH.
-  pub calls-sound : (l : List Ask) → Sound m (leaves bs l (fresh m))
-  calls-sound l = leaves-sound l (fresh m) fresh-ok
-
-  -- so a call never answers 20
-  pub call-is-run : (l : List Ask) (a : Ask) →
-      call bs a (leaves bs l (fresh m)) ≡ run m (a .limit) (a .room) (leaves bs l (fresh m))
-  call-is-run l a = call-is a (leaves bs l (fresh m)) (calls-sound l)
-
   -- Whatever the limits and rooms, all calls together make no more steps than the bound.
   pub steps-at-most : (l : List Ask) → stepsOf bs l (fresh m) ≤ bound m
   unfolding total
   steps-at-most l =
-      let b = blocked-left m (leaves bs l (fresh m)) (calls-sound l) in
+      let b = blocked-left m (leaves bs l (fresh m)) (calls-sound bs m e l) in
       let c = calls-fall l (fresh m) fresh-ok .le in
-      let t = fresh-total m f few in let t₁ = t .0 in let t₂ = t .1 in
+      let t = fresh-total m f (accepted-fit bs m e .few-entities) in let t₁ = t .0 in let t₂ = t .1 in
       omega arith
 
   -- When the limits of the calls that don't answer 30 add up to the bound, some call has answered an end.
@@ -257,7 +243,7 @@ module _ (bs : List ℕ) (m : Model) (e : decode bs ≡ accepted m) (f : Forward
       go false n = refl
       go true n =
           let x = remains a l (fresh m) fresh-ok n in
-          let t = fresh-total m f few .0 in
+          let t = fresh-total m f (accepted-fit bs m e .few-entities) .0 in
           absurd (omega arith)
 
   -- Without TRY, when the event list is empty and every process has ended, the steps are the bound.
@@ -265,9 +251,9 @@ module _ (bs : List ℕ) (m : Model) (e : decode bs ≡ accepted m) (f : Forward
       AllOf (λ q. q .frames ≡ []) (leaves bs l (fresh m) .processes) → stepsOf bs l (fresh m) ≡ bound m
   unfolding total
   exactly-the-bound q l v p =
-      let b = blocked-left m (leaves bs l (fresh m)) (calls-sound l) in
+      let b = blocked-left m (leaves bs l (fresh m)) (calls-sound bs m e l) in
       let c = calls-fall l (fresh m) fresh-ok .eq (no-try m q) in
-      let t = fresh-total m f few in let t₁ = t .0 in let t₂ = t .1 in
+      let t = fresh-total m f (accepted-fit bs m e .few-entities) in let t₁ = t .0 in let t₂ = t .1 in
       let n = nothing-left m (leaves bs l (fresh m) .processes) p in
       let r = ap returning v in
       omega arith

@@ -1,19 +1,19 @@
 -- Tails and tests on branches by the numbers that the code gives them; and how long a tail of its size is. Assumes nothing.
 use mathlib.Core.Path.{_≡_, refl, sym, _∙_}
 use mathlib.Core.List.{List, [], _∷_}
-use mathlib.Core.Bool.{Bool, true, false, _&&_}
+use mathlib.Core.Bool.{Bool, true, false, not, _&&_}
 use Prim.Native.Nat.{ℕ, zero, suc, _+_, _*_, _-_, _≤_, _<_, _/_, _%_}
 use native.Mathlib.Omega.{arith}
 use borrow.Author.Tests.{leb-true, eqb-true}
 use lib.Dec.{leb, eqb}
-use lib.ListN.{length}
-use Rattle.semantics.specs.Words.{within}
+use lib.ListN.{length, drop}
+use Rattle.semantics.specs.Words.{all, within}
 use Rattle.semantics.specs.Bytes.{u16}
 use Rattle.semantics.specs.Record.{
-  Part, nothing, expression, branches, sized, partSize, listSized, oneTree, pile, nodes, branchesFit
+  Part, nothing, expression, branches, sized, twice, partSize, listSized, oneTree, pile, nodes, branchesFit, branchesFrom, listTwice, item
 }
 use Rattle.tails.specs.Tails.{tailOf, branchPasses}
-use Rattle.tails.proofs.Branches.{and-left, and-right}
+use Rattle.tails.proofs.Branches.{and-left, and-right, any-not}
 
 pub no-tail : (t : ℕ) → (t ≡ 1 → ⊥) → (t ≡ 2 → ⊥) → (t ≡ 3 → ⊥) → (t ≡ 4 → ⊥) → tailOf t ≡ nothing
 unfolding tailOf
@@ -45,3 +45,18 @@ module _ (bs : List ℕ) where
 
   pub branches-room : sized branches bs ≡ true → 2 ≤ length bs
   branches-room e = leb-true _ _ (and-left (leb 2 (length bs)) _ e)
+
+-- Only claims, shares and branches can name a thing twice.
+pub twice-none : (t : ℕ) → (t ≡ 2 → ⊥) → (t ≡ 3 → ⊥) → (t ≡ 4 → ⊥) → (bs : List ℕ) → false ≡ twice (tailOf t) bs
+unfolding tailOf
+twice-none zero f g h bs = refl
+twice-none (suc zero) f g h bs = refl
+twice-none (suc (suc zero)) f g h bs = absurd (f refl)
+twice-none (suc (suc (suc zero))) f g h bs = absurd (g refl)
+twice-none (suc (suc (suc (suc zero)))) f g h bs = absurd (h refl)
+twice-none (suc (suc (suc (suc (suc t))))) f g h bs = refl
+
+pub twice-is : (n : List ℕ) (own : ℕ) (bs : List ℕ) → not (all (branchPasses 1 n own) (branchesFrom (u16 bs 0) (drop 2 bs))) ≡ twice branches bs
+unfolding branchPasses
+twice-is n own bs =
+    sym (any-not (λ b. listTwice item (drop 2 b)) (branchPasses 1 n own) (λ b. refl) (branchesFrom (u16 bs 0) (drop 2 bs)))
