@@ -3,26 +3,24 @@
 use Prim.Native.Nat.{ℕ, zero, suc, _+_, _≤_, _<_}
 use native.Mathlib.Omega.{arith}
 use mathlib.Core.Path.{_≡_, refl, sym, subst}
-use mathlib.Core.List.{List, [], _∷_, map}
-use mathlib.Core.Bool.{false}
-use lib.Dec.{leb}
-use borrow.Author.Tests.{leb-true, leb-false}
+use mathlib.Core.List.{List, [], _∷_}
+use mathlib.Core.Bool.{false, _&&_}
+use lib.Dec.{eqb, leb, ltb}
+use borrow.Author.Tests.{leb-true, leb-false, ltb-false}
 use lib.ListN.{length, getD}
 use Rattle.semantics.specs.Words.{passed, any}
-use Rattle.semantics.specs.Model.{
-  Action, HOLD, PRIO, TRACE, SET, LSET, DO, PUTR, PUTB, PUTS, BECOME, REQ, TRY, WHILE, START, CLOSE, Model, block, body
-}
-use Rattle.semantics.specs.Bytes.{Raw, raw, torn}
-use Rattle.semantics.specs.Record.{Entry, RES, BIN, SYNC, VAR, CLASS, BLOCK, ENTITY, ACTION, rowOf}
-use Rattle.semantics.specs.Decode.{
-  accepted, saw, firstPass, noneSeen, inner, innerOf, opened, secondPass, Gathered, adds, gather, depth, thirdPass, decode
-}
+use Rattle.semantics.specs.Model.{Action, HOLD, PRIO, TRACE, SET, LSET, DO, PUTR, PUTB, PUTS, BECOME, REQ, TRY, WHILE, START}
+use Rattle.semantics.specs.Model.{CLOSE, Model, block, body}
+use Rattle.semantics.specs.Bytes.{u16, Raw, raw, torn}
+use Rattle.semantics.specs.Record.{Entry, RES, BIN, SYNC, VAR, CLASS, BLOCK, ENTITY, ACTION, Row, table, rowOf}
+use Rattle.semantics.specs.Decode.{accepted, saw, firstPass, noneSeen, inner, innerOf, opened, secondPass, Gathered, adds}
+use Rattle.semantics.specs.Decode.{gather, depth, thirdPass, decode}
 use Rattle.semantics.specs.Bound.{mayLoop, loopsFrom, loops}
-use Rattle.promises.specs.Laws.{no-way, or-false, AllOf, all-map, all-both}
-use Rattle.promises.specs.Fit.{I32, BranchFit, ActFit, EntityFit, Fit, Nested, GoesForward, Forward}
-use Rattle.promises.specs.Passes.{Passes, not-accepted, of-accepted, first-on, second-on, third-on}
+use Rattle.promises.specs.Laws.{no-way, or-false, AllOf, all-map, all-both, all-mapped, all-unmap, all-hold, none-hold, _&_}
+use Rattle.promises.specs.Fit.{I32, BranchFit, ActFit, EntityFit, Fit, Linked, Nested, GoesForward, Forward}
+use Rattle.promises.specs.Passes.{not-accepted, TwoPasses, Passes, of-accepted, first-on, second-on, third-on, its-row}
 use Rattle.promises.specs.Counted.{groupOf, opens, counts, counted}
-use Rattle.promises.specs.Valued.{all-true, none-true, all-mapped, EntryFit, entry-fits}
+use Rattle.promises.specs.Valued.{EntryFit, entry-fits}
 
 -- BLOCKS BY NUMBER: P holds of each of xs with its number, and the first's is i.
 module _ {A : Type 0} (P : ℕ → A → Type 0) where
@@ -35,10 +33,6 @@ module _ {A : Type 0} (P : ℕ → A → Type 0) where
   from-at d h i (x ∷ xs) f zero k e = let z : i ≡ k = omega arith in subst (λ y. P y x) z (f .0)
   from-at d h i (x ∷ xs) f (suc j) k e = from-at d h (suc i) xs (f .1) j k (omega arith)
 
-of-mapped : {A B : Type 0} (P : B → Type 0) (f : A → B) (xs : List A) → AllOf P (map f xs) → AllOf (λ x. P (f x)) xs
-of-mapped P f [] h = tt
-of-mapped P f (x ∷ xs) h = (h .0, of-mapped P f xs (h .1))
-
 -- WHAT THE RECORDS MAKE fits, record by record from the last. `own` is how many BLOCKs stand before.
 module _ (m : Model) where
   -- an action that may stand behind `own` BLOCKs
@@ -48,17 +42,14 @@ module _ (m : Model) where
   abbrev BlockAt : ℕ → List Action → Type 0
   BlockAt b = AllOf (ActAt (suc b))
 
-  abbrev ClassFit : ℕ → Type 0
-  ClassFit b = (b < length (m .blocks)) × (depth m b ≤ 8)
-
   abbrev Makes : ℕ → Gathered → Type 0
   Makes own g =
       AllOf (λ n. n ≤ 1_000_000) (g .model .totals) × AllOf (λ n. n ≤ 1_000_000) (g .model .amounts) × AllOf I32 (g .model .vars)
-      × AllOf ClassFit (g .model .classes) × AllOf (EntityFit m) (g .model .entities) × AllOf (ActAt own) (g .loose)
+      × AllOf (λ b. b < length (m .blocks)) (g .model .classes) × AllOf (EntityFit m) (g .model .entities) × AllOf (ActAt own) (g .loose)
       × AllFrom BlockAt own (g .model .blocks)
 
-  one-more : (own : ℕ) (e : Entry) (g : Gathered) → EntryFit m e → AllOf (λ k. own ≤ k) (innerOf e) →
-      Makes (opened own (groupOf e)) g → Makes own (adds g e)
+  one-more : (own : ℕ) (e : Entry) (g : Gathered) → EntryFit m e → AllOf (λ k. own ≤ k) (innerOf e)
+      → Makes (opened own (groupOf e)) g → Makes own (adds g e)
   one-more own (RES n) g f o h = ((f, h .0), h .1, h .2, h .3, h .4, h .5, h .6)
   one-more own (BIN n) g f o h = (h .0, (f, h .1), h .2, h .3, h .4, h .5, h .6)
   one-more own SYNC g f o h = h
@@ -68,43 +59,50 @@ module _ (m : Model) where
   one-more own (ENTITY x) g f o h = (h .0, h .1, h .2, h .3, (f, h .4), h .5, h .6)
   one-more own (ACTION a) g f o h = (h .0, h .1, h .2, h .3, h .4, ((f, o), h .5), h .6)
 
-makes : (n : List ℕ) (g : Gathered) → ((j : ℕ) → getD n j 0 ≡ getD (counts g) j 0) →
-    (seen x : List ℕ) (own : ℕ) (rs : List Raw) → firstPass seen rs ≡ accepted x → secondPass n own rs ≡ accepted passed →
-    thirdPass (g .model) rs ≡ accepted passed → Makes (g .model) own (gather rs)
+makes : (n : List ℕ) (g : Gathered) → ((j : ℕ) → getD n j 0 ≡ getD (counts g) j 0)
+    → (seen x : List ℕ) (own : ℕ) (rs : List Raw) → firstPass seen rs ≡ accepted x → secondPass n own rs ≡ accepted passed
+    → Makes (g .model) own (gather rs)
 unfolding gather firstPass
-makes n g c seen x own [] p q r = (tt, tt, tt, tt, tt, tt, tt)
-makes n g c seen x own (torn at ∷ rs) p q r = not-accepted p
-makes n g c seen x own (raw at k bs ∷ rs) p q r =
+makes n g c seen x own [] p q = (tt, tt, tt, tt, tt, tt, tt)
+makes n g c seen x own (torn at ∷ rs) p q = not-accepted p
+makes n g c seen x own (raw at k bs ∷ rs) p q =
     let a = first-on at k bs rs seen x p in
     let b = second-on at k bs rs n own q in
-    let d = third-on at k bs rs (g .model) r in
     let e : Entry = rowOf k .says bs in
-    let ih = makes n g c (saw seen k) x (opened own k) rs (a .1) (b .1) (d .1) in
-    one-more (g .model) own e (gather rs) (entry-fits n g c seen own k bs (a .0) (b .0) (d .0))
-    (all-map _ _ (λ i. leb-true own i) (innerOf e) (all-true (leb own) (innerOf e) (b .0 .in-order)))
+    let ih = makes n g c (saw seen k) x (opened own k) rs (a .1) (b .1) in
+    one-more (g .model) own e (gather rs) (entry-fits n g c seen own k bs (a .0) (b .0))
+    (all-map _ _ (λ i. leb-true own i) (innerOf e) (all-hold (leb own) (innerOf e) (b .0 .in-order)))
     (subst (λ o. Makes (g .model) o (gather rs)) (opens k bs own (a .0 .grouped)) ih)
 
-made : (rs : List Raw) (p : Passes rs) → Makes (gather rs .model) 0 (gather rs)
-made rs p = makes (p .seen) (gather rs) (λ j. counted rs p j .0) noneSeen (p .seen) 0 rs (p .first) (p .second) (p .third)
+made : (rs : List Raw) (p : TwoPasses rs) → Makes (gather rs .model) 0 (gather rs)
+made rs p = makes (p .seen) (gather rs) (λ j. counted rs p j .0) noneSeen (p .seen) 0 rs (p .first) (p .second)
 
-block-at : (rs : List Raw) → Passes rs → (b : ℕ) → BlockAt (gather rs .model) b (block (gather rs .model) b)
+block-at : (rs : List Raw) → TwoPasses rs → (b : ℕ) → BlockAt (gather rs .model) b (block (gather rs .model) b)
 block-at rs p b =
     from-at (BlockAt (gather rs .model)) [] (λ j. tt) 0 (gather rs .model .blocks) (made rs p .6) b b (omega arith)
 
 -- IT FITS.
-fits : (rs : List Raw) → Passes rs → Fit (gather rs .model)
+fits : (rs : List Raw) → TwoPasses rs → Fit (gather rs .model)
 fits rs p =
     let h = made rs p in
     record {
       acts = λ b. all-map _ (ActFit (gather rs .model)) (λ a x. x .0) (block (gather rs .model) b) (block-at rs p b);
-      totals-fit = h .0; amounts-fit = h .1; vars-fit = h .2; entities-fit = h .4; few-totals = counted rs p 1 .1;
-      few-amounts = counted rs p 2 .1; few-syncs = counted rs p 3 .1; few-vars = counted rs p 4 .1;
-      few-classes = counted rs p 5 .1; few-blocks = counted rs p 6 .1; few-entities = counted rs p 7 .1;
-      few-actions = omega (arith, counted rs p 16 .1)
+      totals-fit = h .0;
+      amounts-fit = h .1;
+      vars-fit = h .2;
+      entities-fit = h .4;
+      few-totals = counted rs p 1 .1;
+      few-amounts = counted rs p 2 .1;
+      few-syncs = counted rs p 3 .1;
+      few-vars = counted rs p 4 .1;
+      few-classes = counted rs p 5 .1;
+      few-blocks = counted rs p 6 .1;
+      few-entities = counted rs p 7 .1;
+      few-actions = omega (arith, counted rs p 16 .1);
     }
 
 pub accepted-fit : (bs : List ℕ) (m : Model) → decode bs ≡ accepted m → Fit m
-accepted-fit = of-accepted Fit fits
+accepted-fit = of-accepted Fit λ rs p. fits rs (p .two)
 
 -- IT NESTS: the blocks that an action names are there, since it fits.
 inner-there : (m : Model) (a : Action) → ActFit m a → AllOf (λ k. k < length (m .blocks)) (inner a)
@@ -124,8 +122,8 @@ inner-there m (WHILE b c) f = (f .0, tt)
 inner-there m (START c t h) f = tt
 inner-there m CLOSE f = tt
 
-nests : (rs : List Raw) → Passes rs → Nested (gather rs .model)
-nests rs p = record { later = at; bodies = made rs p .3 }
+pub links : (rs : List Raw) → TwoPasses rs → Linked (gather rs .model)
+links rs p = record { later = at; there = made rs p .3 }
   where
     m : Model
     m = gather rs .model
@@ -133,6 +131,49 @@ nests rs p = record { later = at; bodies = made rs p .3 }
     at : (b : ℕ) → AllOf (λ a. AllOf (λ k. (b < k) × (k < length (m .blocks))) (inner a)) (block m b)
     at b =
         all-map _ _ (λ a x. all-both _ _ (inner a) (x .1) (inner-there m a (x .0))) (block m b) (block-at rs p b)
+
+-- The third pass has looked at each class. Row by row: of a CLASS it has found the body not too deep, of the others it says nothing.
+module _ (m : Model) where
+  abbrev Shallow : Gathered → Type 0
+  Shallow g = AllOf (λ b. depth m b ≤ 8) (g .model .classes)
+
+  abbrev RowShallow : Row → Type 0
+  RowShallow r =
+      (bs : List ℕ) (g : Gathered) → eqb (r .kind) 5 && ltb 8 (depth m (u16 bs 0)) ≡ false → Shallow g → Shallow (adds g (r .says bs))
+
+  rows-shallow : AllOf RowShallow table
+  rows-shallow =
+      plain & plain & plain & plain & (λ bs g d h. (ltb-false 8 (depth m (u16 bs 0)) d, h)) & plain & plain
+      & plain & plain & plain & plain & plain & plain & plain & plain & plain & plain & plain & plain & plain & plain & plain
+      & tt
+    where
+      plain : {A : Type 0} (bs : List ℕ) (g : Gathered) → A → Shallow g → Shallow g
+      plain bs g d h = h
+
+  one-class : (k : ℕ) (bs : List ℕ) (g : Gathered) → 0 < rowOf k .group → eqb k 5 && ltb 8 (depth m (u16 bs 0)) ≡ false
+      → Shallow g → Shallow (adds g (rowOf k .says bs))
+  one-class k bs g l d h =
+      let r = its-row RowShallow rows-shallow k l in
+      r .0 bs g (subst (λ x. eqb x 5 && ltb 8 (depth m (u16 bs 0)) ≡ false) (r .1) d) h
+
+shallow : (m : Model) (seen x : List ℕ) (rs : List Raw) → firstPass seen rs ≡ accepted x → thirdPass m rs ≡ accepted passed
+    → AllOf (λ b. depth m b ≤ 8) (gather rs .model .classes)
+unfolding gather firstPass
+shallow m seen x [] p r = tt
+shallow m seen x (torn at ∷ rs) p r = not-accepted p
+shallow m seen x (raw at k bs ∷ rs) p r =
+    let a = first-on at k bs rs seen x p in
+    let d = third-on at k bs rs m r in
+    one-class m k bs (gather rs) (a .0 .grouped) (d .0) (shallow m (saw seen k) x rs (a .1) (d .1))
+
+nests : (rs : List Raw) → Passes rs → Nested (gather rs .model)
+nests rs p =
+    let l = links rs (p .two) in
+    let m : Model = gather rs .model in
+    record {
+      later = l .later;
+      bodies = all-both _ _ (m .classes) (l .there) (shallow m noneSeen (p .two .seen) rs (p .two .first) (p .third));
+    }
 
 pub accepted-nested : (bs : List ℕ) (m : Model) → decode bs ≡ accepted m → Nested m
 accepted-nested = of-accepted Nested nests
@@ -150,7 +191,7 @@ goes-forward m b (PUTB i n) f l = tt
 goes-forward m b (PUTS i n) f l = tt
 goes-forward m b (BECOME i) f l = tt
 goes-forward m b (REQ c) f l = tt
-goes-forward m b (TRY bs) f l = of-mapped (λ k. b < k) (λ x. x .block) bs f
+goes-forward m b (TRY bs) f l = all-unmap (λ k. b < k) (λ x. x .block) bs f
 goes-forward m b (WHILE k c) f l = no-way (sym l)
 goes-forward m b (START c t h) f l = leb-false (body m c) b l
 goes-forward m b CLOSE f l = tt
@@ -163,7 +204,7 @@ all-end : (m : Model) (b : ℕ) (xs : List (List Action)) → loopsFrom m b xs �
 all-end m b [] l = tt
 all-end m b (x ∷ xs) l = let a = or-false (any (mayLoop m b) x) _ l in (a .0, all-end m (suc b) xs (a .1))
 
-advances : (rs : List Raw) → Passes rs → loops (gather rs .model) ≡ false → Forward (gather rs .model)
+advances : (rs : List Raw) → TwoPasses rs → loops (gather rs .model) ≡ false → Forward (gather rs .model)
 advances rs p l = record { forward = at }
   where
     m : Model
@@ -172,8 +213,8 @@ advances rs p l = record { forward = at }
     at : (b : ℕ) → AllOf (GoesForward m b) (block m b)
     at b =
         let e = from-at (Ends m) [] (λ j. refl) 0 (m .blocks) (all-end m 0 (m .blocks) l) b b (omega arith) in
-        let h = all-both _ _ (block m b) (block-at rs p b) (none-true (mayLoop m b) (block m b) e) in
+        let h = all-both _ _ (block m b) (block-at rs p b) (none-hold (mayLoop m b) (block m b) e) in
         all-map _ (GoesForward m b) (λ a x. goes-forward m b a (x .0 .1) (x .1)) (block m b) h
 
 pub accepted-forward : (bs : List ℕ) (m : Model) → decode bs ≡ accepted m → loops m ≡ false → Forward m
-accepted-forward = of-accepted (λ m. loops m ≡ false → Forward m) advances
+accepted-forward = of-accepted (λ m. loops m ≡ false → Forward m) λ rs p. advances rs (p .two)

@@ -1,7 +1,7 @@
--- Calls on an open run that only calls have moved: from fresh on it is sound before each of them, so that a call is the run, and 20 is
--- never answered.
+-- Calls on an open run that only calls have moved: from fresh on it is sound before each of them, so that a call is the run, and
+-- 20 is never answered.
 -- Assumes nothing.
-use Prim.Native.Nat.{ℕ, _<_}
+use Prim.Native.Nat.{ℕ}
 use native.Mathlib.Omega.{arith}
 use mathlib.Core.Path.{_≡_, refl, sym, ap, _∙_}
 use mathlib.Core.List.{List, [], _∷_}
@@ -11,26 +11,23 @@ use Rattle.semantics.specs.Model.{Model}
 use Rattle.semantics.specs.Decode.{accepted, decode}
 use Rattle.semantics.specs.State.{State, fresh}
 use Rattle.semantics.specs.Walk.{Line, Next}
-use Rattle.semantics.specs.Step.{step}
-use Rattle.semantics.specs.Sound.{soundIn}
 use Rattle.semantics.specs.Run.{Answer, FAULT, Ran, Room, Ask, run, callIn, call, leaves}
-use Rattle.promises.specs.Laws.{good-out}
 use Rattle.promises.specs.Fit.{Fit}
 use Rattle.promises.specs.Accepted.{accepted-fit}
 use Rattle.promises.specs.Sound.{Sound}
 use Rattle.promises.specs.Decides.{sound-back}
-use Rattle.promises.specs.Stays.{step-sound}
+use Rattle.promises.specs.Stays.{step-ok}
 use Rattle.promises.specs.FreshSound.{fresh-sound}
 use Rattle.promises.specs.Safe.{Safe, safe, above, step-safe}
-use Rattle.promises.specs.Answers.{run-keeps, run-why, Why, was-closed, was-idle, at-limit, at-fault, no-room}
+use Rattle.promises.specs.Answers.{run-keeps, Why, was-closed, was-idle, at-limit, at-fault, no-room, run-why}
 
 -- A step that faults out of a sound state faults above 20.
 not-20 : {o : Outcome Next} → Safe o → o ≡ fails No.STATE → ⊥
 not-20 safe e = let z : _≡_ {A = ℕ} 0 1 = cc in omega arith
 not-20 (above {n = n} l h) e = let z : n ≡ 20 = cc in omega arith
 
-why-not-20 : {m : Model} {n : ℕ} {r : Room} {a : Answer} {k : ℕ} {ls : List Line} {t : State} → Sound m t → Why m n r a k ls t →
-    a ≡ FAULT No.STATE → ⊥
+why-not-20 : {m : Model} {n : ℕ} {r : Room} {a : Answer} {k : ℕ} {ls : List Line} {t : State} → Sound m t → Why m n r a k ls t
+    → a ≡ FAULT No.STATE → ⊥
 why-not-20 h (was-closed b) e = let z : _≡_ {A = ℕ} 0 1 = cc in omega arith
 why-not-20 h (was-idle b) e = let z : _≡_ {A = ℕ} 0 1 = cc in omega arith
 why-not-20 h (at-limit b l) e = let z : _≡_ {A = ℕ} 0 1 = cc in omega arith
@@ -49,7 +46,7 @@ module _ (bs : List ℕ) (m : Model) (e : decode bs ≡ accepted m) where
   pub run-sound : (n : ℕ) (r : Room) (s : State) → Sound m s → Sound m (run m n r s .state)
   run-sound =
       run-keeps m (λ n r s y. Sound m s → Sound m (y .state)) (λ n r s a h. h)
-      (λ n r s x y b g l ih h. ih (good-out (λ n. Sound m (n .state)) (step m s) x g (step-sound m fit s h)))
+      (λ n r s x y b g l ih h. ih (step-ok m fit s h x g))
 
   call-sound : (a : Ask) (s : State) → Sound m s → Sound m (call bs a s .state)
   call-sound a s h = rw (call-is a s h) (run-sound (a .limit) (a .room) s h)
@@ -61,8 +58,8 @@ module _ (bs : List ℕ) (m : Model) (e : decode bs ≡ accepted m) where
   pub calls-sound : (l : List Ask) → Sound m (leaves bs l (fresh m))
   calls-sound l = leaves-sound l (fresh m) (fresh-sound m fit)
 
-  pub call-is-run : (l : List Ask) (a : Ask) →
-      call bs a (leaves bs l (fresh m)) ≡ run m (a .limit) (a .room) (leaves bs l (fresh m))
+  pub call-is-run : (l : List Ask) (a : Ask)
+      → call bs a (leaves bs l (fresh m)) ≡ run m (a .limit) (a .room) (leaves bs l (fresh m))
   call-is-run l a = call-is a (leaves bs l (fresh m)) (calls-sound l)
 
   pub never-20 : (l : List Ask) (a : Ask) → call bs a (leaves bs l (fresh m)) .answer ≡ FAULT No.STATE → ⊥

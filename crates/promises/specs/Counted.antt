@@ -12,8 +12,8 @@ use Rattle.semantics.specs.Words.{more}
 use Rattle.semantics.specs.Bytes.{Raw, raw, torn}
 use Rattle.semantics.specs.Record.{Entry, RES, BIN, SYNC, VAR, CLASS, BLOCK, ENTITY, ACTION, Row, table, rowOf}
 use Rattle.semantics.specs.Decode.{accepted, saw, firstPass, noneSeen, opened, Gathered, adds, gather}
-use Rattle.promises.specs.Laws.{AllOf, all-get, all-replicate, over, once, once-self, once-same}
-use Rattle.promises.specs.Passes.{Passes, not-accepted, first-on, its-row}
+use Rattle.promises.specs.Laws.{AllOf, all-get, all-replicate, over, once, once-same, once-self, more-at}
+use Rattle.promises.specs.Passes.{not-accepted, TwoPasses, first-on, its-row}
 
 -- GROUPS. The group that an entry is of, and how many records there may be of each.
 abbrev pub groupOf : Entry → ℕ
@@ -80,23 +80,16 @@ one-more g BLOCK =
 one-more g (ENTITY x) = simp (zero-add, add-one)
 one-more g (ACTION a) = simp (add-one, add-suc)
 
-more-at : (xs : List ℕ) (i k : ℕ) → i < length xs → getD (more xs i 1) k 0 ≡ getD xs k 0 + once k i
-more-at [] i k h = absurd (omega arith)
-more-at (x ∷ xs) zero zero h = refl
-more-at (x ∷ xs) zero (suc k) h = omega arith
-more-at (x ∷ xs) (suc i) zero h = omega arith
-more-at (x ∷ xs) (suc i) (suc k) h = more-at xs i k (omega arith)
-
 -- THE FIRST PASS counts what it reads, and stays within the limits.
 abbrev Inside : List ℕ → Type 0
 Inside seen = (j : ℕ) → getD seen j 0 ≤ getD limits j 0
 
-still-inside : (seen : List ℕ) (i : ℕ) → i < length seen → getD seen i 0 < getD limits i 0 → Inside seen →
-    Inside (more seen i 1)
+still-inside : (seen : List ℕ) (i : ℕ) → i < length seen → getD seen i 0 < getD limits i 0 → Inside seen
+    → Inside (more seen i 1)
 still-inside seen i h l s j = go (once j i) refl
   where
     at : getD (more seen i 1) j 0 ≡ getD seen j 0 + once j i
-    at = more-at seen i j h
+    at = more-at seen i 1 j h
 
     go : (o : ℕ) → once j i ≡ o → getD (more seen i 1) j 0 ≤ getD limits j 0
     go zero e = omega (arith, at, s j)
@@ -110,9 +103,9 @@ still-inside seen i h l s j = go (once j i) refl
 none-yet : (j : ℕ) → getD noneSeen j 0 ≡ 0
 none-yet j = all-get (λ x. x ≡ 0) noneSeen j 0 (all-replicate (λ x. x ≡ 0) 17 0 refl) refl
 
-first-counts : (seen : List ℕ) (rs : List Raw) (n : List ℕ) → length seen ≡ 17 → Inside seen →
-    firstPass seen rs ≡ accepted n → (j : ℕ) →
-    (getD n j 0 ≡ getD seen j 0 + getD (counts (gather rs)) j 0) × (getD n j 0 ≤ getD limits j 0)
+first-counts : (seen : List ℕ) (rs : List Raw) (n : List ℕ) → length seen ≡ 17 → Inside seen
+    → firstPass seen rs ≡ accepted n → (j : ℕ)
+    → (getD n j 0 ≡ getD seen j 0 + getD (counts (gather rs)) j 0) × (getD n j 0 ≤ getD limits j 0)
 unfolding firstPass gather
 first-counts seen [] n h s e j =
     let d : seen ≡ n = cc in
@@ -131,13 +124,13 @@ first-counts seen (raw at k bs ∷ rs) n h s e j =
     let y = its-row (Says bs) (rows-say bs) k (d .grouped) .0 in
     let t = still-inside seen g (omega arith) (omega arith) s in
     let ih = first-counts (saw seen k) rs n (length-set seen g _ ∙ h) t (a .1) j in
-    let b = more-at seen g j (omega arith) in
-    let c = ap (λ xs. getD xs j 0) (one-more (gather rs) x) ∙ more-at (counts (gather rs)) (groupOf x) j (omega arith) in
+    let b = more-at seen g 1 j (omega arith) in
+    let c = ap (λ xs. getD xs j 0) (one-more (gather rs) x) ∙ more-at (counts (gather rs)) (groupOf x) 1 j (omega arith) in
     let o = ap (once j) y in
     (omega arith, ih .1)
 
-pub counted : (rs : List Raw) (p : Passes rs) (j : ℕ) →
-    (getD (p .seen) j 0 ≡ getD (counts (gather rs)) j 0) × (getD (counts (gather rs)) j 0 ≤ getD limits j 0)
+pub counted : (rs : List Raw) (p : TwoPasses rs) (j : ℕ)
+    → (getD (p .seen) j 0 ≡ getD (counts (gather rs)) j 0) × (getD (counts (gather rs)) j 0 ≤ getD limits j 0)
 counted rs p j =
     let c = first-counts noneSeen rs (p .seen) refl (λ i. omega (arith, none-yet i)) (p .first) j in
     omega (arith, none-yet j)

@@ -9,54 +9,26 @@ use lib.Dec.{eqb, leb, ltb}
 use borrow.Author.Tests.{ltb-true, ltb-false}
 use lib.ListN.{length, getD, List·getD-eq-default}
 use lib.IntN.{ℤ, pos}
-use Rattle.semantics.specs.Words.{if_then_else_, all, isEmpty, keep, collect}
+use Rattle.semantics.specs.Words.{if_then_else_, all, isEmpty, keep}
 use Rattle.semantics.specs.Numbers as No
 use Rattle.semantics.specs.Model.{Model}
-use Rattle.semantics.specs.State.{
-  State, Process, Frame, Event, Notice, wakes, returnsR, returnsB, Waiter, Floor, empty, held, nobody, process, isFree,
-  with-frames
-}
+use Rattle.semantics.specs.State.{State, Process, Frame, Event, Notice, wakes, returnsR, returnsB, Waiter, Floor, empty, held}
+use Rattle.semantics.specs.State.{nobody, process, isFree, with-frames}
 use Rattle.semantics.specs.Step.{lowest, ofReturns, isReturn}
 use Rattle.semantics.specs.Sound as Test
-use Rattle.semantics.specs.Sound.{
-  vacant, furnished, eventTied, waiterTied, processInRange, returnInRange, eventInRange, chained, allChained, ownNumber,
-  ownNumbers, woken, waitersPlaces, listed, inOne, addsUp, soundIn
-}
-use Rattle.promises.specs.Laws.{
-  AllOf, all-map, over, over-append, over-keep, over-same, once, once-self, once-same, only-apart, only-if
-}
+use Rattle.semantics.specs.Sound.{vacant, furnished, eventTied, waiterTied, processInRange, returnInRange, eventInRange}
+use Rattle.semantics.specs.Sound.{chained, allChained, ownNumber, ownNumbers, woken, waitersPlaces, listed, inOne, addsUp}
+use Rattle.semantics.specs.Sound.{soundIn}
+use Rattle.promises.specs.Laws.{_&_, AllOf, all-map, over, over-append, over-zero, over-same, over-found, over-map}
+use Rattle.promises.specs.Laws.{over-collect, once, once-same, only-apart, once-self, once-apart, only-if, keep-once}
 use Rattle.promises.specs.Fit.{Within}
-use Rattle.promises.specs.Sound.{
-  al, onFloor, noticed, inEvents, waits, inAll, owned, bearing, heldIn, gives, backIn, owes, returning, Vacant, Fine, ProcOk,
-  ReturnOk, NoticeOk, EventOk, Tied, Sound
-}
-use Rattle.promises.specs.Says.{
-  Says, says-is, says-true, says-for, says-and, says-le, says-lt, says-eq, says-within, says-all, says-ordered, says-empty,
-  says-also, says-upTo, says-below, says-same, says-ranked, says-late
-}
-
--- SUMS that Laws has not: over a mapped or a collected list; how many have number k; where a sum is not 0, something isn't.
-module _ {A B : Type 0} (f : B → ℕ) where
-  over-map : (g : A → B) (xs : List A) → over f (map g xs) ≡ over (λ x. f (g x)) xs
-  over-map g [] = refl
-  over-map g (x ∷ xs) = let ih = over-map g xs in omega arith
-
-  over-collect : (g : A → List B) (xs : List A) → over f (collect g xs) ≡ over (λ x. over f (g x)) xs
-  over-collect g [] = refl
-  over-collect g (x ∷ xs) = let ih = over-collect g xs in let a = over-append f (g x) (collect g xs) in omega arith
-
-module _ {A : Type 0} where
-  keep-once : (k : ℕ) (f : A → ℕ) (xs : List A) → length (keep (λ x. eqb k (f x)) xs) ≡ over (λ x. once k (f x)) xs
-  keep-once k f xs = over-keep (λ x. eqb k (f x)) xs ∙ over-same _ _ (λ x. sym (only-if k (f x) 1)) xs
-
-  over-found : (f : A → ℕ) (P : A → Type 0) (Q : Type 0)
-      → ((x : A) → P x → 1 ≤ f x → Q) → (xs : List A) → AllOf P xs → 1 ≤ over f xs → Q
-  over-found f P Q h [] p l = absurd (omega arith)
-  over-found f P Q h (x ∷ xs) p l = go (f x) refl (λ n. over-found f P Q h xs (p .1) n)
-    where
-      go : (n : ℕ) → f x ≡ n → (1 ≤ over f xs → Q) → Q
-      go zero e k = k (omega arith)
-      go (suc n) e k = h x (p .0) (omega arith)
+use Rattle.promises.specs.Sound.{al, onFloor, noticed, inEvents, waits, inAll, owned, bearing, heldIn, gives, backIn}
+use Rattle.promises.specs.Sound.{returning, Fine, Vacant, ProcOk, ReturnOk, NoticeOk, EventOk, Tied, InOne, AddsUp, Sound}
+use Rattle.promises.specs.Says.{Says, says-is, says-true, says-for, _and_, says-le, says-lt, says-eq, says-within}
+use Rattle.promises.specs.Says.{says-all, says-ordered, says-empty, says-also, says-upTo, says-below, says-same}
+use Rattle.promises.specs.Says.{says-ranked, says-late}
+use Rattle.promises.specs.Keep.{free-or-fine}
+use Rattle.promises.specs.Parts.{returning-are}
 
 -- What holds of the numbers below n, and of those from n on.
 near-far : {P : ℕ → Type 0} (n : ℕ) → ((k : ℕ) → k < n → P k) → ((k : ℕ) → n ≤ k → P k) → (k : ℕ) → P k
@@ -78,52 +50,41 @@ module _ (m : Model) (s : State) where
 
   each-place : Says (all placeTest (s .processes))
       ((all (λ q. if isFree q then vacant q else furnished m q) (s .processes) ≡ true)
-      × ((Test.living (processInRange m) s ≡ true) × ((allChained m s ≡ true) × (ownNumbers s ≡ true))))
+      × ((Test.ofLiving (processInRange m) s ≡ true) × ((allChained m s ≡ true) × (ownNumbers s ≡ true))))
   each-place = says-also _ _ (s .processes) (says-also _ _ (s .processes) (says-also _ _ (s .processes) says-is))
 
   says-vacant : (q : Process) → Says (vacant q) (Vacant q)
   says-vacant q =
       says-for
-      (says-and says-eq (says-and (says-same (q .priority) (pos 0))
-      (says-and (says-empty (q .locals)) (says-and (says-empty (q .held)) (says-empty (q .slaves))))))
-      (λ h. record {
-        no-number = h .0; no-priority = h .1 .0; no-locals = h .1 .1 .0; no-held = h .1 .1 .1 .0; no-slaves = h .1 .1 .1 .1
-      })
-      (λ v. (v .no-number, (v .no-priority, (v .no-locals, (v .no-held, v .no-slaves)))))
+      (says-eq and says-same (q .priority) (pos 0) and says-empty (q .locals) and says-empty (q .held) and says-empty (q .slaves))
+      (λ h. search)
+      (λ v. v .no-number & v .no-priority & v .no-locals & v .no-held & v .no-slaves)
 
   says-own : (q : Process)
       → Says (ownNumber s q) (Within 1 (s .last) (q .number) × (bearing (q .number) (s .processes) ≡ 1))
   says-own q =
       let e = keep-once (q .number) (λ r. r .number) (s .processes) in
-      says-and says-within (says-for says-eq (λ h. sym e ∙ h) (λ h. e ∙ h))
+      says-within and says-for says-eq (λ h. sym e ∙ h) (λ h. e ∙ h)
 
   says-fine : (q : Process)
       → Says (furnished m q && (processInRange m q && (chained m (q .frames) && ownNumber s q)))
       (Fine m (s .last) q × (bearing (q .number) (s .processes) ≡ 1))
   says-fine q =
       says-for
-      (says-and (says-and says-eq says-eq)
-      (says-and
-        (says-and (says-below lowest (q .priority))
-        (says-and says-lt (says-and (says-all (λ v. says-lt) (q .locals)) (says-all (λ x. says-lt) (q .slaves)))))
-      (says-and says-is (says-own q))))
-      (λ h. (
-        record {
-          is-numbered = h .1 .1 .1 .0 .low; is-given = h .1 .1 .1 .0 .high; prio-low = h .1 .0 .0; prio-high = h .1 .0 .1 .0;
-          locals-many = h .0 .0; locals-ok = h .1 .0 .1 .1 .0; held-many = h .0 .1; slaves-ok = h .1 .0 .1 .1 .1;
-          frames-ok = h .1 .1 .0
-        },
-        h .1 .1 .1 .1
-      ))
-      (λ h. let f = h .0 in (
-        (f .locals-many, f .held-many),
-        ((f .prio-low, (f .prio-high, (f .locals-ok, f .slaves-ok))),
-        (f .frames-ok, (record { low = f .is-numbered; high = f .is-given }, h .1)))
-      ))
+      ((says-eq and says-eq)
+      and (says-below lowest (q .priority) and says-lt
+      and says-all (λ v. says-lt) (q .locals) and says-all (λ x. says-lt) (q .slaves))
+      and says-is and says-own q)
+      (λ h. (search, h .1 .1 .1 .1))
+      (λ h.
+      let f = h .0 in
+      (f .locals-many & f .held-many)
+      & (f .prio-low & f .prio-high & f .locals-ok & f .slaves-ok)
+      & f .frames-ok & record { low = f .is-numbered; high = f .is-given } & h .1)
 
   says-place : (q : Process) (fs : List Frame) → Says (placeTest (with-frames q fs)) (PlaceOk (with-frames q fs))
   says-place q [] =
-      says-for (says-and (says-vacant (with-frames q [])) says-true)
+      says-for (says-vacant (with-frames q []) and says-true)
       (λ h. (record { dead = λ d. h .0; live = λ d. absurd (omega arith) }, λ d. absurd (omega arith)))
       (λ h. (h .0 .dead refl, tt))
   says-place q (f ∷ fs) =
@@ -135,16 +96,16 @@ module _ (m : Model) (s : State) where
   own-yes : AllOf PlaceOk (s .processes) → (k : ℕ) → 1 ≤ k → bearing k (s .processes) ≤ 1
   own-yes a k l = some (bearing k (s .processes)) refl
     where
-      alone : (q : Process) → PlaceOk q → k ≡ q .number → (n : ℕ) → al (q .frames) ≡ n → bearing k (s .processes) ≤ 1
-      alone q h e zero d = let z = h .0 .dead d .no-number in absurd (omega arith)
-      alone q h e (suc n) d =
-          let o = h .1 (omega arith) in let b = ap (λ j. bearing j (s .processes)) e in omega arith
+      alone : (q : Process) → PlaceOk q → k ≡ q .number → bearing k (s .processes) ≤ 1
+      alone q h e =
+          free-or-fine _ (h .0) (λ d v. let z = v .no-number in absurd (omega arith))
+          (λ d f. let o = h .1 d in let b = ap (λ j. bearing j (s .processes)) e in omega arith)
 
       some : (n : ℕ) → bearing k (s .processes) ≡ n → bearing k (s .processes) ≤ 1
       some zero e = omega arith
       some (suc n) e =
           over-found (λ q. once k (q .number)) PlaceOk (bearing k (s .processes) ≤ 1)
-          (λ q h o. alone q h (once-same k (q .number) o) (al (q .frames)) refl) (s .processes) a (omega arith)
+          (λ q h o. alone q h (once-same k (q .number) o)) (s .processes) a (omega arith)
 
   own-back : ((k : ℕ) → 1 ≤ k → bearing k (s .processes) ≤ 1) → (ps : List Process)
       → ((k : ℕ) → bearing k ps ≤ bearing k (s .processes)) → AllOf (ProcOk m (s .last)) ps → AllOf PlaceOk ps
@@ -168,9 +129,9 @@ module _ (m : Model) (s : State) where
 -- EVENTS. Three clauses say something of one entry of the event list.
 says-return : (known n : ℕ) (x : ℤ) (i a g : ℕ) → Says (returnInRange known n x i a g) (ReturnOk known n x i a g)
 says-return known n x i a g =
-    says-for (says-and (says-same x ofReturns) (says-and says-lt (says-and says-within says-within)))
-    (λ h. record { is-low = h .0; is-known = h .1 .0; amount-ok = h .1 .1 .0; giver-ok = h .1 .1 .1 })
-    (λ r. (r .is-low, (r .is-known, (r .amount-ok, r .giver-ok))))
+    says-for (says-same x ofReturns and says-lt and says-within and says-within)
+    (λ h. search)
+    (λ r. r .is-low & r .is-known & r .amount-ok & r .giver-ok)
 
 module _ (m : Model) (s : State) where
   abbrev Listed : Event → Type 0
@@ -187,18 +148,18 @@ module _ (m : Model) (s : State) where
   says-timed : {b : Bool} (e : Event) → Says b (NoticeOk m (s .last) (s .processes) (e .priority) (e .notice))
       → Says ((leb (e .time) No.latest && b) && leb (s .clock) (e .time)) (Listed e)
   says-timed e p =
-      says-for (says-and (says-and says-le p) says-le)
-      (λ h. record { not-before = h .1; not-late = h .0 .0; tells = h .0 .1 })
-      (λ o. ((o .not-late, o .tells), o .not-before))
+      says-for ((says-le and p) and says-le)
+      (λ h. search)
+      (λ o. (o .not-late & o .tells) & o .not-before)
 
   abbrev entry : ℕ → ℤ → Notice → Event
   entry t x n = record { time = t; priority = x; notice = n }
 
   says-event : (t : ℕ) (x : ℤ) (n : Notice) → Says (eventTest (entry t x n)) (Listed (entry t x n))
   says-event t x (wakes p) =
-      says-for (says-and (says-same x (process s p .priority)) (says-and (says-and says-le says-true) says-le))
-      (λ h. record { not-before = h .1 .1; not-late = h .1 .0 .0; tells = h .0 })
-      (λ o. (o .tells, ((o .not-late, tt), o .not-before)))
+      says-for (says-same x (process s p .priority) and (says-le and says-true) and says-le)
+      (λ h. search)
+      (λ o. o .tells & (o .not-late & tt) & o .not-before)
   says-event t x (returnsR i a g) =
       says-timed (entry t x (returnsR i a g)) (says-return (length (m .totals)) (s .last) x i a g)
   says-event t x (returnsB i a g) =
@@ -209,14 +170,8 @@ module _ (m : Model) (s : State) where
 
 says-few : (es : List Event) (k : ℕ) → Says (leb (length (keep isReturn es)) k) (returning es ≤ k)
 says-few es k =
-    let a = over-keep isReturn es in
-    let b = over-same (λ e. if isReturn e then 1 else 0) (λ e. owes (e .notice)) (λ e. one (e .notice)) es in
+    let a = returning-are es in
     says-for (says-le {a = length (keep isReturn es)}) (λ h. omega arith) (λ h. omega arith)
-  where
-    one : (n : Notice) → (if isReturn (record { time = 0; priority = ofReturns; notice = n }) then 1 else 0) ≡ owes n
-    one (wakes p) = refl
-    one (returnsR i a g) = refl
-    one (returnsB i a g) = refl
 
 -- IN EXACTLY ONE. Any sum over the places that are listed, and how often place k is.
 pub over-listed : (f : ℕ → ℕ) (s : State)
@@ -228,10 +183,10 @@ over-listed f s =
     let es = over-collect f (λ e. woken (e .notice)) (s .events) in
     let bs = over-map f (λ w. w .place) (s .blocked) in
     let ws =
-        over-collect f waitersPlaces (s .waiting) ∙ over-same _ _ (λ w. over-map f (λ w. w .place) w) (s .waiting) in
+    over-collect f waitersPlaces (s .waiting) ∙ over-same _ _ (λ w. over-map f (λ w. w .place) w) (s .waiting) in
     let xs =
-        over-collect f (λ q. map (λ x. x .place) (q .slaves)) (s .processes)
-        ∙ over-same _ _ (λ q. over-map f (λ x. x .place) (q .slaves)) (s .processes) in
+    over-collect f (λ q. map (λ x. x .place) (q .slaves)) (s .processes)
+    ∙ over-same _ _ (λ q. over-map f (λ x. x .place) (q .slaves)) (s .processes) in
     simp (over-append f) (omega arith)
 
 module _ (s : State) where
@@ -253,13 +208,11 @@ module _ (s : State) where
       floor empty = refl
       floor (held p) = omega arith
 
-  abbrev InOne : ℕ → Type 0
-  InOne k =
-      inEvents k (s .events) + inAll k (s .waiting) + owned k (s .processes) + waits k (s .blocked) + onFloor k (s .floor)
-      ≡ al (process s k .frames)
+  abbrev Once : ℕ → Type 0
+  Once = InOne (s .events) (s .waiting) (s .processes) (s .blocked) (λ k. onFloor k (s .floor))
 
   says-count : (k : ℕ)
-      → Says (eqb (length (keep (eqb k) (listed s))) (if isFree (process s k) then 0 else 1)) (InOne k)
+      → Says (eqb (length (keep (eqb k) (listed s))) (if isFree (process s k) then 0 else 1)) (Once k)
   says-count k =
       let a = in-listed k in
       let b = keep-once k (λ p. p) (listed s) in
@@ -280,17 +233,11 @@ module _ (s : State) where
       go false e = let a = h p (ltb-false p No.places e) in let b = once-self p in absurd (omega arith)
 
   far : AllOf (λ p. p < No.places) (listed s) → (k : ℕ) → No.places ≤ k → over (once k) (listed s) ≡ 0
-  far h k l = go (over (once k) (listed s)) refl
-    where
-      go : (n : ℕ) → over (once k) (listed s) ≡ n → over (once k) (listed s) ≡ 0
-      go zero e = e
-      go (suc n) e =
-          over-found (once k) (λ p. p < No.places) _ (λ p b o. let f = once-same k p o in absurd (omega arith)) (listed s) h
-          (omega arith)
+  far h k l = over-zero (once k) (λ p. p < No.places) (λ p b. once-apart k p (λ e. absurd (omega arith))) (listed s) h
 
-  says-in-one : length (s .processes) ≡ No.places → Says (inOne s) ((k : ℕ) → InOne k)
+  says-in-one : length (s .processes) ≡ No.places → Says (inOne s) ((k : ℕ) → Once k)
   says-in-one n =
-      says-for (says-and (says-all (λ p. says-lt) (listed s)) (says-upTo says-count No.places))
+      says-for (says-all (λ p. says-lt) (listed s) and says-upTo says-count No.places)
       (λ h. near-far No.places (h .1)
       (λ k l. let a = in-listed k in let b = far (h .0) k l in let c = dead k l in omega arith))
       (λ h. (near (listed s) (λ k l. let a = in-listed k in let b = h k in let c = dead k l in omega arith), λ k l. h k))
@@ -300,13 +247,13 @@ module _ (s : State) where
 
 -- AMOUNTS ADD UP. There is nothing of a resource beyond the last.
 module _ (m : Model) (s : State) where
-  abbrev AddsUp : ℕ → Type 0
-  AddsUp i = getD (s .free) i 0 + heldIn i (s .processes) + backIn i (s .events) + 0 ≡ getD (m .totals) i 0
+  abbrev Total : ℕ → Type 0
+  Total = AddsUp m (s .free) (s .processes) (s .events) (λ i. 0)
 
   abbrev summed : ℕ → ℕ
   summed i = getD (s .free) i 0 + Test.heldOf i s + Test.returningOf i s
 
-  says-sum : (i : ℕ) → Says (eqb (summed i) (getD (m .totals) i 0)) (AddsUp i)
+  says-sum : (i : ℕ) → Says (eqb (summed i) (getD (m .totals) i 0)) (Total i)
   says-sum i =
       let a = over-same (λ e. Test.returning i (e .notice)) (λ e. gives i (e .notice)) (λ e. one (e .notice)) (s .events) in
       says-for (says-eq {a = summed i}) (λ h. omega arith) (λ h. omega arith)
@@ -320,17 +267,14 @@ module _ (m : Model) (s : State) where
   none-far l e i h = List·getD-eq-default l 0 (omega arith)
 
   held-far : (i : ℕ) → length (m .totals) ≤ i → (ps : List Process) → AllOf (ProcOk m (s .last)) ps → heldIn i ps ≡ 0
-  held-far i l [] h = refl
-  held-far i l (q ∷ qs) h = let ih = held-far i l qs (h .1) in let a = go (al (q .frames)) refl in omega arith
-    where
-      go : (n : ℕ) → al (q .frames) ≡ n → getD (q .held) i 0 ≡ 0
-      go zero e = ap (λ (l : List ℕ). getD l i 0) (h .0 .dead e .no-held)
-      go (suc n) e = none-far (q .held) (h .0 .live (omega arith) .held-many) i l
+  held-far i l =
+      over-zero (λ q. getD (q .held) i 0) (ProcOk m (s .last))
+      (λ q o. free-or-fine _ o (λ e v. ap (λ (l : List ℕ). getD l i 0) (v .no-held))
+      (λ e f. none-far (q .held) (f .held-many) i l))
 
   back-far : (i : ℕ) → length (m .totals) ≤ i → (es : List Event) → AllOf (Listed m s) es → backIn i es ≡ 0
-  back-far i l [] h = refl
-  back-far i l (e ∷ es) h =
-      let ih = back-far i l es (h .1) in let a = go (e .priority) (e .notice) (h .0 .tells) in omega arith
+  back-far i l =
+      over-zero (λ e. gives i (e .notice)) (Listed m s) (λ e h. go (e .priority) (e .notice) (h .tells))
     where
       go : (x : ℤ) (n : Notice) → NoticeOk m (s .last) (s .processes) x n → gives i n ≡ 0
       go x (wakes p) t = refl
@@ -338,16 +282,16 @@ module _ (m : Model) (s : State) where
       go x (returnsB j a g) t = refl
 
   says-adds-up : length (s .free) ≡ length (m .totals) → AllOf (ProcOk m (s .last)) (s .processes)
-      → AllOf (Listed m s) (s .events) → Says (addsUp m s) ((i : ℕ) → AddsUp i)
+      → AllOf (Listed m s) (s .events) → Says (addsUp m s) ((i : ℕ) → Total i)
   says-adds-up n ps es =
       says-for (says-upTo says-sum (length (m .totals)))
       (λ h. near-far (length (m .totals)) h
       (λ i l.
-        let a = none-far (s .free) n i l in
-        let b = held-far i l (s .processes) ps in
-        let c = back-far i l (s .events) es in
-        let d = none-far (m .totals) refl i l in
-        omega arith))
+      let a = none-far (s .free) n i l in
+      let b = held-far i l (s .processes) ps in
+      let c = back-far i l (s .events) es in
+      let d = none-far (m .totals) refl i l in
+      omega arith))
       (λ h i l. h i)
 
 -- THE TEST DECIDES: its clauses one by one, with what several of them say of one process or one event taken together.
@@ -359,50 +303,38 @@ module _ (m : Model) (s : State) where
   unfolding soundIn
   decides =
       says-for
-      (says-and
-        (says-and says-eq (says-and says-eq (says-and says-eq (says-and says-eq (says-and says-eq
-        (says-and says-is (says-and says-is
-        (says-and (says-all says-tied (s .blocked)) (says-all (says-all says-tied) (s .waiting))))))))))
-      (says-and
-        (says-and says-le (says-and says-le
-        (says-and (says-all (λ v. says-lt) (s .globals)) (says-and (says-all (λ n. says-le) (s .bins))
-        (says-and says-is (says-and says-is (says-few (s .events) No.returns)))))))
-      (says-and says-is
-      (says-and
-        (says-and (says-ordered says-late (s .events)) (says-and (says-ordered says-ranked (s .blocked))
-        (says-and (says-all (says-ordered says-ranked) (s .waiting)) says-is)))
-      (says-and says-is (says-and says-is (says-and (says-all (λ w. says-is) (s .blocked)) says-is)))))))
+      ((says-eq and says-eq and says-eq and says-eq and says-eq and says-is and says-is
+      and says-all says-tied (s .blocked) and says-all (says-all says-tied) (s .waiting))
+      and (says-le and says-le and says-all (λ v. says-lt) (s .globals) and says-all (λ n. says-le) (s .bins)
+      and says-is and says-is and says-few (s .events) No.returns)
+      and says-is
+      and (says-ordered says-late (s .events) and says-ordered says-ranked (s .blocked)
+      and says-all (says-ordered says-ranked) (s .waiting) and says-is)
+      and says-is and says-is and says-all (λ w. says-is) (s .blocked) and says-is)
       (λ a.
-        let shape = a .0 in
-        let tests = shape .1 .1 .1 .1 .1 in
-        let range = a .1 .0 in
-        let more = range .1 .1 .1 .1 in
-        let order = a .1 .1 .1 .0 in
-        let rest = a .1 .1 .1 .1 in
-        let ps = says-places m s .yes (each-place m s .back (tests .0, (more .0, (a .1 .1 .0, rest .0)))) in
-        let es = says-events m s .yes (each-event m s .back (tests .1 .0, (more .1 .0, order .1 .1 .1))) in
-        record {
-          places-64 = shape .0; syncs-many = shape .1 .1 .1 .1 .0; frees-many = shape .1 .0; bins-many = shape .1 .1 .0;
-          vars-many = shape .1 .1 .1 .0; clock-ok = range .0; last-ok = range .1 .0; globals-ok = range .1 .1 .0;
-          bins-ok = range .1 .1 .1 .0; procs-ok = ps .0; own-number = ps .1; events-ok = es; events-ordered = order .0;
-          few-returns = more .1 .1; blocked-ordered = order .1 .0; blocked-tied = tests .1 .1 .0;
-          blocked-stand = rest .1 .1 .0; waiting-ordered = order .1 .1 .0; waiting-tied = tests .1 .1 .1;
-          in-one = says-in-one s (shape .0) .yes (rest .1 .0);
-          adds-up = says-adds-up m s (shape .1 .0) (ps .0) es .yes (rest .1 .1 .1)
-        })
+      let shape = a .0 in
+      let range = a .1 .0 in
+      let order = a .1 .1 .1 .0 in
+      let tests = shape .1 .1 .1 .1 .1 in
+      let more = range .1 .1 .1 .1 in
+      let rest = a .1 .1 .1 .1 in
+      let ps = says-places m s .yes (each-place m s .back (tests .0 & more .0 & a .1 .1 .0 & rest .0)) in
+      let es = says-events m s .yes (each-event m s .back (tests .1 .0 & more .1 .0 & order .1 .1 .1)) in
+      let one = says-in-one s (shape .0) .yes (rest .1 .0) in
+      let sums = says-adds-up m s (shape .1 .0) (ps .0) es .yes (rest .1 .1 .1) in
+      search)
       (λ h.
-        let p = each-place m s .yes (says-places m s .back (h .procs-ok, h .own-number)) in
-        let e = each-event m s .yes (says-events m s .back (h .events-ok)) in
-        (
-          (h .places-64, (h .frees-many, (h .bins-many, (h .vars-many, (h .syncs-many,
-          (p .0, (e .0, (h .blocked-tied, h .waiting-tied)))))))),
-          ((h .clock-ok, (h .last-ok, (h .globals-ok, (h .bins-ok, (p .1 .0, (e .1 .0, h .few-returns)))))),
-          (p .1 .1 .0,
-          ((h .events-ordered, (h .blocked-ordered, (h .waiting-ordered, e .1 .1))),
-          (p .1 .1 .1,
-          (says-in-one s (h .places-64) .back (h .in-one),
-          (h .blocked-stand, says-adds-up m s (h .frees-many) (h .procs-ok) (h .events-ok) .back (h .adds-up)))))))
-        ))
+      let p = each-place m s .yes (says-places m s .back (h .procs-ok & h .own-number)) in
+      let e = each-event m s .yes (says-events m s .back (h .events-ok)) in
+      (h .places-64 & h .frees-many & h .bins-many & h .vars-many & h .syncs-many
+      & p .0 & e .0 & h .blocked-tied & h .waiting-tied)
+      & (h .clock-ok & h .last-ok & h .globals-ok & h .bins-ok & p .1 .0 & e .1 .0 & h .few-returns)
+      & p .1 .1 .0
+      & (h .events-ordered & h .blocked-ordered & h .waiting-ordered & e .1 .1)
+      & p .1 .1 .1
+      & says-in-one s (h .places-64) .back (h .in-one)
+      & h .blocked-stand
+      & says-adds-up m s (h .frees-many) (h .procs-ok) (h .events-ok) .back (h .adds-up))
 
   pub sound-yes : soundIn m s ≡ true → Sound m s
   sound-yes e = decides .yes e

@@ -1,20 +1,17 @@
--- What a model that passes 1 to 10 is, as far as the promises and the arrays of the engine need it: Fit, Nested, and Forward where
--- its bound is a number.
+-- What a model that passes 1 to 10 is, as far as the promises need it: Fit, Nested, and Forward where its bound is a number.
 -- Assumes nothing.
-use Prim.Native.Nat.{ℕ, zero, suc, _+_, _-_, _≤_, _<_}
+use Prim.Native.Nat.{ℕ, _≤_, _<_}
 use mathlib.Core.Path.{_≡_}
-use mathlib.Core.List.{List, [], _∷_}
-use mathlib.Core.Bool.{Bool, true, false, _&&_}
+use mathlib.Core.Bool.{Bool, false, _&&_}
 use lib.Dec.{eqb}
 use lib.ListN.{length}
 use lib.IntN.{ℤ}
 use lib.Signed.{mag}
 use Rattle.semantics.specs.Numbers as No
-use Rattle.semantics.specs.Model.{
-  Expr, literal, global, local, add, subtract, multiply, lesser, greater, negate, theClock, Item, get, condition, Claim, Branch,
-  Share, Entity, Action, HOLD, PRIO, TRACE, SET, LSET, DO, PUTR, PUTB, PUTS, BECOME, REQ, TRY, WHILE, START, CLOSE,
-  Kind, resource, bin, sync, Model, block, body
-}
+use Rattle.semantics.specs.Model.{Expr, literal, global, local, add, subtract, multiply, lesser, greater, negate, theClock}
+use Rattle.semantics.specs.Model.{Item, get, condition, Claim, Branch, Share, Entity, Action, HOLD, PRIO, TRACE, SET, LSET, DO}
+use Rattle.semantics.specs.Model.{PUTR, PUTB, PUTS, BECOME, REQ, TRY, WHILE, START, CLOSE, Kind, resource, bin, sync, Model}
+use Rattle.semantics.specs.Model.{block, body}
 use Rattle.semantics.specs.Decode.{inner, depth}
 use Rattle.semantics.specs.Claim.{sameKind}
 use Rattle.promises.specs.Laws.{AllOf, Ordered, over}
@@ -107,7 +104,12 @@ pub record Fit (m : Model) : Type 0 where
   pub few-entities : length (m .entities) ≤ 64
   pub few-actions : over length (m .blocks) ≤ 1_024
 
--- A block names later ones, which there are; a class body nests 8 blocks at most.
+-- A block names later ones, which there are, and so does a class.
+pub record Linked (m : Model) : Type 0 where
+  pub later : (b : ℕ) → AllOf (λ a. AllOf (λ k. (b < k) × (k < length (m .blocks))) (inner a)) (block m b)
+  pub there : AllOf (λ b. b < length (m .blocks)) (m .classes)
+
+-- And a class body nests 8 blocks at most.
 pub record Nested (m : Model) : Type 0 where
   pub later : (b : ℕ) → AllOf (λ a. AllOf (λ k. (b < k) × (k < length (m .blocks))) (inner a)) (block m b)
   pub bodies : AllOf (λ b. (b < length (m .blocks)) × (depth m b ≤ 8)) (m .classes)

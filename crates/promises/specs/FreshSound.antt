@@ -8,11 +8,9 @@ use lib.ListN.{length, getD, replicate, length-replicate, length-map}
 use Rattle.semantics.specs.Numbers as No
 use Rattle.semantics.specs.Model.{Model, Entity}
 use Rattle.semantics.specs.State.{State, Process, nobody, newcomer, freePlace, wake, begin, beginAll, bare, fresh}
-use Rattle.promises.specs.Laws.{
-  AllOf, all-map, all-get, all-replicate, Ordered, over-none, over-set, once, once-apart
-}
+use Rattle.promises.specs.Laws.{AllOf, all-map, all-get, all-replicate, Ordered, over-set, over-none, once, once-apart}
 use Rattle.promises.specs.Fit.{EntityFit, Fit}
-use Rattle.promises.specs.Sound.{al, slaved, waits, ProcOk, Ranked, Tied, Sound}
+use Rattle.promises.specs.Sound.{al, waits, slaved, ProcOk, Ranked, Tied, Sound}
 use Rattle.promises.specs.Keep.{livingIn, some-free}
 use Rattle.promises.specs.Moves.{nobody-ok}
 use Rattle.promises.specs.Parts.{zeros-at}
@@ -26,26 +24,35 @@ module _ (m : Model) (t : Fit m) where
   bare-sound : Sound m (bare m)
   bare-sound =
       record {
-        places-64 = length-replicate No.places nobody; syncs-many = length-replicate (m .syncs) [];
-        frees-many = refl; bins-many = refl; vars-many = refl; clock-ok = omega arith; last-ok = omega arith;
+        places-64 = length-replicate No.places nobody;
+        syncs-many = length-replicate (m .syncs) [];
+        frees-many = refl;
+        bins-many = refl;
+        vars-many = refl;
+        clock-ok = omega arith;
+        last-ok = omega arith;
         globals-ok = t .vars-fit;
         bins-ok = all-map (λ n. n ≤ 1_000_000) (λ n. n ≤ No.fullBin) (λ n h. omega arith) (m .amounts) (t .amounts-fit);
         procs-ok = all-replicate (ProcOk m 0) No.places nobody (nobody-ok m 0);
         own-number =
-          λ k h.
-          let a = once-apart k 0 (λ e. absurd (omega arith)) in
-          let b = over-none (λ q. once k (q .number)) No.places nobody a in
-          omega arith;
-        events-ok = tt; events-ordered = tt; few-returns = omega arith;
-        blocked-ordered = tt; blocked-tied = tt; blocked-stand = tt;
+            λ k h.
+            let a = once-apart k 0 (λ e. absurd (omega arith)) in
+            let b = over-none (λ q. once k (q .number)) No.places nobody a in
+            omega arith;
+        events-ok = tt;
+        events-ordered = tt;
+        few-returns = omega arith;
+        blocked-ordered = tt;
+        blocked-tied = tt;
+        blocked-stand = tt;
         waiting-ordered = all-replicate (Ordered Ranked) (m .syncs) [] tt;
         waiting-tied = all-replicate (AllOf (Tied (bare m .processes))) (m .syncs) [] tt;
         in-one =
-          λ k.
-          let a = over-none (waits k) (m .syncs) [] refl in
-          let b = over-none (λ q. slaved k (q .slaves)) No.places nobody refl in
-          let c = all-get Dead (replicate No.places nobody) k nobody (all-replicate Dead No.places nobody refl) refl in
-          omega arith;
+            λ k.
+            let a = over-none (waits k) (m .syncs) [] refl in
+            let b = over-none (λ q. slaved k (q .slaves)) No.places nobody refl in
+            let c = all-get Dead (replicate No.places nobody) k nobody (all-replicate Dead No.places nobody refl) refl in
+            omega arith;
         adds-up = λ j. let a = over-none (λ q. getD (q .held) j 0) No.places nobody refl in omega arith;
       }
 

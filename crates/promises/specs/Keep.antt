@@ -2,38 +2,32 @@
 -- Assumes nothing.
 use Prim.Native.Nat.{ℕ, zero, suc, _+_, _≤_, _<_}
 use native.Mathlib.Omega.{arith}
-use mathlib.Core.Path.{_≡_, refl, sym, ap, _∙_}
+use mathlib.Core.Path.{_≡_, refl, ap, _∙_}
 use mathlib.Core.List.{List, [], _∷_}
-use mathlib.Core.Bool.{Bool, true, false, not, _&&_}
+use mathlib.Core.Bool.{true, not}
 use lib.Dec.{eqb, ltb}
-use borrow.Author.Tests.{ltb-true, ltb-false, eqb-true, eq-eqb}
+use borrow.Author.Tests.{ltb-true, eqb-true}
 use lib.ListN.{length, getD}
 use lib.IntN.{ℤ, pos, negsuc}
 use lib.Signed.{ltZ}
-use Rattle.semantics.specs.Words.{if_then_else_, all, isEmpty, firstAt}
-use Rattle.semantics.specs.State.{
-  State, Process, Frame, Waiter, Event, nobody, process, isFree, living, sooner, higher, enter, join
-}
-use Rattle.promises.specs.Laws.{
-  no-way, and-true, or-true, or-false, AllOf, all-insert, Ordered, ordered-insert, over, over-insert, over-keep, over-same, once
-}
-use Rattle.promises.specs.Sound.{Below, al, Late, Ranked, waits}
+use Rattle.semantics.specs.Words.{if_then_else_, isEmpty, firstAt}
+use Rattle.semantics.specs.Model.{Model}
+use Rattle.semantics.specs.State.{State, Process, Frame, Waiter, Event, nobody, process, isFree, living, sooner, higher, enter}
+use Rattle.semantics.specs.State.{join}
+use Rattle.promises.specs.Laws.{no-way, and-true, or-true, not-false, AllOf, all-insert, Ordered, ordered-insert, over}
+use Rattle.promises.specs.Laws.{over-insert, over-keep, over-same, once}
+use Rattle.promises.specs.Sound.{Below, al, waits, Fine, Vacant, ProcOk, Late, Ranked}
+use Rattle.promises.specs.Says.{says-ranked, says-late}
 
 -- WHOLE NUMBERS.
-pub lt-below : (x y : ℤ) → ltZ x y ≡ true → Below x y
+lt-below : (x y : ℤ) → ltZ x y ≡ true → Below x y
 lt-below (pos a) (pos b) e = let h = ltb-true a b e in omega arith
 lt-below (pos a) (negsuc b) e = no-way e
 lt-below (negsuc a) (pos b) e = omega arith
 lt-below (negsuc a) (negsuc b) e = let h = ltb-true b a e in omega arith
 
-pub nlt-below : (x y : ℤ) → ltZ x y ≡ false → Below y x
-nlt-below (pos a) (pos b) e = let h = ltb-false a b e in omega arith
-nlt-below (pos a) (negsuc b) e = omega arith
-nlt-below (negsuc a) (pos b) e = no-way (sym e)
-nlt-below (negsuc a) (negsuc b) e = let h = ltb-false b a e in omega arith
-
 -- THE EVENT LIST: its order, and what entering keeps.
-pub soon-late : (e f : Event) → sooner e f ≡ true → Late e f
+soon-late : (e f : Event) → sooner e f ≡ true → Late e f
 soon-late e f h =
     or-true (ltb (e .time) (f .time)) _ h (Late e f)
     (λ a. let t = ltb-true (e .time) (f .time) a in record { in-time = omega arith; in-rank = λ g. absurd (omega arith) })
@@ -41,18 +35,6 @@ soon-late e f h =
     let b = and-true (eqb (e .time) (f .time)) _ a in
     let t = eqb-true (e .time) (f .time) (b .0) in
     record { in-time = omega arith; in-rank = λ g. lt-below _ _ (b .1) })
-
-pub not-soon-late : (e f : Event) → sooner e f ≡ false → Late f e
-not-soon-late e f h =
-    let a = or-false (ltb (e .time) (f .time)) _ h in
-    record {
-      in-time = ltb-false (e .time) (f .time) (a .0);
-      in-rank = λ g. nlt-below _ _ (rank (eqb (e .time) (f .time)) (eq-eqb (e .time) (f .time) (sym g)) (a .1));
-    }
-  where
-    rank : (b : Bool) → b ≡ true → b && ltZ (f .priority) (e .priority) ≡ false → ltZ (f .priority) (e .priority) ≡ false
-    rank true x y = y
-    rank false x y = no-way x
 
 late-trans : (e f g : Event) → Late e f → Late f g → Late e g
 late-trans e f g a b =
@@ -68,7 +50,8 @@ module _ (e : Event) (es : List Event) where
 
   pub enter-ordered : Ordered Late es → Ordered Late (enter e es)
   unfolding enter
-  enter-ordered h = ordered-insert Late late-trans sooner soon-late not-soon-late e es h
+  enter-ordered h =
+      ordered-insert Late late-trans sooner soon-late (λ x y g. says-late y x .yes (not-false _ g)) e es h
 
   pub enter-over : (f : Event → ℕ) → over f (enter e es) ≡ f e + over f es
   unfolding enter
@@ -84,37 +67,41 @@ module _ (s : State) (p : ℕ) (ws : List Waiter) where
   pub join-ordered : Ordered Ranked ws → Ordered Ranked (join s p ws)
   unfolding join
   join-ordered h =
-      ordered-insert Ranked (λ x y z a b. omega arith) higher (λ x y e. lt-below _ _ e) (λ x y e. nlt-below _ _ e) _ ws h
+      ordered-insert Ranked (λ x y z a b. omega arith) higher (λ x y g. lt-below _ _ g)
+      (λ x y g. says-ranked y x .yes (not-false _ g)) _ ws h
 
   pub join-waits : (k : ℕ) → waits k (join s p ws) ≡ once k p + waits k ws
   unfolding join
   join-waits k = over-insert _ higher _ ws
 
--- ANY LIST. What all pass holds of each; what is empty has nothing; what counts nothing at a place looks at no change there.
-module _ {A : Type 0} where
-  pub all-hold : (f : A → Bool) (xs : List A) → all f xs ≡ true → AllOf (λ x. f x ≡ true) xs
-  all-hold f [] e = tt
-  all-hold f (x ∷ xs) e = let a = and-true (f x) _ e in (a .0, all-hold f xs (a .1))
-
-  pub empty-is : (xs : List A) → isEmpty xs ≡ true → xs ≡ []
-  empty-is [] e = refl
-  empty-is (x ∷ xs) e = no-way e
-
-  pub away :
-      (f : A → ℕ) (P Q : A → Type 0) → ((a : A) → f a ≡ 0 → P a → Q a) → (xs : List A) → over f xs ≡ 0 → AllOf P xs
-      → AllOf Q xs
-  away f P Q g [] e h = tt
-  away f P Q g (x ∷ xs) e h = (g x (omega arith) (h .0), away f P Q g xs (omega arith) (h .1))
+-- What counts nothing at a place looks at no change there.
+pub away : {A : Type 0} (f : A → ℕ) (P Q : A → Type 0) → ((a : A) → f a ≡ 0 → P a → Q a) → (xs : List A) → over f xs ≡ 0
+    → AllOf P xs → AllOf Q xs
+away f P Q g [] e h = tt
+away f P Q g (x ∷ xs) e h = (g x (omega arith) (h .0), away f P Q g xs (omega arith) (h .1))
 
 -- WHO IS ALIVE.
 pub al-one : (fs : List Frame) → al fs ≤ 1
 al-one [] = omega arith
 al-one (f ∷ fs) = omega arith
 
+pub al-none : (fs : List Frame) → al fs ≡ 0 → fs ≡ []
+al-none [] e = refl
+al-none (f ∷ fs) e = absurd (omega arith)
+
 pub alive-in : (ps : List Process) (k : ℕ) → 1 ≤ al (getD ps k nobody .frames) → k < length ps
 alive-in [] k h = absurd (omega arith)
 alive-in (x ∷ xs) zero h = omega arith
 alive-in (x ∷ xs) (suc k) h = let ih = alive-in xs k h in omega arith
+
+-- A place is free, or somebody lives there who is in order.
+pub free-or-fine : {m : Model} {n : ℕ} {q : Process} (P : Type 0) → ProcOk m n q → (al (q .frames) ≡ 0 → Vacant q → P)
+    → (1 ≤ al (q .frames) → Fine m n q → P) → P
+free-or-fine {q = q} P o f g = go (al (q .frames)) refl
+  where
+    go : (a : ℕ) → al (q .frames) ≡ a → P
+    go zero e = f e (o .dead e)
+    go (suc a) e = let l : 1 ≤ al (q .frames) = omega arith in g l (o .live l)
 
 abbrev pub livingIn : List Process → ℕ
 livingIn ps = over (λ q. al (q .frames)) ps

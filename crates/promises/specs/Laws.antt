@@ -8,11 +8,10 @@ use mathlib.Core.List.{List, [], _∷_, _++_, map}
 use mathlib.Core.Bool.{Bool, true, false, not, _&&_, _||_}
 use mathlib.Core.Option.{Option, none, some}
 use lib.Dec.{eqb}
-use borrow.Author.Tests.{eqb-true, eqb-false, eq-eqb, ne-eqb}
+use borrow.Author.Tests.{eqb-true, eqb-false}
 use lib.ListN.{length, getD, set, take, drop, replicate, getElem?}
-use Rattle.semantics.specs.Words.{
-  if_then_else_, Outcome, ok, fails, Passed, passed, _>>=_, _>>_, need, keep, firstAt, insert, sum
-}
+use Rattle.semantics.specs.Words.{if_then_else_, Outcome, ok, fails, Passed, passed, _>>=_, _>>_, need, all, any, keep, isEmpty}
+use Rattle.semantics.specs.Words.{insert, collect, sum, more, less}
 
 -- TESTS.
 pub no-way : {A : Type 0} → false ≡ true → A
@@ -51,9 +50,16 @@ not-false true e = sym e
 not-false false e = refl
 
 -- A choice has a property where both sides have it.
-pub if-has : {A : Type 0} (P : A → Type 0) (b : Bool) {x y : A} → (b ≡ true → P x) → (b ≡ false → P y) → P (if b then x else y)
+pub if-has : {A : Type 0} (P : A → Type 0) (b : Bool) {x y : A} → (b ≡ true → P x) → (b ≡ false → P y)
+    → P (if b then x else y)
 if-has P true f g = f refl
 if-has P false f g = g refl
+
+-- Two choices by the same test stand in a relation where both sides do.
+pub if-two : {A B : Type 0} (R : A → B → Type 0) (b : Bool) {x y : A} {u v : B} → R x u → R y v
+    → R (if b then x else y) (if b then u else v)
+if-two R true h k = h
+if-two R false h k = k
 
 -- Nothing is both of two forms.
 pub not-some : {A B : Type 0} {a : A} → _≡_ {A = Option A} none (some a) → B
@@ -67,17 +73,20 @@ pub data Good {A : Type 0} (P : A → Type 0) : Outcome A → Type 0 where
   good : {a : A} → P a → Good P (ok a)
   stopped : {n : ℕ} → Good P (fails n)
 
-pub good-bind : {A B : Type 0} {P : B → Type 0} (o : Outcome A) {f : A → Outcome B} → ((a : A) → Good P (f a)) → Good P (_>>=_ o f)
+pub good-bind : {A B : Type 0} {P : B → Type 0} (o : Outcome A) {f : A → Outcome B} → ((a : A) → Good P (f a))
+    → Good P (_>>=_ o f)
 unfolding _>>=_
 good-bind (ok a) h = h a
 good-bind (fails n) h = stopped
 
-pub good-then : {A B : Type 0} (Q : A → Type 0) (P : B → Type 0) (o : Outcome A) {f : A → Outcome B} → Good Q o → ((a : A) → Q a → Good P (f a)) → Good P (_>>=_ o f)
+pub good-then : {A B : Type 0} (Q : A → Type 0) (P : B → Type 0) (o : Outcome A) {f : A → Outcome B} → Good Q o
+    → ((a : A) → Q a → Good P (f a)) → Good P (_>>=_ o f)
 unfolding _>>=_
 good-then Q P (ok a) (good q) h = h a q
 good-then Q P (fails n) q h = stopped
 
-pub good-need : {B : Type 0} {P : B → Type 0} (k : ℕ) (b : Bool) {r : Outcome B} → (b ≡ true → Good P r) → Good P (_>>_ (need k b) r)
+pub good-need : {B : Type 0} {P : B → Type 0} (k : ℕ) (b : Bool) {r : Outcome B} → (b ≡ true → Good P r)
+    → Good P (_>>_ (need k b) r)
 unfolding _>>_ need
 good-need k true h = h refl
 good-need k false h = stopped
@@ -97,12 +106,19 @@ unfolding need
 needed k true e = refl
 needed k false e = not-ok e
 
-pub needed-two : (j k : ℕ) (b c : Bool) → _>>_ (need j b) (need k c) ≡ ok passed → (b ≡ true) × (c ≡ true)
+pub needed-then : (j : ℕ) (b : Bool) (o : Outcome Passed) → _>>_ (need j b) o ≡ ok passed → (b ≡ true) × (o ≡ ok passed)
 unfolding _>>_ need
-needed-two j k true c e = (refl, needed k c e)
-needed-two j k false c e = not-ok e
+needed-then j true o e = (refl, e)
+needed-then j false o e = not-ok e
 
--- LISTS.
+pub needed-two : (j k : ℕ) (b c : Bool) → _>>_ (need j b) (need k c) ≡ ok passed → (b ≡ true) × (c ≡ true)
+needed-two j k b c e = let a = needed-then j b (need k c) e in (a .0, needed k c (a .1))
+
+-- LISTS. Two things that hold, written as a chain where all of a list hold.
+infixr 4 _&_
+abbrev pub _&_ : {A B : Type 0} → A → B → A × B
+_&_ a b = (a, b)
+
 abbrev pub AllOf : {A : Type 0} → (A → Type 0) → List A → Type 0
 AllOf P [] = Unit {0}
 AllOf P (x ∷ xs) = P x × AllOf P xs
@@ -139,10 +155,6 @@ module _ {A : Type 0} where
   all-cut P [] a ys h = h .1
   all-cut P (x ∷ xs) a ys h = (h .0, all-cut P xs a ys (h .1))
 
-  pub all-mid : (P : A → Type 0) (xs : List A) (a : A) (ys : List A) → AllOf P (xs ++ a ∷ ys) → P a
-  all-mid P [] a ys h = h .0
-  all-mid P (x ∷ xs) a ys h = all-mid P xs a ys (h .1)
-
   pub all-drop : (P : A → Type 0) (n : ℕ) (xs : List A) → AllOf P xs → AllOf P (drop n xs)
   all-drop P zero xs h = h
   all-drop P (suc n) [] h = tt
@@ -157,7 +169,39 @@ module _ {A : Type 0} where
   all-insert P b x [] p h = (p, tt)
   all-insert P b x (y ∷ ys) p h = if-has (AllOf P) (b x y) (λ g. (p, h)) (λ g. (h .0, all-insert P b x ys p (h .1)))
 
-  -- Whoever stands before another stands in the relation to it.
+  pub all-split : (P : A → Type 0) (xs ys : List A) → AllOf P (xs ++ ys) → AllOf P xs × AllOf P ys
+  all-split P [] ys h = (tt, h)
+  all-split P (x ∷ xs) ys h = let a = all-split P xs ys (h .1) in ((h .0, a .0), a .1)
+
+  pub all-mapped : {B : Type 0} (P : A → Type 0) (Q : B → Type 0) (f : A → B) → ((x : A) → P x → Q (f x)) → (xs : List A)
+      → AllOf P xs → AllOf Q (map f xs)
+  all-mapped P Q f g [] h = tt
+  all-mapped P Q f g (x ∷ xs) h = (g x (h .0), all-mapped P Q f g xs (h .1))
+
+  pub all-unmap : {B : Type 0} (P : B → Type 0) (f : A → B) (xs : List A) → AllOf P (map f xs) → AllOf (λ x. P (f x)) xs
+  all-unmap P f [] h = tt
+  all-unmap P f (x ∷ xs) h = (h .0, all-unmap P f xs (h .1))
+
+  -- TESTS of all and of any.
+  pub all-hold : (f : A → Bool) (xs : List A) → all f xs ≡ true → AllOf (λ x. f x ≡ true) xs
+  all-hold f [] e = tt
+  all-hold f (x ∷ xs) e = let a = and-true (f x) _ e in (a .0, all-hold f xs (a .1))
+
+  pub none-hold : (f : A → Bool) (xs : List A) → any f xs ≡ false → AllOf (λ x. f x ≡ false) xs
+  none-hold f [] e = tt
+  none-hold f (x ∷ xs) e = let a = or-false (f x) _ e in (a .0, none-hold f xs (a .1))
+
+  -- what follows from any that passes a test and has what all have
+  pub any-has : (P : A → Type 0) (Q : Type 0) (f : A → Bool) → ((x : A) → f x ≡ true → P x → Q) → (xs : List A)
+      → any f xs ≡ true → AllOf P xs → Q
+  any-has P Q f g [] e h = no-way e
+  any-has P Q f g (x ∷ xs) e h = or-true (f x) (any f xs) e Q (λ k. g x k (h .0)) (λ k. any-has P Q f g xs k (h .1))
+
+  pub empty-is : (xs : List A) → isEmpty xs ≡ true → xs ≡ []
+  empty-is [] e = refl
+  empty-is (x ∷ xs) e = no-way e
+
+  -- ORDER. Whoever stands before another stands in the relation to it.
   abbrev pub Ordered : (A → A → Type 0) → List A → Type 0
   Ordered R [] = Unit {0}
   Ordered R (x ∷ xs) = AllOf (R x) xs × Ordered R xs
@@ -171,9 +215,11 @@ module _ {A : Type 0} where
   ordered-drop R (suc n) [] h = tt
   ordered-drop R (suc n) (x ∷ xs) h = ordered-drop R n xs (h .1)
 
-  -- What goes in before the first that it goes before keeps the order, where to go before is to stand in the relation and not to go
-  -- before is to stand behind.
-  pub ordered-insert : (R : A → A → Type 0) → ((x y z : A) → R x y → R y z → R x z) → (b : A → A → Bool) → ((x y : A) → b x y ≡ true → R x y) → ((x y : A) → b x y ≡ false → R y x) → (x : A) (xs : List A) → Ordered R xs → Ordered R (insert b x xs)
+  -- What goes in before the first that it goes before keeps the order, where to go before is to stand in the relation and not to
+  -- go before is to stand behind.
+  pub ordered-insert : (R : A → A → Type 0) → ((x y z : A) → R x y → R y z → R x z) → (b : A → A → Bool)
+      → ((x y : A) → b x y ≡ true → R x y) → ((x y : A) → b x y ≡ false → R y x) → (x : A) (xs : List A) → Ordered R xs
+      → Ordered R (insert b x xs)
   unfolding insert
   ordered-insert R t b f g x [] h = (tt, tt)
   ordered-insert R t b f g x (y ∷ ys) h =
@@ -181,12 +227,7 @@ module _ {A : Type 0} where
       (λ e. let a = f x y e in ((a, all-map (R y) (R x) (λ z c. t x y z a c) ys (h .0)), h))
       (λ e. (all-insert (R y) b x ys (g x y e) (h .0), ordered-insert R t b f g x ys (h .1)))
 
-  -- An element set, and read.
-  pub set-here : (xs : List A) (p : ℕ) (a d : A) → p < length xs → getD (set xs p a) p d ≡ a
-  set-here [] p a d h = absurd (omega arith)
-  set-here (x ∷ xs) zero a d h = refl
-  set-here (x ∷ xs) (suc p) a d h = set-here xs p a d (omega arith)
-
+  -- AN ELEMENT that is there, and what stands from it on.
   pub some-in : (xs : List A) (i : ℕ) (a : A) → getElem? xs i ≡ some a → i < length xs
   some-in [] i a e = not-some e
   some-in (x ∷ xs) zero a e = omega arith
@@ -208,15 +249,6 @@ module _ {A : Type 0} where
   drop-next (x ∷ xs) zero e = not-some (sym e)
   drop-next (x ∷ xs) (suc i) e = let ih = drop-next xs i e in rw add-one (rw add-one at ih)
 
-  -- The first for which a test holds.
-  pub first-is : (f : A → Bool) (xs : List A) (d : A) → firstAt f xs < length xs → f (getD xs (firstAt f xs) d) ≡ true
-  first-is f [] d h = absurd (omega arith)
-  first-is f (x ∷ xs) d h = go (f x) refl (λ g. first-is f xs d g) h
-    where
-      go : (b : Bool) → f x ≡ b → (firstAt f xs < length xs → f (getD xs (firstAt f xs) d) ≡ true) → (if b then 0 else suc (firstAt f xs)) < suc (length xs) → f (getD (x ∷ xs) (if b then 0 else suc (firstAt f xs)) d) ≡ true
-      go true e k g = e
-      go false e k g = k (omega arith)
-
   -- SUMS over a list.
   abbrev pub over : (A → ℕ) → List A → ℕ
   over f xs = sum (map f xs)
@@ -229,9 +261,11 @@ module _ {A : Type 0} where
   unfolding insert
   over-insert f b x [] = refl
   over-insert f b x (y ∷ ys) =
-      if-has (λ (l : List A). over f l ≡ f x + over f (y ∷ ys)) (b x y) (λ g. refl) (λ g. let ih = over-insert f b x ys in omega arith)
+      if-has (λ (l : List A). over f l ≡ f x + over f (y ∷ ys)) (b x y) (λ g. refl)
+      (λ g. let ih = over-insert f b x ys in omega arith)
 
-  pub over-set : (f : A → ℕ) (xs : List A) (i : ℕ) (a d : A) → i < length xs → over f (set xs i a) + f (getD xs i d) ≡ over f xs + f a
+  pub over-set : (f : A → ℕ) (xs : List A) (i : ℕ) (a d : A) → i < length xs
+      → over f (set xs i a) + f (getD xs i d) ≡ over f xs + f a
   over-set f [] i a d h = absurd (omega arith)
   over-set f (x ∷ xs) zero a d h = omega arith
   over-set f (x ∷ xs) (suc i) a d h = let ih = over-set f xs i a d (omega arith) in omega arith
@@ -241,27 +275,70 @@ module _ {A : Type 0} where
   over-split f (suc n) [] = omega arith
   over-split f (suc n) (x ∷ xs) = let ih = over-split f n xs in omega arith
 
+  pub over-zero : (f : A → ℕ) (P : A → Type 0) → ((x : A) → P x → f x ≡ 0) → (xs : List A) → AllOf P xs → over f xs ≡ 0
+  over-zero f P g [] h = refl
+  over-zero f P g (x ∷ xs) h = let a = g x (h .0) in let ih = over-zero f P g xs (h .1) in omega arith
+
   pub over-none : (f : A → ℕ) (n : ℕ) (a : A) → f a ≡ 0 → over f (replicate n a) ≡ 0
-  over-none f zero a e = refl
-  over-none f (suc n) a e = let ih = over-none f n a e in omega arith
+  over-none f n a e = over-zero f (λ x. f x ≡ 0) (λ x h. h) (replicate n a) (all-replicate (λ x. f x ≡ 0) n a e)
 
   pub over-keep : (f : A → Bool) (xs : List A) → length (keep f xs) ≡ over (λ x. if f x then 1 else 0) xs
   over-keep f [] = refl
-  over-keep f (x ∷ xs) = go (f x) (over-keep f xs)
-    where
-      go : (b : Bool) → length (keep f xs) ≡ over (λ x. if f x then 1 else 0) xs → length (if b then x ∷ keep f xs else keep f xs) ≡ (if b then 1 else 0) + over (λ x. if f x then 1 else 0) xs
-      go true ih = omega arith
-      go false ih = omega arith
+  over-keep f (x ∷ xs) =
+      let ih = over-keep f xs in
+      if-two (λ (l : List A) n. length l ≡ n + over (λ x. if f x then 1 else 0) xs) (f x) (omega arith) (omega arith)
 
   pub over-same : (f g : A → ℕ) → ((x : A) → f x ≡ g x) → (xs : List A) → over f xs ≡ over g xs
   over-same f g e [] = refl
   over-same f g e (x ∷ xs) = let ih = over-same f g e xs in let d = e x in omega arith
 
-  -- an element weighs no more than the sum
-  pub over-one : (f : A → ℕ) (xs : List A) (i : ℕ) (d : A) → f d ≡ 0 → f (getD xs i d) ≤ over f xs
-  over-one f [] i d e = omega arith
-  over-one f (x ∷ xs) zero d e = omega arith
-  over-one f (x ∷ xs) (suc i) d e = let ih = over-one f xs i d e in omega arith
+  pub over-most : (f g : A → ℕ) → ((x : A) → f x ≤ g x) → (xs : List A) → over f xs ≤ over g xs
+  over-most f g e [] = omega arith
+  over-most f g e (x ∷ xs) = let ih = over-most f g e xs in let d = e x in omega arith
+
+  pub over-length : (xs : List A) → over (λ x. 1) xs ≡ length xs
+  over-length [] = refl
+  over-length (x ∷ xs) = let ih = over-length xs in omega arith
+
+  pub length-insert : (b : A → A → Bool) (x : A) (xs : List A) → length (insert b x xs) ≡ suc (length xs)
+  length-insert b x xs =
+      let i = over-insert (λ y. 1) b x xs in let m = over-length (insert b x xs) in let n = over-length xs in omega arith
+
+  -- where a sum is not 0, something isn't
+  pub over-found : (f : A → ℕ) (P : A → Type 0) (Q : Type 0) → ((x : A) → P x → 1 ≤ f x → Q) → (xs : List A) → AllOf P xs
+      → 1 ≤ over f xs → Q
+  over-found f P Q h [] p l = absurd (omega arith)
+  over-found f P Q h (x ∷ xs) p l = go (f x) refl (λ n. over-found f P Q h xs (p .1) n)
+    where
+      go : (n : ℕ) → f x ≡ n → (1 ≤ over f xs → Q) → Q
+      go zero e k = k (omega arith)
+      go (suc n) e k = h x (p .0) (omega arith)
+
+  -- an element set that weighs what stood there weighs the same there and changes no sum
+  pub over-still : (f : A → ℕ) (xs : List A) (i : ℕ) (a d : A) → f a ≡ f (getD xs i d) → over f (set xs i a) ≡ over f xs
+  over-still f [] i a d e = refl
+  over-still f (x ∷ xs) zero a d e = omega arith
+  over-still f (x ∷ xs) (suc i) a d e = let ih = over-still f xs i a d e in omega arith
+
+  pub get-still : {B : Type 0} (f : A → B) (xs : List A) (i : ℕ) (a d : A) → f a ≡ f (getD xs i d)
+      → f (getD (set xs i a) i d) ≡ f (getD xs i d)
+  get-still f [] i a d e = refl
+  get-still f (x ∷ xs) zero a d e = e
+  get-still f (x ∷ xs) (suc i) a d e = get-still f xs i a d e
+
+module _ {A B : Type 0} (f : B → ℕ) where
+  pub over-map : (g : A → B) (xs : List A) → over f (map g xs) ≡ over (λ x. f (g x)) xs
+  over-map g [] = refl
+  over-map g (x ∷ xs) = let ih = over-map g xs in omega arith
+
+  pub over-collect : (g : A → List B) (xs : List A) → over f (collect g xs) ≡ over (λ x. over f (g x)) xs
+  over-collect g [] = refl
+  over-collect g (x ∷ xs) = let ih = over-collect g xs in let a = over-append f (g x) (collect g xs) in omega arith
+
+pub all-collect : {A B : Type 0} (P : B → Type 0) (f : A → List B) (xs : List A) → AllOf P (collect f xs)
+    → AllOf (λ x. AllOf P (f x)) xs
+all-collect P f [] h = tt
+all-collect P f (x ∷ xs) h = let a = all-split P (f x) (collect f xs) h in (a .0, all-collect P f xs (a .1))
 
 -- A NUMBER AT ONE INDEX: n where i is j, else 0; and 1 there.
 abbrev pub only : ℕ → ℕ → ℕ → ℕ
@@ -273,21 +350,11 @@ only (suc i) (suc j) n = only i j n
 abbrev pub once : ℕ → ℕ → ℕ
 once i j = only i j 1
 
-pub once-self : (i : ℕ) → once i i ≡ 1
-once-self zero = refl
-once-self (suc i) = once-self i
-
 pub once-same : (i j : ℕ) → 1 ≤ once i j → i ≡ j
 once-same zero zero h = refl
 once-same zero (suc j) h = absurd (omega arith)
 once-same (suc i) zero h = absurd (omega arith)
 once-same (suc i) (suc j) h = ap suc (once-same i j h)
-
-pub once-apart : (i j : ℕ) → (i ≡ j → ⊥) → once i j ≡ 0
-once-apart zero zero h = absurd (h refl)
-once-apart zero (suc j) h = refl
-once-apart (suc i) zero h = refl
-once-apart (suc i) (suc j) h = once-apart i j (λ e. h (ap suc e))
 
 pub only-none : (i j : ℕ) → only i j 0 ≡ 0
 only-none zero zero = refl
@@ -305,6 +372,18 @@ pub only-here : (i n : ℕ) → only i i n ≡ n
 only-here zero n = refl
 only-here (suc i) n = only-here i n
 
+pub once-self : (i : ℕ) → once i i ≡ 1
+once-self i = only-here i 1
+
+pub once-apart : (i j : ℕ) → (i ≡ j → ⊥) → once i j ≡ 0
+once-apart i j h = only-apart i j 1 h
+
+pub only-add : (k i a b : ℕ) → only k i (a + b) ≡ only k i a + only k i b
+only-add zero zero a b = refl
+only-add zero (suc i) a b = refl
+only-add (suc k) zero a b = refl
+only-add (suc k) (suc i) a b = only-add k i a b
+
 -- the same as a test
 pub only-if : (i j n : ℕ) → only i j n ≡ (if eqb i j then n else 0)
 only-if i j n = go (eqb i j) refl
@@ -321,10 +400,28 @@ module _ {A : Type 0} where
   set-away (x ∷ xs) (suc p) zero a d h = refl
   set-away (x ∷ xs) (suc p) (suc k) a d h = set-away xs p k a d h
 
+  -- how many have number k
+  pub keep-once : (k : ℕ) (f : A → ℕ) (xs : List A) → length (keep (λ x. eqb k (f x)) xs) ≡ over (λ x. once k (f x)) xs
+  keep-once k f xs = over-keep (λ x. eqb k (f x)) xs ∙ over-same _ _ (λ x. sym (only-if k (f x) 1)) xs
+
   -- a number read at k after a change at i
-  pub over-at : (f : A → ℕ) (xs : List A) (i k : ℕ) (a d : A) → i < length xs → f (getD (set xs i a) k d) + only k i (f (getD xs i d)) ≡ f (getD xs k d) + only k i (f a)
+  pub over-at : (f : A → ℕ) (xs : List A) (i k : ℕ) (a d : A) → i < length xs
+      → f (getD (set xs i a) k d) + only k i (f (getD xs i d)) ≡ f (getD xs k d) + only k i (f a)
   over-at f [] i k a d h = absurd (omega arith)
   over-at f (x ∷ xs) zero zero a d h = omega arith
   over-at f (x ∷ xs) zero (suc k) a d h = omega arith
   over-at f (x ∷ xs) (suc i) zero a d h = omega arith
   over-at f (x ∷ xs) (suc i) (suc k) a d h = over-at f xs i k a d (omega arith)
+
+-- a more, or a less, at index i
+module _ (xs : List ℕ) (i a k : ℕ) (h : i < length xs) where
+  pub more-at : getD (more xs i a) k 0 ≡ getD xs k 0 + only k i a
+  more-at =
+      let b = over-at (λ x. x) xs i k (getD xs i 0 + a) 0 h in let d = only-add k i (getD xs i 0) a in omega arith
+
+  pub less-at : a ≤ getD xs i 0 → getD (less xs i a) k 0 + only k i a ≡ getD xs k 0
+  less-at e =
+      let b = over-at (λ x. x) xs i k (getD xs i 0 - a) 0 h in
+      let d : getD xs i 0 ≡ (getD xs i 0 - a) + a = omega arith in
+      let f = ap (only k i) d ∙ only-add k i (getD xs i 0 - a) a in
+      omega arith

@@ -7,40 +7,37 @@ use mathlib.Core.Path.{_≡_, refl, ap, _∙_}
 use mathlib.Core.List.{List, [], _∷_, _++_, map}
 use mathlib.Core.Bool.{Bool, true, false, not}
 use mathlib.Core.Option.{Option, none, some}
-use lib.Dec.{ltb}
+use lib.Dec.{eqb, ltb}
 use borrow.Author.Tests.{ltb-true, ltb-false}
 use lib.IntN.{natAbs}
 use lib.Signed.{leZ}
 use lib.ListN.{length, getD, set, drop, length-append, length-set}
-use Rattle.semantics.specs.Words.{if_then_else_, Outcome, ok, fails, isEmpty, firstAt, all, insert, largest, more, less}
+use Rattle.semantics.specs.Words.{if_then_else_, Outcome, ok, fails, isEmpty, all, largest, more, less}
 use Rattle.semantics.specs.Numbers as No
-use Rattle.semantics.specs.Model.{
-  Action, HOLD, PRIO, TRACE, SET, LSET, DO, PUTR, PUTB, PUTS, BECOME, REQ, TRY, WHILE, START, CLOSE, Expr, Item, get, condition,
-  resource, bin, sync, Claim, Branch, Share, Model, block, body
-}
-use Rattle.semantics.specs.State.{
-  State, Process, Frame, Waiter, Event, Notice, wakes, returnsR, returnsB, Floor, empty, held, nobody, isFree, process, put,
-  freePlace, living, at-clock, with-last, with-globals, with-free, with-bins, with-waiting, with-floor, with-events,
-  with-priority, with-locals, with-held, with-slaves, with-frames, sooner, enter, wake, higher, join, onward, past, into,
-  newcomer, begin
-}
+use Rattle.semantics.specs.Model.{Action, HOLD, PRIO, TRACE, SET, LSET, DO, PUTR, PUTB, PUTS, BECOME, REQ, TRY, WHILE, START}
+use Rattle.semantics.specs.Model.{CLOSE, Expr, Item, get, condition, resource, bin, sync, Claim, Branch, Share, Model, block}
+use Rattle.semantics.specs.Model.{body}
+use Rattle.semantics.specs.State.{State, Process, Frame, Waiter, Event, Notice, wakes, returnsR, returnsB, Floor, empty, held}
+use Rattle.semantics.specs.State.{nobody, process, put, freePlace, living, at-clock, with-last, with-globals, with-free}
+use Rattle.semantics.specs.State.{with-bins, with-waiting, with-floor, with-events, with-priority, with-locals, with-held}
+use Rattle.semantics.specs.State.{with-slaves, with-frames, sooner, enter, wake, higher, join, onward, past, into, newcomer}
+use Rattle.semantics.specs.State.{begin}
 use Rattle.semantics.specs.Value.{eval}
-use Rattle.semantics.specs.Claim.{
-  takeItem, takeAll, Offer, Then, pass, enterBlock, offers, offersAt, standsIn, asks, met, barred, Choice, waits, goes,
-  firstMet, choice, follow, grant
-}
+use Rattle.semantics.specs.Claim.{takeItem, takeAll, Offer, Then, pass, enterBlock, offers, standsIn, asks, goes, choice}
+use Rattle.semantics.specs.Claim.{follow, grant}
 use Rattle.semantics.specs.Walk.{Next, quiet, walkOn, walk}
-use Rattle.semantics.specs.Step.{
-  lowest, ofReturns, kept, handed, freed, stay, freeAll, comesBack, leave, ends, exhausted, hold, prio, setGlobal, setLocal,
-  doTimes, notify, putr, putb, become, puts, start, before, request, trace, close, act, moves, occurs, next, step
-}
-use Rattle.semantics.specs.Bound.{weigh, weight}
-use Rattle.promises.specs.Laws.{
-  no-way, and-true, if-has, not-some, Good, good, stopped, good-bind, good-need, good-map, AllOf, all-get, all-at, drop-some,
-  drop-none, drop-next, first-is, over, over-insert, over-set, over-keep, over-same
-}
+use Rattle.semantics.specs.Step.{lowest, ofReturns, kept, handed, freed, stay, freeAll, comesBack, leave, ends, exhausted, hold}
+use Rattle.semantics.specs.Step.{prio, setGlobal, setLocal, doTimes, notify, putr, putb, become, puts, start, inFront, request}
+use Rattle.semantics.specs.Step.{trace, close, act, moves, occurs, next, step}
+use Rattle.semantics.specs.Bound.{kindOf, weigh, weight}
+use Rattle.promises.specs.Laws.{no-way, and-true, if-has, not-some, Good, good, stopped, good-bind, good-need, good-map}
+use Rattle.promises.specs.Laws.{AllOf, all-map, all-get, all-hold, drop-some, drop-none, drop-next, over, over-insert}
+use Rattle.promises.specs.Laws.{over-set, length-insert, over-still}
 use Rattle.promises.specs.Fit.{GoesForward, Forward}
 use Rattle.promises.specs.Sound.{al, owes, returning, Sound}
+use Rattle.promises.specs.Keep.{al-none, alive-in, living-are, FreeAt, some-free}
+use Rattle.promises.specs.Parts.{at-stands, moves-has, onward-al}
+use Rattle.promises.specs.Takes.{still-grant, take-frames, chosen, asks-at, choice-has}
 use Rattle.promises.specs.Weight.{weight-is}
 
 -- x is at most y, and is y where N holds.
@@ -59,18 +56,6 @@ pub together : {N : Type 0} {x y v w : ℕ} → AtMost N x y → AtMost N v w �
 together a b =
     record { le = let h = a .le in let g = b .le in omega arith; eq = λ n. let h = a .eq n in let g = b .eq n in omega arith }
 
--- LAWS that Laws does not have.
-all-are : {A : Type 0} (f : A → Bool) (P : A → Type 0) → ((a : A) → f a ≡ true → P a) → (xs : List A) → all f xs ≡ true →
-    AllOf P xs
-all-are f P g [] e = tt
-all-are f P g (x ∷ xs) e = let h = and-true (f x) _ e in (g x (h .0), all-are f P g xs (h .1))
-
-length-insert : {A : Type 0} (b : A → A → Bool) (x : A) (xs : List A) → length (insert b x xs) ≡ suc (length xs)
-unfolding insert
-length-insert b x [] = refl
-length-insert {A = A} b x (y ∷ ys) =
-    if-has (λ (l : List A). length l ≡ suc (suc (length ys))) (b x y) (λ h. refl) (λ h. ap suc (length-insert b x ys))
-
 -- Good by computation, for an outcome that computes to its form.
 abbrev ValueHas : {A : Type 0} → (A → Type 0) → Outcome A → Type 0
 ValueHas P (ok a) = P a
@@ -82,26 +67,12 @@ computed {o = fails n} h = stopped
 
 -- NO TRY, as a test and as what it tells of every block.
 abbrev pub notTry : Action → Bool
-notTry (HOLD e) = true
-notTry (PRIO e) = true
-notTry (TRACE e) = true
-notTry (SET i e) = true
-notTry (LSET i e) = true
-notTry (DO n b) = true
-notTry (PUTR i n) = true
-notTry (PUTB i n) = true
-notTry (PUTS i n) = true
-notTry (BECOME i) = true
-notTry (REQ c) = true
-notTry (TRY bs) = false
-notTry (WHILE b c) = true
-notTry (START c t h) = true
-notTry CLOSE = true
+notTry a = not (eqb (kindOf a) (kindOf (TRY [])))
 
 abbrev pub noTry : Model → Bool
 noTry m = all (all notTry) (m .blocks)
 
-abbrev pub NotTry : Action → Type 0
+abbrev NotTry : Action → Type 0
 NotTry a = notTry a ≡ true
 
 pub record NoTry (m : Model) : Type 0 where
@@ -109,8 +80,8 @@ pub record NoTry (m : Model) : Type 0 where
 
 pub no-try : (m : Model) → noTry m ≡ true → NoTry m
 no-try m e =
-    let each = all-are notTry NotTry (λ a h. h) in
-    record { none-is = λ b. all-get (AllOf NotTry) (m .blocks) b [] (all-are (all notTry) (AllOf NotTry) each (m .blocks) e) tt }
+    let each = all-map _ (AllOf NotTry) (λ xs h. all-hold notTry xs h) (m .blocks) (all-hold (all notTry) (m .blocks) e) in
+    record { none-is = λ b. all-get (AllOf NotTry) (m .blocks) b [] each tt }
 
 -- WHAT IS LEFT of a frame from action i on: this round's actions and its end, and the rounds after it.
 abbrev restFrom : Model → ℕ → ℕ → ℕ
@@ -134,62 +105,30 @@ allLeft m ps = over (λ q. framesLeft m (q .frames)) ps
 unfoldable pub total : Model → State → ℕ
 total m s = allLeft m (s .processes) + returning (s .events)
 
--- What a step does to it, with nothing subtracted. A blocked process has paid for the REQ or TRY where it stands.
-abbrev pub Falls : Model → State → Next → Type 0
-Falls m s n = AtMost (NoTry m) (total m (n .state) + length (s .blocked) + 1) (total m s + length (n .state .blocked))
+-- What k steps from s to t take from it, with nothing subtracted. A blocked process has paid for the REQ or TRY where it stands.
+abbrev pub Fell : Model → State → ℕ → State → Type 0
+Fell m s k t = AtMost (NoTry m) (total m t + length (s .blocked) + k) (total m s + length (t .blocked))
 
-pub all-left-set : (m : Model) (ps : List Process) (p : ℕ) (r : Process) → p < length ps →
-    allLeft m (set ps p r) + framesLeft m (getD ps p nobody .frames) ≡ allLeft m ps + framesLeft m (r .frames)
+abbrev pub Falls : Model → State → Next → Type 0
+Falls m s n = Fell m s 1 (n .state)
+
+all-left-set : (m : Model) (ps : List Process) (p : ℕ) (r : Process) → p < length ps
+    → allLeft m (set ps p r) + framesLeft m (getD ps p nobody .frames) ≡ allLeft m ps + framesLeft m (r .frames)
 all-left-set m ps p r h = over-set (λ q. framesLeft m (q .frames)) ps p r nobody h
 
 wake-total : (m : Model) (c p : ℕ) (s : State) → total m (wake c p s) ≡ total m s
 unfolding wake enter total
 wake-total m c p s = rw over-insert (omega arith)
 
--- FREE PLACES. Where fewer live than there are places, one is free, and the first such is empty. `alive`: how many live.
-abbrev pub alive : List Process → ℕ
-alive ps = over (λ q. al (q .frames)) ps
-
-alive-or-free : (fs : List Frame) → (if not (isEmpty fs) then 1 else 0) ≡ al fs
-alive-or-free [] = refl
-alive-or-free (f ∷ fs) = refl
-
-living-is : (s : State) → living s ≡ alive (s .processes)
-living-is s =
-    over-keep (λ q. not (isFree q)) (s .processes)
-    ∙ over-same (λ q. if not (isFree q) then 1 else 0) (λ q. al (q .frames)) (λ q. alive-or-free (q .frames)) (s .processes)
-
-pub some-free : (ps : List Process) → alive ps < length ps → firstAt isFree ps < length ps
-some-free [] h = absurd (omega arith)
-some-free (q ∷ qs) h = go (q .frames) (λ k. some-free qs k) h
-  where
-    go : (fs : List Frame) → (alive qs < length qs → firstAt isFree qs < length qs) →
-        al fs + alive qs < suc (length qs) →
-        (if isEmpty fs then 0 else suc (firstAt isFree qs)) < suc (length qs)
-    go [] k g = omega arith
-    go (f ∷ fs) k g = let x = k (omega arith) in omega arith
-
-pub lives-in : (ps : List Process) (p : ℕ) → 1 ≤ al (getD ps p nobody .frames) → p < length ps
-lives-in [] p h = absurd (omega arith)
-lives-in (q ∷ qs) zero h = omega arith
-lives-in (q ∷ qs) (suc p) h = let ih = lives-in qs p h in omega arith
-
-pub free-empty : (ps : List Process) → firstAt isFree ps < length ps → getD ps (firstAt isFree ps) nobody .frames ≡ []
-free-empty ps l = go (getD ps (firstAt isFree ps) nobody .frames) (first-is isFree ps nobody l)
-  where
-    go : (fs : List Frame) → isEmpty fs ≡ true → fs ≡ []
-    go [] e = refl
-    go (f ∷ fs) e = no-way e
-
 -- A new process adds the weight of its class.
-pub begin-total : (m : Model) → Forward m → (c d : ℕ) (h : List ℕ) (s : State) → freePlace s < length (s .processes) →
-    total m (begin m c d h s) ≡ total m s + (weight m (body m c) + 1)
+pub begin-total : (m : Model) → Forward m → (c d : ℕ) (h : List ℕ) (s : State) → FreeAt (s .processes) (freePlace s)
+    → total m (begin m c d h s) ≡ total m s + (weight m (body m c) + 1)
 unfolding begin total
 begin-total m t c d h s l =
     let i = freePlace s in
     let new = newcomer m (s .last + 1) c h in
-    let x = all-left-set m (s .processes) i new l in
-    let z = ap (framesLeft m) (free-empty (s .processes) l) in
+    let x = all-left-set m (s .processes) i new (l .0) in
+    let z = ap (framesLeft m) (al-none (process s i .frames) (l .1)) in
     let w = weight-is m t (body m c) in
     let y = wake-total m d i (put i new (with-last s (s .last + 1))) in
     omega arith
@@ -204,33 +143,22 @@ unfolding onward
 onward-left m [] = refl
 onward-left m (f ∷ fs) = refl
 
-onward-al : (fs : List Frame) → al (onward fs) ≡ al fs
-unfolding onward
-onward-al [] = refl
-onward-al (f ∷ fs) = refl
-
--- What holds of the actions of every block holds of the one where a process stands.
-at-stands : (P : ℕ → Action → Type 0) (m : Model) → ((b : ℕ) → AllOf (P b) (block m b)) → (fs : List Frame) (a : Action) →
-    standsIn m fs ≡ some a → (b : ℕ) × P b a
-at-stands P m h [] a e = not-some e
-at-stands P m h (f ∷ fs) a e = (f .block, all-at (P (f .block)) (block m (f .block)) (f .at) a (h (f .block)) e)
-
 stands-alive : (m : Model) (fs : List Frame) (a : Action) → standsIn m fs ≡ some a → 1 ≤ al fs
 stands-alive m [] a e = not-some e
 stands-alive m (f ∷ fs) a e = omega arith
 
-stands-left : (m : Model) (fs : List Frame) (a : Action) → standsIn m fs ≡ some a →
-    framesLeft m fs ≡ weigh m (weight m) a + outerLeft m fs
+stands-left : (m : Model) (fs : List Frame) (a : Action) → standsIn m fs ≡ some a
+    → framesLeft m fs ≡ weigh m (weight m) a + outerLeft m fs
 stands-left m [] a e = not-some e
 stands-left m (f ∷ fs) a e = let d = drop-some (block m (f .block)) (f .at) a e in rw d (omega arith)
 
 -- The process in place p, which stands at the action a, goes on as r.
 module _ (m : Model) (s : State) (p : ℕ) (a : Action) (e : standsIn m (process s p .frames) ≡ some a) where
   is-in : p < length (s .processes)
-  is-in = lives-in (s .processes) p (stands-alive m (process s p .frames) a e)
+  is-in = alive-in (s .processes) p (stands-alive m (process s p .frames) a e)
 
-  spend : (r : Process) →
-      allLeft m (set (s .processes) p r) + (weigh m (weight m) a + outerLeft m (process s p .frames))
+  spend : (r : Process)
+      → allLeft m (set (s .processes) p r) + (weigh m (weight m) a + outerLeft m (process s p .frames))
       ≡ allLeft m (s .processes) + framesLeft m (r .frames)
   spend r =
       let x = all-left-set m (s .processes) p r is-in in
@@ -238,62 +166,25 @@ module _ (m : Model) (s : State) (p : ℕ) (a : Action) (e : standsIn m (process
       omega arith
 
   -- Where fewer live than there are places, one is free also after that, if r lives.
-  put-free : length (s .processes) ≡ No.places → (r : Process) → al (r .frames) ≡ al (process s p .frames) →
-      living s < No.places → freePlace (put p r s) < length (put p r s .processes)
+  put-free : length (s .processes) ≡ No.places → (r : Process) → al (r .frames) ≡ al (process s p .frames)
+      → living s < No.places → FreeAt (put p r s .processes) (freePlace (put p r s))
   put-free l r g h =
-      let x = over-set (λ q. al (q .frames)) (s .processes) p r nobody is-in in
-      let y = living-is s in
+      let x = over-still (λ q. al (q .frames)) (s .processes) p r nobody g in
+      let y = living-are s in
       let z = length-set (s .processes) p r in
       some-free (set (s .processes) p r) (omega arith)
 
 -- CLAIMS. Taking one changes no frames.
-record Alike (m : Model) (p : ℕ) (s t : State) : Type 0 where
-  same-left : allLeft m (t .processes) ≡ allLeft m (s .processes)
-  same-frames : process t p .frames ≡ process s p .frames
-  same-events : t .events ≡ s .events
-  same-blocked : t .blocked ≡ s .blocked
-
-alike : (m : Model) (p : ℕ) (s : State) → Alike m p s s
-alike m p s = record { same-left = refl; same-frames = refl; same-events = refl; same-blocked = refl }
-
-left-alike : (m : Model) (ps : List Process) (p : ℕ) (r : Process) → r .frames ≡ getD ps p nobody .frames →
-    allLeft m (set ps p r) ≡ allLeft m ps
-left-alike m [] p r e = refl
-left-alike m (x ∷ xs) zero r e = rw e
-left-alike m (x ∷ xs) (suc p) r e = rw (left-alike m xs p r e)
-
-frames-alike : (ps : List Process) (p : ℕ) (r : Process) → r .frames ≡ getD ps p nobody .frames →
-    getD (set ps p r) p nobody .frames ≡ getD ps p nobody .frames
-frames-alike [] p r e = refl
-frames-alike (x ∷ xs) zero r e = e
-frames-alike (x ∷ xs) (suc p) r e = frames-alike xs p r e
-
-put-alike : (m : Model) (p : ℕ) (s t : State) (r : Process) → t .processes ≡ set (s .processes) p r →
-    r .frames ≡ process s p .frames → t .events ≡ s .events → t .blocked ≡ s .blocked → Alike m p s t
-put-alike m p s t r g e f h =
-    record {
-      same-left = ap (allLeft m) g ∙ left-alike m (s .processes) p r e;
-      same-frames = ap (λ ps. getD ps p nobody .frames) g ∙ frames-alike (s .processes) p r e;
-      same-events = f; same-blocked = h
-    }
-
-item-alike : (m : Model) (p : ℕ) (i : Item) (s : State) → Alike m p s (takeItem p i s)
-unfolding takeItem
-item-alike m p (get resource i n) s = put-alike m p s _ _ refl refl refl refl
-item-alike m p (get bin i n) s = record { same-left = refl; same-frames = refl; same-events = refl; same-blocked = refl }
-item-alike m p (get sync i n) s = put-alike m p s _ _ refl refl refl refl
-item-alike m p (condition i r v) s = alike m p s
-
-take-alike : (m : Model) (p : ℕ) (c : Claim) (s : State) → Alike m p s (takeAll p c s)
-unfolding takeAll
-take-alike m p [] s = alike m p s
-take-alike m p (i ∷ is) s =
-    let x = item-alike m p i s in
-    let y = take-alike m p is (takeItem p i s) in
-    record {
-      same-left = y .same-left ∙ x .same-left; same-frames = y .same-frames ∙ x .same-frames;
-      same-events = y .same-events ∙ x .same-events; same-blocked = y .same-blocked ∙ x .same-blocked
-    }
+take-left : (m : Model) (p : ℕ) (c : Claim) (s : State) → allLeft m (takeAll p c s .processes) ≡ allLeft m (s .processes)
+unfolding takeAll takeItem
+take-left m p [] s = refl
+take-left m p (i ∷ is) s = take-left m p is (takeItem p i s) ∙ of-item i
+  where
+    of-item : (i : Item) → allLeft m (takeItem p i s .processes) ≡ allLeft m (s .processes)
+    of-item (get resource i n) = over-still (λ q. framesLeft m (q .frames)) (s .processes) p _ nobody refl
+    of-item (get bin i n) = refl
+    of-item (get sync i n) = over-still (λ q. framesLeft m (q .frames)) (s .processes) p _ nobody refl
+    of-item (condition i r v) = refl
 
 -- What an offer leads to weighs less than the action that makes it.
 abbrev thenLeft : Model → Then → ℕ
@@ -303,8 +194,8 @@ thenLeft m (enterBlock b) = weight m b + 1
 abbrev Fits : Model → Action → Offer → Type 0
 Fits m a o = AtMost (NotTry a) (thenLeft m (o .andThen) + 1) (weigh m (weight m) a)
 
-branches-fit : (m : Model) (bs : List Branch) (n : ℕ) → largest (map (λ b. weight m (b .block) + 1) bs) ≤ n →
-    AllOf (λ o. AtMost (false ≡ true) (thenLeft m (o .andThen) + 1) (1 + n))
+branches-fit : (m : Model) (bs : List Branch) (n : ℕ) → largest (map (λ b. weight m (b .block) + 1) bs) ≤ n
+    → AllOf (λ o. AtMost (false ≡ true) (thenLeft m (o .andThen) + 1) (1 + n))
     (map {B = Offer} (λ b. record { claim = b .claim; andThen = enterBlock (b .block) }) bs)
 branches-fit m [] n h = tt
 branches-fit m (b ∷ bs) n h = (record { le = omega arith; eq = no-way }, branches-fit m bs n (omega arith))
@@ -327,41 +218,6 @@ offers-fit m b (WHILE k c) h = absurd h
 offers-fit m b (START c t g) h = tt
 offers-fit m b CLOSE h = tt
 
--- What was chosen was offered.
-not-goes : {A : Type 0} {i : ℕ} {o : Offer} → waits ≡ goes i o → A
-not-goes e = let z : _≡_ {A = ℕ} 0 1 = cc in absurd (omega arith)
-
-met-in : (P : Offer → Type 0) (s : State) (k : ℕ) (os : List Offer) (i : ℕ) (o : Offer) → AllOf P os →
-    firstMet s k os ≡ goes i o → P o
-unfolding firstMet
-met-in P s k [] i o h e = not-goes e
-met-in P s k (x ∷ xs) i o h e = go (met s (x .claim)) (λ g. met-in P s (suc k) xs i o (h .1) g) e
-  where
-    go : (b : Bool) → (firstMet s (suc k) xs ≡ goes i o → P o) →
-        _≡_ {A = Choice} (elim b [ true ↦ goes k x | false ↦ firstMet s (suc k) xs ]) (goes i o) → P o
-    go true f g = let z : x ≡ o = cc in rw (← z) (h .0)
-    go false f g = f g
-
-choice-in : (P : Offer → Type 0) (m : Model) (s : State) (ws : List Waiter) (os : List Offer) (i : ℕ) (o : Offer) → AllOf P os →
-    choice m s ws os ≡ goes i o → P o
-unfolding choice
-choice-in P m s ws os i o h e = go (barred m s ws os) e
-  where
-    go : (b : Bool) → _≡_ {A = Choice} (elim b [ true ↦ waits | false ↦ firstMet s 0 os ]) (goes i o) → P o
-    go true g = not-goes g
-    go false g = met-in P s 0 os i o h g
-
-choice-has : {A : Type 0} (P : A → Type 0) (c : Choice) {x : A} {y : ℕ → Offer → A} → P x →
-    ((i : ℕ) (o : Offer) → c ≡ goes i o → P (y i o)) → P (elim c [ waits ↦ x | goes i o ↦ y i o ])
-choice-has P waits f g = f
-choice-has P (goes i o) f g = g i o refl
-
-grant-alike : (m : Model) (p : ℕ) (o : Offer) (s : State) →
-    (returning (grant p o s .events) ≡ returning (s .events)) × (length (grant p o s .blocked) ≡ length (s .blocked))
-unfolding grant
-grant-alike m p o s =
-    let k = take-alike m p (o .claim) s in (ap returning (k .same-events), ap length (k .same-blocked))
-
 module _ (m : Model) (t : Forward m) where
   follow-left : (f : Then) (q : Process) → framesLeft m (follow f q .frames) ≡ thenLeft m f + outerLeft m (q .frames)
   unfolding past into
@@ -369,35 +225,32 @@ module _ (m : Model) (t : Forward m) where
   follow-left (enterBlock b) q = rw (weight-is m t b) (omega arith)
 
   -- A process that stands at a and takes one of a's offers has at least one step less left.
-  grant-less : (s : State) (ws : List Waiter) (p : ℕ) (a : Action) (i : ℕ) (o : Offer) →
-      standsIn m (process s p .frames) ≡ some a → choice m s ws (offers a) ≡ goes i o →
-      AtMost (NoTry m) (allLeft m (grant p o s .processes) + 1) (allLeft m (s .processes))
+  grant-less : (s : State) (ws : List Waiter) (p : ℕ) (a : Action) (i : ℕ) (o : Offer)
+      → standsIn m (process s p .frames) ≡ some a → choice m s ws (offers a) ≡ goes i o
+      → AtMost (NoTry m) (allLeft m (grant p o s .processes) + 1) (allLeft m (s .processes))
   unfolding grant
   grant-less s ws p a i o e c =
       let u : State = takeAll p (o .claim) s in
-      let k = take-alike m p (o .claim) s in
-      let x = spend m u p a (ap (standsIn m) (k .same-frames) ∙ e) (follow (o .andThen) (process u p)) in
+      let k = take-frames p (o .claim) s in
+      let x = spend m u p a (ap (standsIn m) k ∙ e) (follow (o .andThen) (process u p)) in
+      let j = ap (outerLeft m) k in
       let y = follow-left (o .andThen) (process u p) in
-      let z = k .same-left in
-      let f = at-stands (GoesForward m) m (t .forward) (process s p .frames) a e in
-      let h = choice-in (Fits m a) m s ws (offers a) i o (offers-fit m (f .0) a (f .1)) c in
-      let fit : AtMost (NoTry m) (thenLeft m (o .andThen) + 1) (weigh m (weight m) a) =
-        record { le = h .le; eq = λ n. h .eq (at-stands (λ b. NotTry) m (n .none-is) (process s p .frames) a e .1) }
-      in
+      let z = take-left m p (o .claim) s in
       likewise fit (omega arith)
-
-  asks-less : (s : State) (ws : List Waiter) (p : ℕ) (i : ℕ) (o : Offer) → choice m s ws (asks m s p) ≡ goes i o →
-      AtMost (NoTry m) (allLeft m (grant p o s .processes) + 1) (allLeft m (s .processes))
-  asks-less s ws p i o e = go (standsIn m (process s p .frames)) refl e
     where
-      go : (x : Option Action) → standsIn m (process s p .frames) ≡ x → choice m s ws (offersAt x) ≡ goes i o →
-          AtMost (NoTry m) (allLeft m (grant p o s .processes) + 1) (allLeft m (s .processes))
-      go none g h = absurd (choice-in (λ o. ⊥) m s ws [] i o tt h)
-      go (some a) g h = grant-less s ws p a i o g h
+      fit : AtMost (NoTry m) (thenLeft m (o .andThen) + 1) (weigh m (weight m) a)
+      fit =
+          let f = at-stands (GoesForward m) m (t .forward) (process s p .frames) a e in
+          let h = chosen (Fits m a) s i o m ws (offers a) (offers-fit m (f .0) a (f .1)) c .0 in
+          record { le = h .le; eq = λ n. h .eq (at-stands (λ b. NotTry) m (n .none-is) (process s p .frames) a e .1) }
+
+  asks-less : (s : State) (ws : List Waiter) (p : ℕ) (i : ℕ) (o : Offer) → choice m s ws (asks m s p) ≡ goes i o
+      → AtMost (NoTry m) (allLeft m (grant p o s .processes) + 1) (allLeft m (s .processes))
+  asks-less s ws p i o = asks-at m s ws p i o _ (λ a e g. grant-less s ws p a i o e g)
 
   -- The walk pays for those that it takes off the blocked list.
-  walk-on-less : (ws : List Waiter) (s : State) (ahead : List Waiter) →
-      AtMost (NoTry m) (total m (walkOn m s ahead ws .state) + (length ahead + length ws))
+  walk-on-less : (ws : List Waiter) (s : State) (ahead : List Waiter)
+      → AtMost (NoTry m) (total m (walkOn m s ahead ws .state) + (length ahead + length ws))
       (total m s + length (walkOn m s ahead ws .state .blocked))
   unfolding walkOn total
   walk-on-less [] s ahead = exactly (omega arith)
@@ -406,16 +259,16 @@ module _ (m : Model) (t : Forward m) where
       (λ (n : Next).
       AtMost (NoTry m) (total m (n .state) + (length ahead + suc (length ws))) (total m s + length (n .state .blocked)))
       (choice m s ahead (asks m s (w .place)))
-      (let l = length-append ahead (w ∷ []) in likewise (walk-on-less ws s (ahead ++ w ∷ [])) (omega arith))
+      (λ e. let l = length-append ahead (w ∷ []) in likewise (walk-on-less ws s (ahead ++ w ∷ [])) (omega arith))
       (λ i o e.
       let u : State = grant (w .place) o s in
-      let y = grant-alike m (w .place) o s .0 in
+      let y = ap returning (still-grant (w .place) o s .same-events) in
       let v = wake-total m (s .clock) (w .place) u in
       likewise (together (walk-on-less ws (wake (s .clock) (w .place) u) ahead) (asks-less s ahead (w .place) i o e))
       (omega arith))
 
-  walk-less : (s : State) →
-      AtMost (NoTry m) (total m (walk m s .state) + length (s .blocked)) (total m s + length (walk m s .state .blocked))
+  walk-less : (s : State)
+      → AtMost (NoTry m) (total m (walk m s .state) + length (s .blocked)) (total m s + length (walk m s .state .blocked))
   unfolding walk
   walk-less s = likewise (walk-on-less (s .blocked) s []) (omega arith)
 
@@ -437,8 +290,8 @@ module _ (m : Model) (t : Forward m) (s : State) (p : ℕ) where
   At a = standsIn m (process s p .frames) ≡ some a
 
   -- It goes past the action.
-  passes : (a : Action) → At a → (r : Process) → r .frames ≡ onward (process s p .frames) →
-      total m (put p r s) + weigh m (weight m) a ≡ total m s
+  passes : (a : Action) → At a → (r : Process) → r .frames ≡ onward (process s p .frames)
+      → total m (put p r s) + weigh m (weight m) a ≡ total m s
   unfolding total
   passes a e r g =
       let x = spend m s p a e r in
@@ -491,8 +344,8 @@ module _ (m : Model) (t : Forward m) (s : State) (p : ℕ) where
       computed (likewise (walk-less m t w) (omega arith))
 
   -- A return notice is a step more to come: PUTR and PUTB weigh 2.
-  notify-falls : (a : Action) → At a → weigh m (weight m) a ≡ 2 → (n : Notice) → owes n ≡ 1 → (r : Process) →
-      r .frames ≡ process s p .frames → Good (Falls m s) (notify m s p (process s p) n r)
+  notify-falls : (a : Action) → At a → weigh m (weight m) a ≡ 2 → (n : Notice) → owes n ≡ 1 → (r : Process)
+      → r .frames ≡ process s p .frames → Good (Falls m s) (notify m s p (process s p) n r)
   unfolding notify past enter total
   notify-falls a e w n o r g =
       let k = passes a e (past r) (ap onward g) in
@@ -529,17 +382,21 @@ module _ (m : Model) (t : Forward m) (s : State) (p : ℕ) where
   request-falls : (a : Action) → At a → Good (Falls m s) (request m s p (process s p) a)
   unfolding request join total
   request-falls a e =
-      let ws : List Waiter = before m s p (process s p) in
+      let ws : List Waiter = inFront m s p (process s p) in
       choice-has (λ (o : Outcome Next). Good (Falls m s) o) (choice m s ws (offers a))
-      (let w : Waiter = record { priority = process s p .priority; place = p } in
-      let l = length-insert higher w (s .blocked) in good (exactly (omega arith)))
+      (λ c.
+      let w : Waiter = record { priority = process s p .priority; place = p } in
+      let l = length-insert higher w (s .blocked) in
+      good (exactly (omega arith)))
       (λ i o c.
-      let y = grant-alike m p o s in let y₁ = y .0 in let y₂ = y .1 in
+      let y = still-grant p o s in
+      let y₁ = ap returning (y .same-events) in
+      let y₂ = ap length (y .same-blocked) in
       good (likewise (grant-less m t s ws p a i o e c) (omega arith)))
 
   -- START: fewer live than there are places, so the new process finds one, also after its giver was put back.
-  start-falls : length (s .processes) ≡ No.places → (c d : ℕ) (h : List Share) → At (START c d h) →
-      Good (Falls m s) (start m s p (process s p) c d h)
+  start-falls : length (s .processes) ≡ No.places → (c d : ℕ) (h : List Share) → At (START c d h)
+      → Good (Falls m s) (start m s p (process s p) c d h)
   unfolding start past weigh
   start-falls l c d h e =
       let r : Process = past (with-held (process s p) (kept h (process s p .held))) in
@@ -576,8 +433,8 @@ module _ (m : Model) (t : Forward m) (s : State) (p : ℕ) where
   act-falls l CLOSE e = close-falls e
 
 -- THE END OF A BLOCK.
-none-left : (m : Model) (f : Frame) (fs : List Frame) → standsIn m (f ∷ fs) ≡ none →
-    framesLeft m (f ∷ fs) ≡ 1 + (f .rounds - 1) * (weight m (f .block) + 1) + outerLeft m fs
+none-left : (m : Model) (f : Frame) (fs : List Frame) → standsIn m (f ∷ fs) ≡ none
+    → framesLeft m (f ∷ fs) ≡ 1 + (f .rounds - 1) * (weight m (f .block) + 1) + outerLeft m fs
 none-left m f fs e = rw (drop-none (block m (f .block)) (f .at) e) (omega arith)
 
 no-rounds : (r x : ℕ) → r ≤ 1 → (r - 1) * x ≡ 0
@@ -613,8 +470,8 @@ leave-left : (m : Model) → Forward m → (fs : List Frame) → framesLeft m (l
 leave-left m t [] = refl
 leave-left m t (f ∷ fs) = go (standsIn m (f ∷ fs)) refl
   where
-    go : (x : Option Action) → standsIn m (f ∷ fs) ≡ x →
-        framesLeft m (elim x [ none ↦ f ∷ fs | some a ↦ if comesBack a then f ∷ fs else onward (f ∷ fs) ])
+    go : (x : Option Action) → standsIn m (f ∷ fs) ≡ x
+        → framesLeft m (elim x [ none ↦ f ∷ fs | some a ↦ if comesBack a then f ∷ fs else onward (f ∷ fs) ])
         ≡ outerLeft m (f ∷ fs)
     go none e = let k = none-left m f fs e in rw (drop-next (block m (f .block)) (f .at) e) (omega arith)
     go (some a) e =
@@ -623,16 +480,16 @@ leave-left m t (f ∷ fs) = go (standsIn m (f ∷ fs)) refl
 
 module _ (m : Model) (t : Forward m) (s : State) (p : ℕ) where
   -- The process in place p, in the frames f ∷ fs, goes on as r.
-  goes-on : (f : Frame) (fs : List Frame) → process s p .frames ≡ f ∷ fs → (r : Process) →
-      allLeft m (set (s .processes) p r) + framesLeft m (f ∷ fs) ≡ allLeft m (s .processes) + framesLeft m (r .frames)
+  goes-on : (f : Frame) (fs : List Frame) → process s p .frames ≡ f ∷ fs → (r : Process)
+      → allLeft m (set (s .processes) p r) + framesLeft m (f ∷ fs) ≡ allLeft m (s .processes) + framesLeft m (r .frames)
   goes-on f fs e r =
       let l = ap al e in
-      let x = all-left-set m (s .processes) p r (lives-in (s .processes) p (omega arith)) in
+      let x = all-left-set m (s .processes) p r (alive-in (s .processes) p (omega arith)) in
       let y = ap (framesLeft m) e in
       omega arith
 
-  exhausted-falls : (fs : List Frame) → process s p .frames ≡ fs → standsIn m fs ≡ none →
-      Good (Falls m s) (exhausted m s p (process s p) fs)
+  exhausted-falls : (fs : List Frame) → process s p .frames ≡ fs → standsIn m fs ≡ none
+      → Good (Falls m s) (exhausted m s p (process s p) fs)
   unfolding exhausted total
   exhausted-falls [] e n = stopped
   exhausted-falls (f ∷ fs) e n =
@@ -647,8 +504,8 @@ module _ (m : Model) (t : Forward m) (s : State) (p : ℕ) where
       let z = no-rounds (f .rounds) (weight m (f .block) + 1) (ltb-false 1 (f .rounds) h) in
       leaving fs e (omega arith))
     where
-      leaving : (gs : List Frame) → process s p .frames ≡ f ∷ gs → framesLeft m (f ∷ gs) ≡ 1 + outerLeft m gs →
-          Good (Falls m s)
+      leaving : (gs : List Frame) → process s p .frames ≡ f ∷ gs → framesLeft m (f ∷ gs) ≡ 1 + outerLeft m gs
+          → Good (Falls m s)
           (if isEmpty gs then ends m s p (process s p) else ok (quiet (put p (with-frames (process s p) (leave m gs)) s)))
       leaving [] g l = let k = goes-on f [] g nobody in good-need _ _ λ h. good (exactly (omega arith))
       leaving (x ∷ xs) g l =
@@ -657,14 +514,9 @@ module _ (m : Model) (t : Forward m) (s : State) (p : ℕ) where
           computed (exactly (omega arith))
 
   moves-falls : length (s .processes) ≡ No.places → Good (Falls m s) (moves m s p)
-  unfolding moves
-  moves-falls l = go (standsIn m (process s p .frames)) refl
-    where
-      go : (x : Option Action) → standsIn m (process s p .frames) ≡ x →
-          Good (Falls m s)
-          (elim x [ none ↦ exhausted m s p (process s p) (process s p .frames) | some a ↦ act m s p (process s p) a ])
-      go none e = exhausted-falls (process s p .frames) refl e
-      go (some a) e = act-falls m t s p l a e
+  moves-falls l =
+      moves-has (λ (o : Outcome Next). Good (Falls m s) o) m s p (λ e. exhausted-falls (process s p .frames) refl e)
+      (λ a e. act-falls m t s p l a e)
 
 -- A STEP. A return that occurs was still to come: it owes a step.
 module _ (m : Model) (t : Forward m) where
@@ -680,8 +532,8 @@ module _ (m : Model) (t : Forward m) where
   occurs-pays s l (returnsB i n g) =
       good-need _ _ λ h. good (likewise (walk-less m t (with-bins s (more (s .bins) i n))) (omega arith))
 
-  next-falls : (s : State) → length (s .processes) ≡ No.places → (es : List Event) → s .events ≡ es →
-      Good (Falls m s) (next m s es)
+  next-falls : (s : State) → length (s .processes) ≡ No.places → (es : List Event) → s .events ≡ es
+      → Good (Falls m s) (next m s es)
   unfolding next total
   next-falls s l [] e = stopped
   next-falls s l (x ∷ xs) e =

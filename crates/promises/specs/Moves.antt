@@ -11,30 +11,18 @@ use lib.ListN.{length, getD, set, take, drop, length-set}
 use lib.IntN.{ℤ}
 use Rattle.semantics.specs.Numbers as No
 use Rattle.semantics.specs.Model.{Model}
-use Rattle.semantics.specs.State.{
-  State, Process, Waiter, Event, Notice, wakes, returnsR, returnsB, nobody, process, enter, join
-}
+use Rattle.semantics.specs.State.{State, Process, Waiter, Event, Notice, wakes, returnsR, returnsB, nobody, process, enter}
+use Rattle.semantics.specs.State.{join}
 use Rattle.semantics.specs.Claim.{standsIn}
 use Rattle.semantics.specs.Sound.{asksAt}
-use Rattle.promises.specs.Laws.{
-  AllOf, all-map, all-both, all-set, all-get, all-cut, all-drop, Ordered, ordered-cut, ordered-drop, set-away, over-append,
-  over-set, over-split, over-at, only, only-none, once, once-self, once-same, once-apart
-}
+use Rattle.promises.specs.Laws.{AllOf, all-map, all-both, all-set, all-get, all-cut, all-drop, Ordered, ordered-cut}
+use Rattle.promises.specs.Laws.{ordered-drop, over-append, over-set, over-split, over-zero, only, once, once-same}
+use Rattle.promises.specs.Laws.{only-none, once-self, once-apart, set-away, over-at}
 use Rattle.promises.specs.Fit.{I32, Within}
-use Rattle.promises.specs.Sound.{
-  al, noticed, inEvents, waits, inAll, slaved, owned, bearing, heldIn, gives, backIn, owes, returning,
-  Fine, ProcOk, ReturnOk, NoticeOk, EventOk, Late, Ranked, Tied, Stands, Inv
-}
-use Rattle.promises.specs.Keep.{
-  enter-all, enter-ordered, enter-over, join-all, join-ordered, join-waits, away, al-one, alive-in, FreeAt
-}
-
-abbrev InOne : List Event → List (List Waiter) → List Process → List Waiter → (ℕ → ℕ) → Type 0
-InOne es wa ps l z =
-    (k : ℕ) → inEvents k es + inAll k wa + owned k ps + waits k l + z k ≡ al (getD ps k nobody .frames)
-
-abbrev AddsUp : Model → List ℕ → List Process → List Event → (ℕ → ℕ) → Type 0
-AddsUp m fr ps es y = (i : ℕ) → getD fr i 0 + heldIn i ps + backIn i es + y i ≡ getD (m .totals) i 0
+use Rattle.promises.specs.Sound.{al, noticed, inEvents, waits, inAll, slaved, bearing, gives, owes, returning, Fine}
+use Rattle.promises.specs.Sound.{ProcOk, ReturnOk, NoticeOk, EventOk, Late, Ranked, Tied, Stands, InOne, AddsUp, Inv}
+use Rattle.promises.specs.Keep.{enter-all, enter-ordered, enter-over, join-all, join-ordered, join-waits, away, al-one}
+use Rattle.promises.specs.Keep.{alive-in, free-or-fine, FreeAt}
 
 -- WHAT STAYS TRUE when more numbers are given, and when another process comes into place p, which is in no list.
 module _ (m : Model) (n n′ : ℕ) (more : n ≤ n′) where
@@ -100,8 +88,8 @@ module _
   pub recount :
       {z′ y′ : ℕ → ℕ} → ((k : ℕ) → z′ k ≡ z k) → ((i : ℕ) → y′ i ≡ y i) → Inv m c n gs fr bi wa es ps l z′ y′
   recount {z′} {y′} e f =
-      let a : InOne es wa ps l z′ = λ k. let b = h .in-one k in let d = e k in omega arith in
-      let b : AddsUp m fr ps es y′ = λ i. let b = h .adds-up i in let d = f i in omega arith in
+      let a : (k : ℕ) → InOne es wa ps l z′ k = λ k. let b = h .in-one k in let d = e k in omega arith in
+      let b : (i : ℕ) → AddsUp m fr ps es y′ i = λ i. let b = h .adds-up i in let d = f i in omega arith in
       search
 
   -- PROCESSES. A place that is in no list gets another process.
@@ -109,8 +97,8 @@ module _
     replace :
         {n′ : ℕ} → n ≤ n′ → n′ ≤ No.lastNumber → p < length ps → Loose p → ProcOk m n′ r
         → ((k : ℕ) → 1 ≤ k → once k (r .number) + bearing k ps ≤ 1 + once k (getD ps p nobody .number))
-        → ((k : ℕ) →
-        slaved k (r .slaves) + only k p (al (getD ps p nobody .frames)) + z′ k
+        → ((k : ℕ)
+        → slaved k (r .slaves) + only k p (al (getD ps p nobody .frames)) + z′ k
         ≡ slaved k (getD ps p nobody .slaves) + only k p (al (r .frames)) + z k)
         → ((i : ℕ) → getD (r .held) i 0 + y′ i ≡ getD (getD ps p nobody .held) i 0 + y i)
         → Inv m c n′ gs fr bi wa es (set ps p r) l z′ y′
@@ -128,12 +116,12 @@ module _
         waiters-away (λ q w. asksAt (standsIn m (q .frames)) ≡ true) ps p r l (o .off-blocked) (h .blocked-stand) in
         let u : (k : ℕ) → 1 ≤ k → bearing k qs ≤ 1 =
         λ k j. let a = over-set (λ q. once k (q .number)) ps p r nobody i in let b = ns k j in omega arith in
-        let v : InOne es wa qs l z′ =
+        let v : (k : ℕ) → InOne es wa qs l z′ k =
         λ k.
         let a = over-set (λ q. slaved k (q .slaves)) ps p r nobody i in
         let b = over-at (λ q. al (q .frames)) ps p k r nobody i in
         let d = h .in-one k in let e = zs k in omega arith in
-        let w : AddsUp m fr qs es y′ =
+        let w : (i : ℕ) → AddsUp m fr qs es y′ i =
         λ j.
         let a = over-set (λ q. getD (q .held) j 0) ps p r nobody i in
         let b = h .adds-up j in let d = ys j in omega arith in
@@ -165,22 +153,12 @@ module _
 
   -- One above the last given is a new number.
   number-above : (k : ℕ) → n < k → bearing k ps ≡ 0
-  number-above k g = go ps (h .procs-ok)
+  number-above k g = over-zero (λ q. once k (q .number)) (ProcOk m n) other ps (h .procs-ok)
     where
-      most : (q : Process) → ProcOk m n q → q .number ≤ n
-      most q o = by (al (q .frames)) refl
-        where
-          by : (a : ℕ) → al (q .frames) ≡ a → q .number ≤ n
-          by zero e = let b = o .dead e .no-number in omega arith
-          by (suc a) e = o .live (omega arith) .is-given
-
-      go : (qs : List Process) → AllOf (ProcOk m n) qs → bearing k qs ≡ 0
-      go [] o = refl
-      go (q ∷ qs) o =
-          let a = most q (o .0) in
-          let b = once-apart k (q .number) (λ e. absurd (omega arith)) in
-          let d = go qs (o .1) in
-          omega arith
+      other : (q : Process) → ProcOk m n q → once k (q .number) ≡ 0
+      other q o =
+          free-or-fine _ o (λ e v. let a = v .no-number in once-apart k (q .number) (λ d. absurd (omega arith)))
+          (λ e f. let a = f .is-given in once-apart k (q .number) (λ d. absurd (omega arith)))
 
   number-new : (k : ℕ) → 1 ≤ k → once k (n + 1) + bearing k ps ≤ 1
   number-new k g = by (once k (n + 1)) refl
@@ -217,9 +195,9 @@ module _
       let a = enter-all e es (EventOk m c n ps) ok (h .events-ok) in
       let b = enter-ordered e es (h .events-ordered) in
       let d : returning (enter e es) ≤ No.returns = let a = enter-over e es (λ e. owes (e .notice)) in omega arith in
-      let f : InOne (enter e es) wa ps l z′ =
+      let f : (k : ℕ) → InOne (enter e es) wa ps l z′ k =
       λ k. let a = enter-over e es (λ e. noticed k (e .notice)) in let b = h .in-one k in let d = zs k in omega arith in
-      let g : AddsUp m fr ps (enter e es) y′ =
+      let g : (i : ℕ) → AddsUp m fr ps (enter e es) y′ i =
       λ i. let a = enter-over e es (λ e. gives i (e .notice)) in let b = h .adds-up i in let d = ys i in omega arith in
       search
 
@@ -231,7 +209,7 @@ module _
       let a : length (set wa i v) ≡ m .syncs = length-set wa i v ∙ h .syncs-many in
       let b = all-set (Ordered Ranked) wa i v (h .waiting-ordered) o in
       let d = all-set (AllOf (Tied ps)) wa i v (h .waiting-tied) t in
-      let f : InOne es (set wa i v) ps l z′ =
+      let f : (k : ℕ) → InOne es (set wa i v) ps l z′ k =
       λ k. let a = over-set (waits k) wa i v [] g in let b = h .in-one k in let d = zs k in omega arith in
       search
 
@@ -239,7 +217,7 @@ module _
       {l′ : List Waiter} {z′ : ℕ → ℕ} → Ordered Ranked l′ → AllOf (Tied ps) l′ → AllOf (Stands m ps) l′
       → ((k : ℕ) → waits k l′ + z′ k ≡ waits k l + z k) → Inv m c n gs fr bi wa es ps l′ z′ y
   blocked-is {l′} {z′} o t g zs =
-      let a : InOne es wa ps l′ z′ = λ k. let a = h .in-one k in let b = zs k in omega arith in
+      let a : (k : ℕ) → InOne es wa ps l′ z′ k = λ k. let a = h .in-one k in let b = zs k in omega arith in
       search
 
   -- The first k leave a waiting list.
@@ -259,7 +237,7 @@ module _
       → Inv m c n gs fr′ bi wa es ps l z y′
   frees {y′} fr′ e f =
       let a : length fr′ ≡ length (m .totals) = e ∙ h .frees-many in
-      let b : AddsUp m fr′ ps es y′ = λ i. let a = h .adds-up i in let b = f i in omega arith in
+      let b : (i : ℕ) → AddsUp m fr′ ps es y′ i = λ i. let a = h .adds-up i in let b = f i in omega arith in
       search
 
   pub bin-is : (i a : ℕ) → a ≤ No.fullBin → Inv m c n gs fr (set bi i a) wa es ps l z y
@@ -286,8 +264,8 @@ module _ {m : Model} {c n : ℕ} {gs : List ℤ} {fr bi : List ℕ} {wa : List (
       (λ f b. record { not-before = b .0 .in-time; not-late = b .1 .not-late; tells = b .1 .tells }) es
       (all-both (Late e) (EventOk m c n ps) es (h .events-ordered .0) (h .events-ok .1)) in
       let b : returning es ≤ No.returns = let a = h .few-returns in omega arith in
-      let d : InOne es wa ps l z′ = λ k. let a = h .in-one k in let b = zs k in omega arith in
-      let f : AddsUp m fr ps es y′ = λ i. let a = h .adds-up i in let b = ys i in omega arith in
+      let d : (k : ℕ) → InOne es wa ps l z′ k = λ k. let a = h .in-one k in let b = zs k in omega arith in
+      let f : (i : ℕ) → AddsUp m fr ps es y′ i = λ i. let a = h .adds-up i in let b = ys i in omega arith in
       search
 
   -- One of the blocked list is taken out.

@@ -3,43 +3,20 @@
 use Prim.Native.Nat.{ℕ, zero, suc, _+_, _-_, _≤_, _<_}
 use native.Mathlib.Omega.{arith}
 use mathlib.Core.Path.{_≡_, refl}
-use mathlib.Core.List.{List, [], _∷_, _++_, map}
-use mathlib.Core.Bool.{Bool, true}
+use mathlib.Core.List.{List, [], _∷_, map}
+use mathlib.Core.Bool.{true}
 use mathlib.Core.Option.{Option, none, some}
 use lib.Dec.{eqb, leb}
 use borrow.Author.Tests.{eqb-true}
 use lib.ListN.{length, getElem?}
 use Rattle.semantics.specs.Words.{any, collect, largest}
-use Rattle.semantics.specs.Model.{
-  Model, block, Branch,
-  Action, HOLD, PRIO, TRACE, SET, LSET, DO, PUTR, PUTB, PUTS, BECOME, REQ, TRY, WHILE, START, CLOSE
-}
+use Rattle.semantics.specs.Model.{Model, block, Branch, Action, HOLD, PRIO, TRACE, SET, LSET, DO, PUTR, PUTB, PUTS, BECOME, REQ}
+use Rattle.semantics.specs.Model.{TRY, WHILE, START, CLOSE}
 use Rattle.semantics.specs.Decode.{inner, depthIn, depth}
 use Rattle.semantics.specs.State.{Frame}
-use Rattle.semantics.specs.Sound.{enters, entersAt, named, chained}
-use Rattle.promises.specs.Laws.{no-way, and-true, or-true, AllOf, all-at}
+use Rattle.semantics.specs.Sound.{enters, entersAt, namedThere, chained}
+use Rattle.promises.specs.Laws.{no-way, and-true, AllOf, all-at, all-unmap, any-has, all-collect}
 use Rattle.promises.specs.Fit.{Nested}
-
--- LISTS. What follows from any that passes a test and has what all have; what all of a mapped or collected list have.
-module _ {A : Type 0} where
-  any-has : (P : A → Type 0) (Q : Type 0) (t : A → Bool)
-      → ((x : A) → t x ≡ true → P x → Q) → (xs : List A) → any t xs ≡ true → AllOf P xs → Q
-  any-has P Q t f [] e h = no-way e
-  any-has P Q t f (x ∷ xs) e h =
-      or-true (t x) (any t xs) e Q (λ g. f x g (h .0)) (λ g. any-has P Q t f xs g (h .1))
-
-  all-split : (P : A → Type 0) (xs ys : List A) → AllOf P (xs ++ ys) → AllOf P xs × AllOf P ys
-  all-split P [] ys h = (tt, h)
-  all-split P (x ∷ xs) ys h = let a = all-split P xs ys (h .1) in ((h .0, a .0), a .1)
-
-module _ {A B : Type 0} (P : B → Type 0) where
-  all-unmap : (f : A → B) (xs : List A) → AllOf P (map f xs) → AllOf (λ x. P (f x)) xs
-  all-unmap f [] h = tt
-  all-unmap f (x ∷ xs) h = (h .0, all-unmap f xs (h .1))
-
-  all-collect : (f : A → List B) (xs : List A) → AllOf P (collect f xs) → AllOf (λ x. AllOf P (f x)) xs
-  all-collect f [] h = tt
-  all-collect f (x ∷ xs) h = let a = all-split P (f x) (collect f xs) h in (a .0, all-collect f xs (a .1))
 
 -- An action goes only into blocks that it names.
 module _ (P : ℕ → Type 0) (b r : ℕ) where
@@ -123,13 +100,13 @@ module _ (m : Model) (n : Nested m) where
       → (depth m (f .block) + length fs ≤ 8) × (f .block < length (m .blocks))
   chain-depth f [] c =
       let a = and-true (leb (f .at) (length (block m (f .block)))) _ c .1 in
-      let b = and-true (named m f []) _ a .0 in
+      let b = and-true (namedThere m f []) _ a .0 in
       any-has (λ b. (b < length (m .blocks)) × (depth m b ≤ 8)) _ (eqb (f .block))
       (λ c e h. rw (eqb-true (f .block) c e) (let d = h .1 in (omega arith, h .0)))
       (m .classes) (and-true (any (eqb (f .block)) (m .classes)) _ b .0) (n .bodies)
   chain-depth f (g ∷ gs) c =
       let a = and-true (leb (f .at) (length (block m (f .block)))) _ c .1 in
-      let b = and-true (named m f (g ∷ gs)) _ a in
+      let b = and-true (namedThere m f (g ∷ gs)) _ a in
       go (getElem? (block m (g .block)) (g .at)) refl (b .0) (chain-depth g gs (b .1) .0)
     where
       go : (x : Option Action) → getElem? (block m (g .block)) (g .at) ≡ x → entersAt x (f .block) (f .rounds) ≡ true

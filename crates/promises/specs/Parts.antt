@@ -3,7 +3,7 @@
 -- Assumes nothing.
 use Prim.Native.Nat.{ℕ, zero, suc, _+_, _-_, _≤_, _<_}
 use native.Mathlib.Omega.{arith}
-use mathlib.Core.Path.{_≡_, refl, ap, _∙_}
+use mathlib.Core.Path.{_≡_, refl, _∙_}
 use mathlib.Core.List.{List, [], _∷_, map}
 use mathlib.Core.Bool.{Bool, true, false, _&&_}
 use mathlib.Core.Option.{Option, none, some}
@@ -14,22 +14,19 @@ use lib.IntN.{ℤ, pos, negsuc, negℤ, _+ℤ_, _-ℤ_, _*ℤ_}
 use lib.Signed.{mag, leZ}
 use Rattle.semantics.specs.Words.{if_then_else_, Outcome, _>>=_, any, keep, more, less}
 use Rattle.semantics.specs.Numbers as No
-use Rattle.semantics.specs.Model.{
-  Expr, literal, global, local, add, subtract, multiply, lesser, greater, negate, theClock, Share, Model, block, body,
-  Action, HOLD, PRIO, TRACE, SET, LSET, DO, PUTR, PUTB, PUTS, BECOME, REQ, TRY, WHILE, START, CLOSE
-}
-use Rattle.semantics.specs.State.{
-  State, Process, Frame, Slave, Event, Notice, wakes, returnsR, returnsB, newcomer, with-priority, with-locals, with-held,
-  with-slaves, with-frames, onward, past
-}
+use Rattle.semantics.specs.Model.{Expr, literal, global, local, add, subtract, multiply, lesser, greater, negate, theClock}
+use Rattle.semantics.specs.Model.{Share, Model, block, body, Action, HOLD, PRIO, TRACE, SET, LSET, DO, PUTR, PUTB, PUTS, BECOME}
+use Rattle.semantics.specs.Model.{REQ, TRY, WHILE, START, CLOSE}
+use Rattle.semantics.specs.State.{State, Process, Frame, Slave, Event, Notice, wakes, returnsR, returnsB, process, newcomer}
+use Rattle.semantics.specs.State.{with-priority, with-locals, with-held, with-slaves, with-frames, onward, past}
 use Rattle.semantics.specs.Value.{isI32, inRange, eval}
 use Rattle.semantics.specs.Claim.{standsIn}
-use Rattle.semantics.specs.Step.{lowest, isReturn, handed, kept, freed, stay, comesBack, leave}
-use Rattle.semantics.specs.Sound.{enters, entersAt, named, chained}
-use Rattle.promises.specs.Laws.{
-  and-true, true-and, or-left, or-right, if-has, not-some, Good, good, good-then, good-need, AllOf, all-map, all-both, all-set,
-  all-get, all-at, all-replicate, Ordered, some-in, over, over-keep, over-same, over-at, only, once, once-apart, set-away
-}
+use Rattle.semantics.specs.Walk.{Next}
+use Rattle.semantics.specs.Step.{lowest, isReturn, handed, kept, freed, stay, comesBack, leave, exhausted, act, moves}
+use Rattle.semantics.specs.Sound.{enters, entersAt, namedThere, chained}
+use Rattle.promises.specs.Laws.{and-true, true-and, or-left, or-right, if-has, not-some, Good, good, good-then, good-need}
+use Rattle.promises.specs.Laws.{AllOf, all-map, all-both, all-set, all-get, all-at, all-replicate, Ordered, some-in, over}
+use Rattle.promises.specs.Laws.{over-keep, over-same, only, once, once-apart, set-away, more-at, less-at}
 use Rattle.promises.specs.Fit.{I32, ExprFit, SharesApart, ActFit, Fit}
 use Rattle.promises.specs.Sound.{Below, al, slaved, owes, returning, Fine}
 
@@ -67,9 +64,26 @@ priority-ok (negsuc a) h =
     if-has (λ v. I32 v × Below lowest v) (leb a 9_999) (λ e. let b = leb-true a 9_999 e in (h, omega arith)) (λ e. omega arith)
 
 -- BLOCKS. Where a process stands; going past an action; going into a block; one round less; leaving a block.
+-- What holds of the actions of every block holds of the one where it stands.
+pub at-stands : (P : ℕ → Action → Type 0) (m : Model) → ((b : ℕ) → AllOf (P b) (block m b)) → (fs : List Frame) (a : Action)
+    → standsIn m fs ≡ some a → (b : ℕ) × P b a
+at-stands P m h [] a e = not-some e
+at-stands P m h (f ∷ fs) a e = (f .block, all-at (P (f .block)) (block m (f .block)) (f .at) a (h (f .block)) e)
+
 pub fit-at : (m : Model) → Fit m → (fs : List Frame) (a : Action) → standsIn m fs ≡ some a → ActFit m a
-fit-at m t [] a e = not-some e
-fit-at m t (f ∷ fs) a e = all-at (ActFit m) (block m (f .block)) (f .at) a (t .acts (f .block)) e
+fit-at m t fs a e = at-stands (λ b. ActFit m) m (t .acts) fs a e .1
+
+-- Whoever has the floor is at the end of a block or at an action.
+pub moves-has : (P : Outcome Next → Type 0) (m : Model) (s : State) (p : ℕ)
+    → (standsIn m (process s p .frames) ≡ none → P (exhausted m s p (process s p) (process s p .frames)))
+    → ((a : Action) → standsIn m (process s p .frames) ≡ some a → P (act m s p (process s p) a)) → P (moves m s p)
+unfolding moves
+moves-has P m s p f g = go (standsIn m (process s p .frames)) refl
+  where
+    go : (x : Option Action) → standsIn m (process s p .frames) ≡ x
+        → P (elim x [ none ↦ exhausted m s p (process s p) (process s p .frames) | some a ↦ act m s p (process s p) a ])
+    go none e = f e
+    go (some a) e = g a e
 
 pub onward-al : (fs : List Frame) → al (onward fs) ≡ al fs
 unfolding onward
@@ -105,9 +119,9 @@ first b r = record { block = b; at = 0; rounds = r }
 
 module _ (m : Model) where
   chain-first :
-      (b r : ℕ) (fs : List Frame) → named m (first b r) fs ≡ true → chained m fs ≡ true → chained m (first b r ∷ fs) ≡ true
+      (b r : ℕ) (fs : List Frame) → namedThere m (first b r) fs ≡ true → chained m fs ≡ true → chained m (first b r ∷ fs) ≡ true
   chain-first b r fs n h =
-      true-and (leb 0 (length (block m b))) _ (omega (arith, le-leb)) (true-and (named m (first b r) fs) _ n h)
+      true-and (leb 0 (length (block m b))) _ (omega (arith, le-leb)) (true-and (namedThere m (first b r) fs) _ n h)
 
   pub chain-onward : (fs : List Frame) (a : Action) → chained m fs ≡ true → standsIn m fs ≡ some a → chained m (onward fs) ≡ true
   unfolding onward
@@ -118,8 +132,8 @@ module _ (m : Model) where
       true-and (leb (f .at + 1) (length (block m (f .block)))) _ (omega (arith, le-leb)) (on fs (b .1))
     where
       on :
-          (gs : List Frame) → named m f gs && chained m gs ≡ true
-          → named m (record { block = f .block; at = f .at + 1; rounds = f .rounds }) gs && chained m gs ≡ true
+          (gs : List Frame) → namedThere m f gs && chained m gs ≡ true
+          → namedThere m (record { block = f .block; at = f .at + 1; rounds = f .rounds }) gs && chained m gs ≡ true
       on [] h = h
       on (g ∷ gs) h = h
 
@@ -129,9 +143,9 @@ module _ (m : Model) where
   chain-into [] a b r h e n = not-some e
   chain-into (f ∷ fs) a b r h e n = chain-first b r (f ∷ fs) (rw e n) h
 
-  pub chain-parts : (f : Frame) (fs : List Frame) → chained m (f ∷ fs) ≡ true → (named m f fs ≡ true) × (chained m fs ≡ true)
+  pub chain-parts : (f : Frame) (fs : List Frame) → chained m (f ∷ fs) ≡ true → (namedThere m f fs ≡ true) × (chained m fs ≡ true)
   chain-parts f fs h =
-      and-true (named m f fs) _ (and-true (leb (f .at) (length (block m (f .block)))) _ h .1)
+      and-true (namedThere m f fs) _ (and-true (leb (f .at) (length (block m (f .block)))) _ h .1)
 
   pub chain-again :
       (f : Frame) (fs : List Frame) → 1 < f .rounds → chained m (f ∷ fs) ≡ true
@@ -143,7 +157,7 @@ module _ (m : Model) where
       by none n = n
       by (some a) n = fewer a (f .block) (f .rounds) l n
 
-      again : (gs : List Frame) → named m f gs ≡ true → named m (first (f .block) (f .rounds - 1)) gs ≡ true
+      again : (gs : List Frame) → namedThere m f gs ≡ true → namedThere m (first (f .block) (f .rounds - 1)) gs ≡ true
       again [] n = not-once (any (eqb (f .block)) (m .classes)) (f .rounds) l n
       again (g ∷ gs) n = by (getElem? (block m (g .block)) (g .at)) n
 
@@ -192,11 +206,16 @@ pub new-fine :
     → Fine m (n + 1) (newcomer m (n + 1) c l)
 new-fine m n c l i e =
     record {
-      is-numbered = omega arith; is-given = omega arith; prio-low = omega arith; prio-high = omega arith;
-      locals-many = length-replicate No.locals (pos 0); locals-ok = all-replicate I32 No.locals (pos 0) (omega arith);
-      held-many = e; slaves-ok = tt;
+      is-numbered = omega arith;
+      is-given = omega arith;
+      prio-low = omega arith;
+      prio-high = omega arith;
+      locals-many = length-replicate No.locals (pos 0);
+      locals-ok = all-replicate I32 No.locals (pos 0) (omega arith);
+      held-many = e;
+      slaves-ok = tt;
       frames-ok =
-        chain-first m (body m c) 1 [] (true-and (any (eqb (body m c)) (m .classes)) _ (class-in (m .classes) c i) refl) refl;
+          chain-first m (body m c) 1 [] (true-and (any (eqb (body m c)) (m .classes)) _ (class-in (m .classes) c i) refl) refl;
     }
   where
     class-in : (cs : List ℕ) (c : ℕ) → c < length cs → any (eqb (getD cs c 0)) cs ≡ true
@@ -205,24 +224,6 @@ new-fine m n c l i e =
     class-in (x ∷ xs) (suc c) h = or-right (eqb (getD xs c 0) x) _ (class-in xs c (omega arith))
 
 -- AMOUNTS.
-only-add : (k i a b : ℕ) → only k i (a + b) ≡ only k i a + only k i b
-only-add zero zero a b = refl
-only-add zero (suc i) a b = refl
-only-add (suc k) zero a b = refl
-only-add (suc k) (suc i) a b = only-add k i a b
-
-module _ (xs : List ℕ) (i a k : ℕ) (h : i < length xs) where
-  pub more-at : getD (more xs i a) k 0 ≡ getD xs k 0 + only k i a
-  more-at =
-      let b = over-at (λ x. x) xs i k (getD xs i 0 + a) 0 h in let d = only-add k i (getD xs i 0) a in omega arith
-
-  pub less-at : a ≤ getD xs i 0 → getD (less xs i a) k 0 + only k i a ≡ getD xs k 0
-  less-at e =
-      let b = over-at (λ x. x) xs i k (getD xs i 0 - a) 0 h in
-      let d : getD xs i 0 ≡ (getD xs i 0 - a) + a = omega arith in
-      let f = ap (only k i) d ∙ only-add k i (getD xs i 0 - a) a in
-      omega arith
-
 pub zeros-at : (l : List ℕ) (j : ℕ) → getD {A = ℕ} (map (λ x. 0) l) j 0 ≡ 0
 zeros-at [] j = refl
 zeros-at (x ∷ xs) zero = refl

@@ -2,33 +2,34 @@
 -- Assumes nothing.
 use Prim.Native.Nat.{ℕ, _≤_}
 use native.Mathlib.Omega.{arith}
-use mathlib.Core.Path.{_≡_, refl, sym, ap, _∙_}
+use mathlib.Core.Path.{_≡_, sym, ap, _∙_}
 use mathlib.Core.List.{List, [], _∷_}
-use mathlib.Core.Bool.{Bool, true, false}
+use mathlib.Core.Bool.{true, false}
 use lib.ListN.{length}
-use Rattle.semantics.specs.Words.{Outcome, ok, fails}
+use Rattle.semantics.specs.Words.{ok}
 use Rattle.semantics.specs.Numbers as No
 use Rattle.semantics.specs.Model.{Model}
-use Rattle.semantics.specs.Decode.{Checked, accepted, decode}
-use Rattle.semantics.specs.State.{State, Process, Frame, fresh, process}
+use Rattle.semantics.specs.Decode.{accepted, decode}
+use Rattle.semantics.specs.State.{State, Process, fresh, process}
 use Rattle.semantics.specs.Walk.{Next}
 use Rattle.semantics.specs.Step.{step}
 use Rattle.semantics.specs.Sound.{soundIn, sound}
-use Rattle.semantics.specs.Run.{Answer, FAULT, Ran, Ask, stopped, goesOn, before, run, call}
-use Rattle.semantics.specs.Run.{leaves, stepsOf, limitsOf, noneEnds}
+use Rattle.semantics.specs.Run.{FAULT, Ask, goesOn, before, run, call, noEnd, leaves, stepsOf, limitsOf, noneEnds}
 use Rattle.semantics.specs.Bound.{bound, loops}
-use Rattle.promises.specs.Laws.{AllOf, good-out}
-use Rattle.promises.specs.Fit.{Fit, Nested, Forward}
+use Rattle.promises.specs.Laws.{AllOf}
+use Rattle.promises.specs.Fit.{Fit}
 use Rattle.promises.specs.Accepted.{accepted-fit, accepted-nested, accepted-forward}
-use Rattle.promises.specs.Sound.{al, ProcOk, Sound}
+use Rattle.promises.specs.Sound.{Sound}
 use Rattle.promises.specs.Decides.{sound-yes, sound-back}
-use Rattle.promises.specs.Stays.{step-sound}
+use Rattle.promises.specs.Stays.{step-ok}
 use Rattle.promises.specs.FreshSound.{fresh-sound}
 use Rattle.promises.specs.Capacity.{Fitting, lists-fit}
 use Rattle.promises.specs.Nests.{eight-blocks}
 use Rattle.promises.specs.Safe.{Safe, step-safe}
+use Rattle.promises.specs.Keep.{al-none, free-or-fine}
 use Rattle.promises.specs.Moves.{proc-at}
 use Rattle.promises.specs.Left.{noTry}
+use Rattle.promises.specs.Ends as E
 use Rattle.promises.specs.Calls as C
 use Rattle.promises.specs.Demand3 as D
 
@@ -41,6 +42,9 @@ module _ (bs : List ℕ) (m : Model) (e : decode bs ≡ accepted m) where
   fit : Fit m
   fit = accepted-fit bs m e
 
+  is-sound : (s : State) → sound bs s ≡ true → Sound m s
+  is-sound s h = sound-yes m s (sym (sound-is bs m e s) ∙ h)
+
   -- SOUNDNESS. Fresh is sound.
   pub fresh-is-sound : sound bs (fresh m) ≡ true
   fresh-is-sound = sound-is bs m e (fresh m) ∙ sound-back m (fresh m) (fresh-sound m fit)
@@ -48,49 +52,54 @@ module _ (bs : List ℕ) (m : Model) (e : decode bs ≡ accepted m) where
   -- A step from a sound state that does not fault leaves a sound state.
   pub step-keeps-sound : (s : State) (n : Next) → sound bs s ≡ true → step m s ≡ ok n → sound bs (n .state) ≡ true
   step-keeps-sound s n h k =
-      let t = sound-yes m s (sym (sound-is bs m e s) ∙ h) in
-      sound-is bs m e (n .state)
-      ∙ sound-back m (n .state) (good-out (λ x. Sound m (x .state)) (step m s) n k (step-sound m fit s t))
+      sound-is bs m e (n .state) ∙ sound-back m (n .state) (step-ok m fit s (is-sound s h) n k)
 
   -- A step from a sound state that goes on never faults with 20: its faults are 21 to 29.
   pub step-faults : (s : State) → sound bs s ≡ true → before s ≡ goesOn → Safe (step m s)
-  step-faults s h g = step-safe m s (sound-yes m s (sym (sound-is bs m e s) ∙ h)) g
+  step-faults s h g = step-safe m s (is-sound s h) g
 
   -- THE BOUNDS OF EVERY LIST and of the depth that the arrays need.
   pub lists-are-short : (s : State) → sound bs s ≡ true → Fitting s
-  lists-are-short s h = lists-fit m s (sound-yes m s (sym (sound-is bs m e s) ∙ h))
+  lists-are-short s h = lists-fit m s (is-sound s h)
 
   pub blocks-are-few : (s : State) (p : ℕ) → sound bs s ≡ true → length (process s p .frames) ≤ 8
-  blocks-are-few s p h = go (process s p) (proc-at (sound-yes m s (sym (sound-is bs m e s) ∙ h)) p)
-    where
-      go : (q : Process) → ProcOk m (s .last) q → length (q .frames) ≤ 8
-      go q k = by (q .frames) refl
-        where
-          by : (fs : List Frame) → q .frames ≡ fs → length (q .frames) ≤ 8
-          by [] f = let a = ap length f in omega arith
-          by (x ∷ xs) f =
-              eight-blocks m (accepted-nested bs m e) (q .frames) (k .live (let a = ap al f in omega arith) .frames-ok)
+  blocks-are-few s p h =
+      let q : Process = process s p in
+      free-or-fine (length (q .frames) ≤ 8) (proc-at (is-sound s h) p)
+      (λ d v. let a = ap length (al-none (q .frames) d) in omega arith)
+      (λ d f. eight-blocks m (accepted-nested bs m e) (q .frames) (f .frames-ok))
 
   -- AN OPEN RUN THAT ONLY OUR CALLS MOVED never answers 20: each call is the run.
-  pub call-is-run : (l : List Ask) (a : Ask) →
-      call bs a (leaves bs l (fresh m)) ≡ run m (a .limit) (a .room) (leaves bs l (fresh m))
+  pub call-is-run : (l : List Ask) (a : Ask)
+      → call bs a (leaves bs l (fresh m)) ≡ run m (a .limit) (a .room) (leaves bs l (fresh m))
   call-is-run = C.call-is-run bs m e
 
   pub never-20 : (l : List Ask) (a : Ask) → call bs a (leaves bs l (fresh m)) .answer ≡ FAULT No.STATE → ⊥
   never-20 = C.never-20 bs m e
 
-  -- DEMAND 3: no WHILE, and each START's class body later than the START's block. The steps of all calls together are at most the bound,
-  -- whatever its size.
+  -- WHAT HAS ENDED STAYS ENDED: after CLOSED, IDLE or a fault other than 30 no call makes a step.
+  pub end-stays : (l : List Ask) (a b : Ask)
+      → noEnd (call bs a (leaves bs l (fresh m)) .answer) ≡ false
+      → (call bs b (call bs a (leaves bs l (fresh m)) .state) .steps ≡ 0)
+      × (call bs b (call bs a (leaves bs l (fresh m)) .state) .state ≡ call bs a (leaves bs l (fresh m)) .state)
+  end-stays l a b f =
+      let s : State = leaves bs l (fresh m) in
+      let t = C.run-sound bs m e (a .limit) (a .room) s (C.calls-sound bs m e l) in
+      rw (C.call-is-run bs m e l a, C.call-is bs m e b (run m (a .limit) (a .room) s .state) t)
+      (E.end-stays m (a .limit) (a .room) s (rw (C.call-is-run bs m e l a) at f) (b .limit) (b .room))
+
+  -- DEMAND 3: no WHILE, and each START's class body later than the START's block. The steps of all calls together are at most the
+  -- bound, whatever its size.
   module _ (l : loops m ≡ false) where
     pub steps-at-most : (asks : List Ask) → stepsOf bs asks (fresh m) ≤ bound m
     steps-at-most = D.steps-at-most bs m e (accepted-forward bs m e l)
 
     -- By the time the limits of the calls that don't answer 30 add up to the bound, one of the calls has answered an end.
-    pub ended-by-the-bound : (a : Ask) (asks : List Ask) → bound m ≤ limitsOf bs (a ∷ asks) (fresh m) →
-        noneEnds bs (a ∷ asks) (fresh m) ≡ false
+    pub ended-by-the-bound : (a : Ask) (asks : List Ask) → bound m ≤ limitsOf bs (a ∷ asks) (fresh m)
+        → noneEnds bs (a ∷ asks) (fresh m) ≡ false
     ended-by-the-bound = D.ended-by-the-bound bs m e (accepted-forward bs m e l)
 
     -- With no TRY, an empty event list and every process ended, the steps are exactly the bound.
-    pub exactly-the-bound : noTry m ≡ true → (asks : List Ask) → leaves bs asks (fresh m) .events ≡ [] →
-        AllOf (λ q. q .frames ≡ []) (leaves bs asks (fresh m) .processes) → stepsOf bs asks (fresh m) ≡ bound m
+    pub exactly-the-bound : noTry m ≡ true → (asks : List Ask) → leaves bs asks (fresh m) .events ≡ []
+        → AllOf (λ q. q .frames ≡ []) (leaves bs asks (fresh m) .processes) → stepsOf bs asks (fresh m) ≡ bound m
     exactly-the-bound = D.exactly-the-bound bs m e (accepted-forward bs m e l)

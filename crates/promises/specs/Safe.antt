@@ -5,29 +5,26 @@ use native.Mathlib.Omega.{arith}
 use mathlib.Core.Path.{_≡_, refl, ap}
 use mathlib.Core.List.{List, [], _∷_}
 use mathlib.Core.Bool.{Bool, true, false, _&&_}
-use mathlib.Core.Option.{Option, none, some}
 use lib.Dec.{ltb}
 use borrow.Author.Tests.{ltb-true}
 use lib.IntN.{ℤ, negℤ, _+ℤ_, _-ℤ_, _*ℤ_}
 use Rattle.semantics.specs.Words.{if_then_else_, Outcome, ok, fails, _>>=_, _>>_, need, isEmpty}
-use Rattle.semantics.specs.Model.{
-  Expr, literal, global, local, add, subtract, multiply, lesser, greater, negate, theClock, Model,
-  Action, HOLD, PRIO, TRACE, SET, LSET, DO, PUTR, PUTB, PUTS, BECOME, REQ, TRY, WHILE, START, CLOSE
-}
-use Rattle.semantics.specs.State.{
-  State, Process, Frame, Event, Notice, wakes, returnsR, returnsB, Floor, empty, held, process, with-floor, with-events, at-clock
-}
+use Rattle.semantics.specs.Model.{Expr, literal, global, local, add, subtract, multiply, lesser, greater, negate, theClock}
+use Rattle.semantics.specs.Model.{Model, Action, HOLD, PRIO, TRACE, SET, LSET, DO, PUTR, PUTB, PUTS, BECOME, REQ, TRY, WHILE}
+use Rattle.semantics.specs.Model.{START, CLOSE}
+use Rattle.semantics.specs.State.{State, Process, Frame, Event, Notice, wakes, returnsR, returnsB, Floor, empty, held, process}
+use Rattle.semantics.specs.State.{with-floor, with-events, at-clock}
 use Rattle.semantics.specs.Value.{isI32, inRange, eval}
-use Rattle.semantics.specs.Claim.{Offer, offers, standsIn, Choice, waits, goes, choice}
+use Rattle.semantics.specs.Claim.{offers, Choice, choice}
 use Rattle.semantics.specs.Walk.{Next}
 use Rattle.semantics.specs.Step as Step
-use Rattle.semantics.specs.Step.{
-  ends, exhausted, hold, prio, setGlobal, setLocal, doTimes, notify, putr, putb, become, puts, start, request, while, trace,
-  close, act, moves, occurs, next, step
-}
+use Rattle.semantics.specs.Step.{ends, exhausted, hold, prio, setGlobal, setLocal, doTimes, notify, putr, putb, become, puts}
+use Rattle.semantics.specs.Step.{start, request, while, trace, close, act, moves, occurs, next, step}
 use Rattle.semantics.specs.Run.{Before, isClosed, isIdle, goesOn, before}
 use Rattle.promises.specs.Laws.{and-true, if-has, once-self}
 use Rattle.promises.specs.Sound.{al, onFloor, noticed, inEvents, Sound}
+use Rattle.promises.specs.Parts.{moves-has}
+use Rattle.promises.specs.Takes.{choice-has}
 
 pub data Safe {A : Type 0} : Outcome A → Type 0 where
   safe : {a : A} → Safe (ok a)
@@ -64,11 +61,6 @@ module _ (s : State) (q : Process) where
   eval-safe theClock = safe
 
 -- AN ACTION.
-choice-safe : (c : Choice) {x : Outcome Next} {y : ℕ → Offer → Outcome Next}
-    → Safe x → ((i : ℕ) (o : Offer) → Safe (y i o)) → Safe {A = Next} (elim c [ waits ↦ x | goes i o ↦ y i o ])
-choice-safe waits h k = h
-choice-safe (goes i o) h k = k i o
-
 module _ (m : Model) (s : State) (p : ℕ) (q : Process) where
   do-safe : (n b : ℕ) → Safe (doTimes m s p q n b)
   unfolding doTimes
@@ -76,7 +68,7 @@ module _ (m : Model) (s : State) (p : ℕ) (q : Process) where
   do-safe (suc n) b = safe
 
   abbrev chosen : Action → Choice
-  chosen a = choice m s (Step.before m s p q) (offers a)
+  chosen a = choice m s (Step.inFront m s p q) (offers a)
 
   act-safe : (a : Action) → Safe (act m s p q a)
   unfolding act hold prio trace setGlobal setLocal putr putb notify puts become start request while close
@@ -90,9 +82,9 @@ module _ (m : Model) (s : State) (p : ℕ) (q : Process) where
   act-safe (PUTB i n) = safe-need _ _ refl safe
   act-safe (PUTS i n) = safe-need _ _ refl safe
   act-safe (BECOME i) = safe
-  act-safe (REQ c) = choice-safe (chosen (REQ c)) safe (λ i o. safe)
-  act-safe (TRY bs) = choice-safe (chosen (TRY bs)) safe (λ i o. safe)
-  act-safe (WHILE b c) = choice-safe (chosen (WHILE b c)) safe (λ i o. safe)
+  act-safe (REQ c) = choice-has Safe (chosen (REQ c)) (λ g. safe) (λ i o g. safe)
+  act-safe (TRY bs) = choice-has Safe (chosen (TRY bs)) (λ g. safe) (λ i o g. safe)
+  act-safe (WHILE b c) = choice-has Safe (chosen (WHILE b c)) (λ g. safe) (λ i o g. safe)
   act-safe (START c t h) = safe-need _ _ refl (safe-need _ _ refl (safe-need _ _ refl safe))
   act-safe CLOSE = safe
 
@@ -104,16 +96,16 @@ module _ (m : Model) (s : State) (p : ℕ) (q : Process) where
       if-has Safe (ltb 1 (f .rounds)) (λ e. safe)
       (λ e. if-has Safe (isEmpty fs) (λ g. safe-need _ _ refl safe) (λ g. safe))
 
+-- Closed and idle are no going on.
+pub idle-stops : (c : Bool) → _≡_ {A = Before} (if c then isClosed else isIdle) goesOn → ⊥
+idle-stops true e = let z : _≡_ {A = ℕ} 0 1 = cc in omega arith
+idle-stops false e = let z : _≡_ {A = ℕ} 0 1 = cc in omega arith
+
 module _ (m : Model) where
   moves-safe : (s : State) (p : ℕ) → 1 ≤ al (process s p .frames) → Safe (moves m s p)
-  unfolding moves
-  moves-safe s p l = go (standsIn m (process s p .frames))
-    where
-      go : (x : Option Action)
-          → Safe {A = Next}
-          (elim x [ none ↦ exhausted m s p (process s p) (process s p .frames) | some a ↦ act m s p (process s p) a ])
-      go none = exhausted-safe m s p (process s p) (process s p .frames) l
-      go (some a) = act-safe m s p (process s p) a
+  moves-safe s p l =
+      moves-has Safe m s p (λ e. exhausted-safe m s p (process s p) (process s p .frames) l)
+      (λ a e. act-safe m s p (process s p) a)
 
   -- THE FIRST of the event list.
   occurs-safe : (s : State) (n : Notice) → ((p : ℕ) → noticed p n ≤ al (process s p .frames)) → Safe (occurs m s n)
@@ -124,10 +116,6 @@ module _ (m : Model) where
   occurs-safe s (returnsB i n g) l = safe-need _ _ refl safe
 
   -- A STEP. Whoever has the floor, or is first, is listed, and so lives.
-  idle-stops : (c : Bool) → _≡_ {A = Before} (if c then isClosed else isIdle) goesOn → ⊥
-  idle-stops true e = let z : _≡_ {A = ℕ} 0 1 = cc in omega arith
-  idle-stops false e = let z : _≡_ {A = ℕ} 0 1 = cc in omega arith
-
   pub step-safe : (s : State) → Sound m s → before s ≡ goesOn → Safe (step m s)
   unfolding step next
   step-safe s h b = go (s .floor) (s .events) refl refl

@@ -12,7 +12,7 @@ use lib.Signed.{leZ, ltZ}
 use Rattle.semantics.specs.Words.{all, isEmpty, ordered, upTo, within}
 use Rattle.semantics.specs.State.{Event, Waiter, sooner, higher}
 use Rattle.semantics.specs.Sound.{same}
-use Rattle.promises.specs.Laws.{no-way, and-true, true-and, not-true, not-false, AllOf, Ordered}
+use Rattle.promises.specs.Laws.{no-way, and-true, true-and, not-true, not-false, AllOf, empty-is, Ordered}
 use Rattle.promises.specs.Fit.{Within}
 use Rattle.promises.specs.Sound.{Below, Late, Ranked}
 
@@ -30,11 +30,12 @@ says-true = record { yes = λ e. tt; back = λ h. refl }
 pub says-for : {b : Bool} {P Q : Type 0} → Says b P → (P → Q) → (Q → P) → Says b Q
 says-for p f g = record { yes = λ e. f (p .yes e); back = λ h. p .back (g h) }
 
-pub says-and : {a b : Bool} {P Q : Type 0} → Says a P → Says b Q → Says (a && b) (P × Q)
-says-and {a} {b} p q =
+infixr 4 _and_
+pub _and_ : {a b : Bool} {P Q : Type 0} → Says a P → Says b Q → Says (a && b) (P × Q)
+_and_ {a} {b} p q =
     record {
       yes = λ e. (p .yes (and-true a b e .0), q .yes (and-true a b e .1));
-      back = λ h. true-and a b (p .back (h .0)) (q .back (h .1))
+      back = λ h. true-and a b (p .back (h .0)) (q .back (h .1));
     }
 
 -- NUMBERS.
@@ -48,24 +49,22 @@ pub says-eq : {a b : ℕ} → Says (eqb a b) (a ≡ b)
 says-eq {a} {b} = record { yes = eqb-true a b; back = eq-eqb a b }
 
 pub says-within : {lo hi n : ℕ} → Says (within lo hi n) (Within lo hi n)
-says-within = says-for (says-and says-le says-le) (λ h. record { low = h .0; high = h .1 }) (λ w. (w .low, w .high))
+says-within = says-for (says-le and says-le) (λ h. record { low = h .0; high = h .1 }) (λ w. (w .low, w .high))
 
 -- LISTS.
 module _ {A : Type 0} where
   pub says-all : {f : A → Bool} {P : A → Type 0}
       → ((a : A) → Says (f a) (P a)) → (xs : List A) → Says (all f xs) (AllOf P xs)
   says-all h [] = says-true
-  says-all h (x ∷ xs) = says-and (h x) (says-all h xs)
+  says-all h (x ∷ xs) = h x and says-all h xs
 
   pub says-ordered : {f : A → A → Bool} {R : A → A → Type 0}
       → ((a b : A) → Says (f a b) (R a b)) → (xs : List A) → Says (ordered f xs) (Ordered R xs)
   says-ordered h [] = says-true
-  says-ordered h (x ∷ xs) = says-and (says-all (h x) xs) (says-ordered h xs)
+  says-ordered h (x ∷ xs) = says-all (h x) xs and says-ordered h xs
 
   pub says-empty : (xs : List A) → Says (isEmpty xs) (xs ≡ [])
-  says-empty [] = record { yes = λ e. refl; back = λ e. refl }
-  says-empty (x ∷ xs) =
-      record { yes = λ e. no-way e; back = λ e. (let z : _≡_ {A = ℕ} 0 1 = cc in absurd (omega arith)) }
+  says-empty xs = record { yes = empty-is xs; back = λ e. ap isEmpty e }
 
   -- One test of all, taken out of several.
   pub says-also : (f g : A → Bool) (xs : List A) {Q : Type 0}
@@ -75,7 +74,7 @@ module _ {A : Type 0} where
       apart : (xs : List A) → Says (all (λ x. f x && g x) xs) ((all f xs ≡ true) × (all g xs ≡ true))
       apart [] = record { yes = λ e. (refl, refl); back = λ h. refl }
       apart (x ∷ xs) =
-          says-for (says-and (says-and says-is says-is) (apart xs))
+          says-for ((says-is and says-is) and apart xs)
           (λ h. (true-and (f x) _ (h .0 .0) (h .1 .0), true-and (g x) _ (h .0 .1) (h .1 .1)))
           (λ h. let a = and-true (f x) _ (h .0) in let b = and-true (g x) _ (h .1) in ((a .0, b .0), (a .1, b .1)))
 
@@ -83,7 +82,7 @@ pub says-upTo : {f : ℕ → Bool} {P : ℕ → Type 0}
     → ((k : ℕ) → Says (f k) (P k)) → (n : ℕ) → Says (all f (upTo n)) ((k : ℕ) → k < n → P k)
 says-upTo h zero = record { yes = λ e k l. absurd (omega arith); back = λ p. refl }
 says-upTo {P} h (suc n) =
-    says-for (says-and (h n) (says-upTo h n)) (λ p k l. pick p k l (eqb k n) refl)
+    says-for (h n and says-upTo h n) (λ p k l. pick p k l (eqb k n) refl)
     (λ p. (p n (omega arith), λ k l. p k (omega arith)))
   where
     pick : P n × ((k : ℕ) → k < n → P k) → (k : ℕ) → k < suc n → (b : Bool) → eqb k n ≡ b → P k
@@ -101,7 +100,7 @@ says-below (negsuc a) (negsuc b) =
 
 pub says-same : (x y : ℤ) → Says (same x y) (x ≡ y)
 says-same x y =
-    says-for (says-and (says-below x y) (says-below y x)) (λ h. meet x y (h .0) (h .1)) (λ e. (rw e (self y), rw e (self y)))
+    says-for (says-below x y and says-below y x) (λ h. meet x y (h .0) (h .1)) (λ e. (rw e (self y), rw e (self y)))
   where
     self : (z : ℤ) → Below z z
     self z = record { ups = omega arith; downs = omega arith }

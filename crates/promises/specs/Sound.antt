@@ -1,16 +1,16 @@
--- What holds of a sound run, as propositions: the clauses of document 01, counted. `Decides` shows that soundIn tests exactly this.
+-- What holds of a sound run, as propositions: the clauses of document 01, counted. `Decides` shows that soundIn tests exactly
+-- this.
 -- Assumes nothing.
-use Prim.Native.Nat.{ℕ, zero, suc, _+_, _-_, _≤_, _<_}
+use Prim.Native.Nat.{ℕ, suc, _+_, _≤_, _<_}
 use mathlib.Core.Path.{_≡_}
 use mathlib.Core.List.{List, [], _∷_}
-use mathlib.Core.Bool.{Bool, true, false}
+use mathlib.Core.Bool.{true}
 use lib.ListN.{length, getD}
 use lib.IntN.{ℤ, pos, negsuc}
 use Rattle.semantics.specs.Numbers as No
 use Rattle.semantics.specs.Model.{Model}
-use Rattle.semantics.specs.State.{
-  State, Process, Frame, Slave, Waiter, Event, Notice, wakes, returnsR, returnsB, Floor, empty, held, nobody
-}
+use Rattle.semantics.specs.State.{State, Process, Frame, Slave, Waiter, Event, Notice, wakes, returnsR, returnsB, Floor, empty}
+use Rattle.semantics.specs.State.{held, nobody}
 use Rattle.semantics.specs.Claim.{standsIn}
 use Rattle.semantics.specs.Step.{lowest, ofReturns}
 use Rattle.semantics.specs.Sound.{chained, asksAt}
@@ -30,8 +30,8 @@ pub record Below (x y : ℤ) : Type 0 where
   pub ups : up x ≤ up y
   pub downs : down y ≤ down x
 
--- COUNTS. 1 where somebody lives; how often place k is listed: on the floor, in the event list, in a list of waiters, in all waiting
--- lists, among a process's slaves, among all slaves.
+-- COUNTS. 1 where somebody lives; how often place k is listed: on the floor, in the event list, in a list of waiters, in all
+-- waiting lists, among a process's slaves, among all slaves.
 abbrev pub al : List Frame → ℕ
 al [] = 0
 al (f ∷ fs) = 1
@@ -138,9 +138,18 @@ Tied ps w = w .priority ≡ getD ps (w .place) nobody .priority
 abbrev pub Stands : Model → List Process → Waiter → Type 0
 Stands m ps w = asksAt (standsIn m (getD ps (w .place) nobody .frames)) ≡ true
 
--- WHAT HOLDS IN THE MIDDLE OF A STEP, over the parts of a state: l is the blocked list, z counts the places in hand (on the floor, or
--- being moved), y is what of each resource is in hand.
-pub record Inv (m : Model) (c n : ℕ) (gs : List ℤ) (fr bi : List ℕ) (wa : List (List Waiter)) (es : List Event) (ps : List Process) (l : List Waiter) (z y : ℕ → ℕ) : Type 0 where
+-- EXACTLY ONE. Place k is listed or in hand, as often as z says, once where somebody lives and else not at all. AMOUNTS ADD UP:
+-- what of resource i is free, held, returning and in hand, as much as y says, is its total.
+abbrev pub InOne : List Event → List (List Waiter) → List Process → List Waiter → (ℕ → ℕ) → ℕ → Type 0
+InOne es wa ps l z k = inEvents k es + inAll k wa + owned k ps + waits k l + z k ≡ al (getD ps k nobody .frames)
+
+abbrev pub AddsUp : Model → List ℕ → List Process → List Event → (ℕ → ℕ) → ℕ → Type 0
+AddsUp m fr ps es y i = getD fr i 0 + heldIn i ps + backIn i es + y i ≡ getD (m .totals) i 0
+
+-- WHAT HOLDS IN THE MIDDLE OF A STEP, over the parts of a state: l is the blocked list, z counts the places in hand (on the
+-- floor, or being moved), y is what of each resource is in hand.
+pub record Inv (m : Model) (c n : ℕ) (gs : List ℤ) (fr bi : List ℕ) (wa : List (List Waiter)) (es : List Event)
+    (ps : List Process) (l : List Waiter) (z y : ℕ → ℕ) : Type 0 where
   pub places-64 : length ps ≡ No.places
   pub syncs-many : length wa ≡ m .syncs
   pub frees-many : length fr ≡ length (m .totals)
@@ -160,8 +169,8 @@ pub record Inv (m : Model) (c n : ℕ) (gs : List ℤ) (fr bi : List ℕ) (wa : 
   pub blocked-stand : AllOf (Stands m ps) l
   pub waiting-ordered : AllOf (Ordered Ranked) wa
   pub waiting-tied : AllOf (AllOf (Tied ps)) wa
-  pub in-one : (k : ℕ) → inEvents k es + inAll k wa + owned k ps + waits k l + z k ≡ al (getD ps k nobody .frames)
-  pub adds-up : (i : ℕ) → getD fr i 0 + heldIn i ps + backIn i es + y i ≡ getD (m .totals) i 0
+  pub in-one : (k : ℕ) → InOne es wa ps l z k
+  pub adds-up : (i : ℕ) → AddsUp m fr ps es y i
 
 abbrev pub Held : Model → State → List Waiter → (ℕ → ℕ) → (ℕ → ℕ) → Type 0
 Held m s l z y = Inv m (s .clock) (s .last) (s .globals) (s .free) (s .bins) (s .waiting) (s .events) (s .processes) l z y

@@ -5,7 +5,7 @@ use native.Mathlib.Omega.{arith}
 use mathlib.Core.Path.{_≡_, refl, sym, ap, subst, _∙_}
 use mathlib.Core.List.{List, [], _∷_, map}
 use mathlib.Core.Bool.{true, _&&_}
-use mathlib.Core.Option.{Option, none, some}
+use mathlib.Core.Option.{some}
 use lib.Dec.{eqb, leb, ltb}
 use borrow.Author.Tests.{ltb-true, leb-true, le-leb, eqb-true, eq-eqb}
 use lib.ListN.{length, getD, set, length-set, length-map}
@@ -13,39 +13,31 @@ use lib.IntN.{ℤ, natAbs}
 use lib.Signed.{leZ, nonNeg}
 use Rattle.semantics.specs.Words.{if_then_else_, Outcome, ok, _>>=_, all, keep, isEmpty, more, less, within}
 use Rattle.semantics.specs.Numbers as No
-use Rattle.semantics.specs.Model.{
-  Expr, Share, Model,
-  Action, HOLD, PRIO, TRACE, SET, LSET, DO, PUTR, PUTB, PUTS, BECOME, REQ, TRY, WHILE, START, CLOSE
-}
-use Rattle.semantics.specs.State.{
-  State, Process, Frame, Waiter, Event, Notice, wakes, returnsR, returnsB, Floor, empty, held, nobody, process, put, freePlace,
-  living, newcomer, at-clock, with-last, with-globals, with-free, with-bins, with-waiting, with-floor, with-events,
-  with-priority, with-locals, with-held, with-slaves, with-frames, wake, join, past, into, begin
-}
+use Rattle.semantics.specs.Model.{Expr, Share, Model, Action, HOLD, PRIO, TRACE, SET, LSET, DO, PUTR, PUTB, PUTS, BECOME, REQ}
+use Rattle.semantics.specs.Model.{TRY, WHILE, START, CLOSE}
+use Rattle.semantics.specs.State.{State, Process, Frame, Waiter, Event, Notice, wakes, returnsR, returnsB, Floor, empty, held}
+use Rattle.semantics.specs.State.{nobody, process, put, freePlace, living, newcomer, at-clock, with-last, with-globals}
+use Rattle.semantics.specs.State.{with-free, with-bins, with-waiting, with-floor, with-events, with-priority, with-locals}
+use Rattle.semantics.specs.State.{with-held, with-slaves, with-frames, wake, join, past, into, begin}
 use Rattle.semantics.specs.Value.{eval}
 use Rattle.semantics.specs.Claim.{Offer, offers, standsIn, goes, choice, grant}
 use Rattle.semantics.specs.Walk.{Next, quiet}
-use Rattle.semantics.specs.Step.{
-  lowest, ofReturns, isReturn, handed, kept, freed, stay, freeAll, leave, ends, exhausted, hold, prio, setGlobal, setLocal,
-  doTimes, notify, putr, putb, become, puts, start, before, request, while, trace, close, act, moves, occurs, next, step
-}
+use Rattle.semantics.specs.Step.{lowest, ofReturns, isReturn, handed, kept, freed, stay, freeAll, leave, ends, exhausted, hold}
+use Rattle.semantics.specs.Step.{prio, setGlobal, setLocal, doTimes, notify, putr, putb, become, puts, start, inFront, request}
+use Rattle.semantics.specs.Step.{while, trace, close, act, moves, occurs, next, step}
 use Rattle.semantics.specs.Sound.{chained, asking, asksAt}
-use Rattle.promises.specs.Laws.{
-  and-true, true-and, if-has, Good, good, stopped, good-then, good-need, good-out, all-map, all-get, over, over-set,
-  once, once-self
-}
+use Rattle.promises.specs.Laws.{and-true, true-and, if-has, Good, good, stopped, good-then, good-need, good-out, all-map}
+use Rattle.promises.specs.Laws.{all-get, all-hold, empty-is, over, over-still, once, once-self, more-at, less-at}
 use Rattle.promises.specs.Fit.{I32, ExprFit, ShareFit, ActFit, Fit}
 use Rattle.promises.specs.Sound.{al, onFloor, noticed, slaved, gives, owes, Fine, NoticeOk, Held, Sound}
-use Rattle.promises.specs.Keep.{all-hold, empty-is, livingIn, living-are, some-free}
-use Rattle.promises.specs.Moves.{
-  hand-in, hand-fine, recount, remove, create, is-entered, frees, bin-is, global-is, first-out, joins, blocks
-}
-use Rattle.promises.specs.Parts.{
-  eval-good, priority-ok, fit-at, onward-al, chain-into, chain-parts, chain-again, leave-chain, leave-al,
-  fine-held, fine-slaves, fine-local, fine-priority, new-fine, more-at, less-at, zeros-at, handOver, handed-length, handed-at,
-  kept-length, kept-at, freed-stay, stay-all, returning-are
-}
-use Rattle.promises.specs.Takes.{goes-past, goes-into, still-grant, choice-has, wakes-up, goes-held, walk-sound}
+use Rattle.promises.specs.Keep.{livingIn, living-are, some-free}
+use Rattle.promises.specs.Moves.{hand-fine, recount, remove, create, is-entered, frees, bin-is, global-is, first-out}
+use Rattle.promises.specs.Moves.{joins, blocks}
+use Rattle.promises.specs.Parts.{eval-good, priority-ok, fit-at, moves-has, onward-al, chain-into, chain-parts}
+use Rattle.promises.specs.Parts.{chain-again, leave-chain, leave-al, fine-held, fine-slaves, fine-local, fine-priority}
+use Rattle.promises.specs.Parts.{new-fine, zeros-at, handOver, handed-length, handed-at, kept-length, kept-at, freed-stay}
+use Rattle.promises.specs.Parts.{stay-all, returning-are}
+use Rattle.promises.specs.Takes.{still-grant, goes-past, goes-into, choice-has, goes-held, wakes-up, walk-sound}
 
 abbrev Leads : Model → Outcome Next → Type 0
 Leads m o = Good (λ n. Sound m (n .state)) o
@@ -211,15 +203,15 @@ module _ (m : Model) (t : Fit m) (r : State) (p : ℕ) where
     request-sound : (a : Action) → At a → asking a ≡ true → Leads m (request m s p q a)
     unfolding request
     request-sound a e k =
-        choice-has (Leads m) (choice m s (before m s p q) (offers a))
+        choice-has (Leads m) (choice m s (inFront m s p q) (offers a))
         (λ g. good (blocks s h p (λ k. omega arith) (ap asksAt e ∙ k)))
-        (λ i o g. good (granted a (before m s p q) e i o g))
+        (λ i o g. good (granted a (inFront m s p q) e i o g))
 
     while-sound : (a : Action) → At a → Leads m (while m s p q a)
     unfolding while
     while-sound a e =
-        choice-has (Leads m) (choice m s (before m s p q) (offers a)) (λ g. good (passes a e))
-        (λ i o g. good (granted a (before m s p q) e i o g))
+        choice-has (Leads m) (choice m s (inFront m s p q) (offers a)) (λ g. good (passes a e))
+        (λ i o g. good (granted a (inFront m s p q) e i o g))
 
     -- The giver goes on with as many blocks, so there is still a free place.
     start-sound : (c d : ℕ) (hs : List Share) → At (START c d hs) → ActFit m (START c d hs) → Leads m (start m s p q c d hs)
@@ -237,8 +229,8 @@ module _ (m : Model) (t : Fit m) (r : State) (p : ℕ) where
         goes-past m s h p one x (START c d hs) e (fine-held fine _ (kept-length hs (q .held))) refl refl (λ k. refl)
         (λ j. let a = kept-at hs (q .held) j (rw many known) (k .4) (all-hold _ hs h₂) in omega arith) in
         let room : livingIn (giver .processes) < No.places =
-        let a = over-set (λ q. al (q .frames)) (s .processes) p (past x) nobody (hand-in h p one) in
-        let d = onward-al (q .frames) in let f = living-are s in let u = ltb-true (living s) No.places (b .0) in omega arith in
+        let a = over-still (λ q. al (q .frames)) (s .processes) p (past x) nobody (onward-al (q .frames)) in
+        let f = living-are s in let u = ltb-true (living s) No.places (b .0) in omega arith in
         let zeros : List ℕ = map (λ x. 0) (q .held) in
         let zeros-many : length zeros ≡ length (m .totals) = length-map (q .held) (λ x. 0) ∙ many in
         good
@@ -295,14 +287,9 @@ module _ (m : Model) (t : Fit m) (r : State) (p : ℕ) where
         outward (g ∷ gs) k = good (goes-into m s h p one _ (leave-chain m (g ∷ gs) k) (leave-al m g gs))
 
     moves-sound : Leads m (moves m s p)
-    unfolding moves
-    moves-sound = go (standsIn m (q .frames)) refl
-      where
-        go :
-            (x : Option Action) → standsIn m (q .frames) ≡ x
-            → Leads m (elim x [ none ↦ exhausted m s p q (q .frames) | some a ↦ act m s p q a ])
-        go none e = exhausted-sound (q .frames) refl
-        go (some a) e = act-sound a e (fit-at m t (q .frames) a e)
+    moves-sound =
+        moves-has (Leads m) m s p (λ e. exhausted-sound (q .frames) refl)
+        (λ a e. act-sound a e (fit-at m t (q .frames) a e))
 
 -- ONE STEP.
 module _ (m : Model) (t : Fit m) where

@@ -1,6 +1,6 @@
 -- Taking a claim and the walk keep what holds of a sound run.
 -- Assumes nothing.
-use Prim.Native.Nat.{ℕ, zero, suc, _+_, _≤_, _<_}
+use Prim.Native.Nat.{ℕ, suc, _+_, _≤_, _<_}
 use native.Mathlib.Omega.{arith}
 use mathlib.Core.Path.{_≡_, refl, ap, _∙_}
 use mathlib.Core.List.{List, [], _∷_, _++_, map, append-assoc, append-nil}
@@ -11,45 +11,28 @@ use borrow.Author.Tests.{leb-true, eq-eqb, eqb-false}
 use lib.ListN.{length, getD, set, take, drop, length-set}
 use Rattle.semantics.specs.Words.{any, more, less}
 use Rattle.semantics.specs.Numbers as No
-use Rattle.semantics.specs.Model.{
-  Kind, resource, bin, sync, Item, get, condition, Claim, Branch, Model,
-  Action, HOLD, PRIO, TRACE, SET, LSET, DO, PUTR, PUTB, PUTS, BECOME, REQ, TRY, WHILE, START, CLOSE
-}
-use Rattle.semantics.specs.State.{
-  State, Process, Frame, Slave, Waiter, wakes, nobody, process, put, with-free, with-waiting, with-held, with-slaves,
-  with-frames, wake, past, into
-}
-use Rattle.semantics.specs.Claim.{
-  there, itemMet, met, takeItem, takeAll, Then, pass, enterBlock, Offer, offers, standsIn, offersAt, asks, sameKind, barred,
-  Choice, waits, goes, firstMet, choice, follow, grant
-}
+use Rattle.semantics.specs.Model.{Kind, resource, bin, sync, Item, get, condition, Claim, Branch, Model, Action, HOLD, PRIO}
+use Rattle.semantics.specs.Model.{TRACE, SET, LSET, DO, PUTR, PUTB, PUTS, BECOME, REQ, TRY, WHILE, START, CLOSE}
+use Rattle.semantics.specs.State.{State, Process, Frame, Slave, Waiter, wakes, nobody, process, put, with-free, with-waiting}
+use Rattle.semantics.specs.State.{with-held, with-slaves, with-frames, wake, past, into}
+use Rattle.semantics.specs.Claim.{there, itemMet, met, takeItem, takeAll, Then, pass, enterBlock, Offer, offers, standsIn}
+use Rattle.semantics.specs.Claim.{offersAt, asks, sameKind, barred, Choice, waits, goes, firstMet, choice, follow, grant}
 use Rattle.semantics.specs.Walk.{Next, walkOn, walk}
 use Rattle.semantics.specs.Sound.{enters, chained}
-use Rattle.promises.specs.Laws.{
-  true-and, or-left, or-right, AllOf, all-map, all-both, all-get, all-append, Ordered, over-append, only, once, once-self,
-  once-apart, set-away
-}
+use Rattle.promises.specs.Laws.{true-and, or-left, or-right, AllOf, all-map, all-both, all-get, all-append, all-hold}
+use Rattle.promises.specs.Laws.{Ordered, over-append, get-still, over-map, only, once, once-self, once-apart, set-away}
+use Rattle.promises.specs.Laws.{more-at, less-at}
 use Rattle.promises.specs.Fit.{ItemFit, Apart, ClaimFit, BranchFit, ActFit, Fit}
 use Rattle.promises.specs.Sound.{al, onFloor, waits as waiting, slaved, Fine, Held, Sound}
-use Rattle.promises.specs.Keep.{all-hold}
 use Rattle.promises.specs.Moves.{hand-alive, hand-fine, alter, is-entered, unwaits, frees, bin-is, unblocks}
-use Rattle.promises.specs.Parts.{
-  fit-at, onward-al, chain-into, fine-frames, fine-past, fine-held, fine-slaves, more-at, less-at
-}
+use Rattle.promises.specs.Parts.{fit-at, onward-al, chain-into, fine-frames, fine-past, fine-held, fine-slaves}
 
--- A process that keeps its blocks leaves them where they are.
-frames-set :
-    (ps : List Process) (p : ℕ) (r : Process) → r .frames ≡ getD ps p nobody .frames
-    → getD (set ps p r) p nobody .frames ≡ getD ps p nobody .frames
-frames-set [] p r e = refl
-frames-set (x ∷ xs) zero r e = e
-frames-set (x ∷ xs) (suc p) r e = frames-set xs p r e
-
--- TAKING leaves the clock, the globals, the floor and the blocked list alone,
+-- TAKING leaves the clock, the globals, the floor, the event list and the blocked list alone,
 pub record Still (s t : State) : Type 0 where
   pub same-clock : t .clock ≡ s .clock
   pub same-globals : t .globals ≡ s .globals
   pub same-floor : t .floor ≡ s .floor
+  pub same-events : t .events ≡ s .events
   pub same-blocked : t .blocked ≡ s .blocked
 
 module _ (p : ℕ) where
@@ -67,8 +50,11 @@ module _ (p : ℕ) where
       let a = still-item i s in
       let b = still-all is (takeItem p i s) in
       record {
-        same-clock = b .same-clock ∙ a .same-clock; same-globals = b .same-globals ∙ a .same-globals;
-        same-floor = b .same-floor ∙ a .same-floor; same-blocked = b .same-blocked ∙ a .same-blocked;
+        same-clock = b .same-clock ∙ a .same-clock;
+        same-globals = b .same-globals ∙ a .same-globals;
+        same-floor = b .same-floor ∙ a .same-floor;
+        same-events = b .same-events ∙ a .same-events;
+        same-blocked = b .same-blocked ∙ a .same-blocked;
       }
 
   pub still-grant : (o : Offer) (s : State) → Still s (grant p o s)
@@ -95,22 +81,18 @@ module _ (p : ℕ) where
   still-met (condition i r v) (get l j o) s a h = h
   still-met x (condition j r v) s a h = rw (still-item x s .same-globals) h
 
-  take-frames : (c : Claim) (s : State) → process (takeAll p c s) p .frames ≡ process s p .frames
+  pub take-frames : (c : Claim) (s : State) → process (takeAll p c s) p .frames ≡ process s p .frames
   unfolding takeAll takeItem
   take-frames [] s = refl
   take-frames (i ∷ is) s = take-frames is (takeItem p i s) ∙ of-item i
     where
       of-item : (i : Item) → process (takeItem p i s) p .frames ≡ process s p .frames
-      of-item (get resource i n) = frames-set (s .processes) p _ refl
+      of-item (get resource i n) = get-still (λ (q : Process). q .frames) (s .processes) p _ nobody refl
       of-item (get bin i n) = refl
-      of-item (get sync i n) = frames-set (s .processes) p _ refl
+      of-item (get sync i n) = get-still (λ (q : Process). q .frames) (s .processes) p _ nobody refl
       of-item (condition i r v) = refl
 
 -- The first n of a waiting list become slaves of sync i.
-slaves-are : (k i : ℕ) (ws : List Waiter) → slaved k (map (λ x. record { of = i; place = x .place }) ws) ≡ waiting k ws
-slaves-are k i [] = refl
-slaves-are k i (w ∷ ws) = let ih = slaves-are k i ws in omega arith
-
 slaves-of :
     (n i : ℕ) (ws : List Waiter) → i < n
     → AllOf (λ x. x .of < n) (map {B = Slave} (λ x. record { of = i; place = x .place }) ws)
@@ -170,13 +152,17 @@ module _ (m : Model) (s : State) {l : List Waiter} {z : ℕ → ℕ} (h : Held m
       let f = hand-fine h p one in
       let k₀ = k .0 in
       let w : List Waiter = getD (s .waiting) i [] in
-      let v : List Slave = map (λ x. record { of = i; place = x .place }) (take n w) in
+      let slave : Waiter → Slave = λ x. record { of = i; place = x .place } in
+      let v : List Slave = map slave (take n w) in
       let u : i < length (s .waiting) = let a = h .syncs-many in omega arith in
       let a : Held m (with-waiting s (set (s .waiting) i (drop n w))) l (λ j. waiting j (take n w) + z j) (λ j. 0) =
       unwaits h i n u (λ j. refl) in
       let b = all-append (λ x. x .of < m .syncs) (q .slaves) v (f .slaves-ok) (slaves-of (m .syncs) i (take n w) k₀) in
       alter a p (with-slaves q (q .slaves ++ v)) (omega arith) (fine-slaves f _ b) (hand-alive h p one) refl
-      (λ j. let b = over-append (λ x. once j (x .place)) (q .slaves) v in let d = slaves-are j i (take n w) in omega arith)
+      (λ j.
+      let b = over-append (λ x. once j (x .place)) (q .slaves) v in
+      let d = over-map (λ x. once j (x .place)) slave (take n w) in
+      omega arith)
       (λ j. refl)
   take-item (condition i r v) k e = h
 
@@ -230,6 +216,17 @@ module _ (P : Offer → Type 0) (s : State) (i : ℕ) (o : Offer) where
       go true g = not-goes g
       go false g = met-in 0 os h g
 
+-- Whoever asks stands at an action that offers.
+pub asks-at :
+    (m : Model) (s : State) (ws : List Waiter) (p i : ℕ) (o : Offer) (P : Type 0)
+    → ((a : Action) → standsIn m (process s p .frames) ≡ some a → choice m s ws (offers a) ≡ goes i o → P)
+    → choice m s ws (asks m s p) ≡ goes i o → P
+asks-at m s ws p i o P f = go (standsIn m (process s p .frames)) refl
+  where
+    go : (x : Option Action) → standsIn m (process s p .frames) ≡ x → choice m s ws (offersAt x) ≡ goes i o → P
+    go none e g = absurd (chosen (λ o. ⊥) s i o m ws [] tt g .0)
+    go (some a) e g = f a e g
+
 pub choice-has :
     {A : Type 0} (P : A → Type 0) (c : Choice) {x : A} {y : ℕ → Offer → A} → (c ≡ waits → P x)
     → ((i : ℕ) (o : Offer) → c ≡ goes i o → P (y i o)) → P (elim c [ waits ↦ x | goes i o ↦ y i o ])
@@ -281,13 +278,7 @@ module _
       grant-held m p l z one a o s h e (c .0 .0) (c .0 .1) (c .1)
 
   goes-asks : choice m s ws (asks m s p) ≡ goes i o → Held m (grant p o s) l z (λ j. 0)
-  goes-asks g = go (standsIn m (process s p .frames)) refl g
-    where
-      go :
-          (x : Option Action) → standsIn m (process s p .frames) ≡ x → choice m s ws (offersAt x) ≡ goes i o
-          → Held m (grant p o s) l z (λ j. 0)
-      go none e f = absurd (chosen (λ o. ⊥) s i o m ws [] tt f .0)
-      go (some a) e f = goes-held a e f
+  goes-asks = asks-at m s ws p i o (Held m (grant p o s) l z (λ j. 0)) goes-held
 
 -- Whoever is in hand enters the event list.
 pub wakes-up :

@@ -11,56 +11,34 @@ use borrow.Author.Tests.{leb-true, ltb-true, ltb-false, eqb-true}
 use lib.ListN.{length, getD, drop, length-map}
 use Rattle.semantics.specs.Words.{all, any, within}
 use Rattle.semantics.specs.Numbers as No
-use Rattle.semantics.specs.Model.{
-  Expr, add, subtract, multiply, lesser, greater, negate, theClock, resource, bin, sync, Item, get, condition, Model
-}
+use Rattle.semantics.specs.Model.{Expr, add, subtract, multiply, lesser, greater, negate, theClock, resource, bin, sync, Item}
+use Rattle.semantics.specs.Model.{get, condition, Model}
 use Rattle.semantics.specs.Bytes.{u8, u16, u32, i32, signed, parts}
-use Rattle.semantics.specs.Record.{
-  Node, leaf, unary, binary, nodeOf, onto, pile, nodes, theTree, expressionIn, Part, item, share, partSize, partValid, samePart,
-  repeats, partsOf, listValid, listTwice, relationOf, itemOf, claimIn, shareOf, sharesIn, branchesFrom, branchOf, branchesIn,
-  Tail, expression, branches, listOf, claim, shares, valid, twice, inSet,
-  Entry, RES, BIN, SYNC, VAR, CLASS, BLOCK, ENTITY, ACTION, Row, table, rowOf
-}
+use Rattle.semantics.specs.Record.{Node, leaf, unary, binary, nodeOf, onto, pile, nodes, theTree, expressionIn, Part, item}
+use Rattle.semantics.specs.Record.{share, partSize, partValid, samePart, repeats, partsOf, listValid, listTwice, relationOf}
+use Rattle.semantics.specs.Record.{itemOf, claimIn, shareOf, sharesIn, branchesFrom, branchOf, branchesIn, Tail, expression}
+use Rattle.semantics.specs.Record.{branches, listOf, claim, shares, valid, twice, inSet, Entry, RES, BIN, SYNC, VAR, CLASS}
+use Rattle.semantics.specs.Record.{BLOCK, ENTITY, ACTION, Row, table, rowOf}
 use Rattle.semantics.specs.Decode.{nodeKnown, partKnown, tailKnown, fieldKnown, Gathered, depth}
-use Rattle.promises.specs.Laws.{
-  no-way, and-true, or-true, or-false, if-has, AllOf, all-both, all-get, Ordered
-}
-use Rattle.promises.specs.Fit.{
-  I32, Within, ExprFit, ItemFit, Apart, ClaimFit, BranchFit, ShareFit, SharesApart, ActFit, EntityFit
-}
-use Rattle.promises.specs.Passes.{its-row, Judged, Named}
+use Rattle.promises.specs.Laws.{no-way, and-true, or-false, or-true, if-has, _&_, AllOf, all-both, all-get, all-mapped}
+use Rattle.promises.specs.Laws.{all-hold, none-hold, Ordered}
+use Rattle.promises.specs.Fit.{I32, Within, ExprFit, ItemFit, Apart, ClaimFit, BranchFit, ShareFit, SharesApart, ActFit}
+use Rattle.promises.specs.Fit.{EntityFit}
+use Rattle.promises.specs.Says.{says-within}
+use Rattle.promises.specs.Passes.{Judged, Named, its-row}
 use Rattle.promises.specs.Counted.{counts}
 
--- TESTS over lists.
-module _ {A : Type 0} where
-  pub all-true : (f : A → Bool) (xs : List A) → all f xs ≡ true → AllOf (λ x. f x ≡ true) xs
-  all-true f [] e = tt
-  all-true f (x ∷ xs) e = let a = and-true (f x) _ e in (a .0, all-true f xs (a .1))
-
-  pub none-true : (f : A → Bool) (xs : List A) → any f xs ≡ false → AllOf (λ x. f x ≡ false) xs
-  none-true f [] e = tt
-  none-true f (x ∷ xs) e = let a = or-false (f x) _ e in (a .0, none-true f xs (a .1))
-
-  pub all-mapped : {B : Type 0} (P : A → Type 0) (Q : B → Type 0) (f : A → B) → ((x : A) → P x → Q (f x)) →
-      (xs : List A) → AllOf P xs → AllOf Q (map f xs)
-  all-mapped P Q f g [] h = tt
-  all-mapped P Q f g (x ∷ xs) h = (g x (h .0), all-mapped P Q f g xs (h .1))
-
 -- What does not repeat stands apart.
-apart : {B : Type 0} (same : List ℕ → List ℕ → Bool) (R : B → B → Type 0) (f : List ℕ → B) →
-    ((x y : List ℕ) → same x y ≡ false → R (f x) (f y)) →
-    (xs : List (List ℕ)) → repeats same xs ≡ false → Ordered R (map f xs)
+apart : {B : Type 0} (same : List ℕ → List ℕ → Bool) (R : B → B → Type 0) (f : List ℕ → B)
+    → ((x y : List ℕ) → same x y ≡ false → R (f x) (f y))
+    → (xs : List (List ℕ)) → repeats same xs ≡ false → Ordered R (map f xs)
 unfolding repeats
 apart same R f g [] e = tt
 apart same R f g (x ∷ xs) e =
     let a = or-false (any (same x) xs) _ e in
-    (all-mapped (λ y. same x y ≡ false) (R (f x)) f (g x) xs (none-true (same x) xs (a .0)), apart same R f g xs (a .1))
+    (all-mapped (λ y. same x y ≡ false) (R (f x)) f (g x) xs (none-hold (same x) xs (a .0)), apart same R f g xs (a .1))
 
 -- NUMBERS in their sets.
-is-within : (lo hi n : ℕ) → within lo hi n ≡ true → Within lo hi n
-is-within lo hi n e =
-    let a = and-true (leb lo n) _ e in record { low = leb-true lo n (a .0); high = leb-true n hi (a .1) }
-
 signed-fits : (n : ℕ) → I32 (signed n)
 signed-fits n =
     if-has I32 (ltb n 2_147_483_648) (λ e. ltb-true n 2_147_483_648 e)
@@ -104,7 +82,7 @@ no-clash x y (suc (suc (suc k))) l e = refl
 amount : (x : List ℕ) → (eqb (u8 x 1) 0 && within 1 1_000_000 (u32 x 4)) || false ≡ true → Within 1 1_000_000 (u32 x 4)
 amount x e =
     or-true (eqb (u8 x 1) 0 && within 1 1_000_000 (u32 x 4)) false e (Within 1 1_000_000 (u32 x 4))
-    (λ f. is-within 1 1_000_000 (u32 x 4) (and-true (eqb (u8 x 1) 0) _ f .1)) (λ f. no-way f)
+    (λ f. says-within .yes (and-true (eqb (u8 x 1) 0) _ f .1)) (λ f. no-way f)
 
 -- past the kinds of things there is one of conditions
 at-3 : (x : List ℕ) (k : ℕ) → 3 ≤ k → validAt x k ≡ true → k ≡ 3
@@ -119,7 +97,7 @@ EntryFit m (RES n) = n ≤ 1_000_000
 EntryFit m (BIN n) = n ≤ 1_000_000
 EntryFit m SYNC = Unit {0}
 EntryFit m (VAR v) = I32 v
-EntryFit m (CLASS b) = (b < length (m .blocks)) × (depth m b ≤ 8)
+EntryFit m (CLASS b) = b < length (m .blocks)
 EntryFit m BLOCK = Unit {0}
 EntryFit m (ENTITY x) = EntityFit m x
 EntryFit m (ACTION a) = ActFit m a
@@ -154,15 +132,15 @@ module _ (n : List ℕ) (g : Gathered) (c : (j : ℕ) → getD n j 0 ≡ getD (c
   onto-fits (binary u) (x ∷ []) f h = tt
   onto-fits (binary u) (x ∷ y ∷ es) f h = (f x y (h .0) (h .1 .0), h .1 .1)
 
-  node-fits : (op v : ℕ) →
-      (not (eqb op 1) || ltb v (getD n 4 0)) && (not (eqb op 2) || ltb v No.locals) ≡ true → NodeFit (nodeOf op v)
+  node-fits : (op v : ℕ)
+      → (not (eqb op 1) || ltb v (getD n 4 0)) && (not (eqb op 2) || ltb v No.locals) ≡ true → NodeFit (nodeOf op v)
   node-fits zero v e = signed-fits v
   node-fits (suc zero) v e = there 4 v (and-true (ltb v (getD n 4 0)) _ e .0)
   node-fits (suc (suc zero)) v e = ltb-true v No.locals e
   node-fits (suc (suc (suc op))) v e =
       all-get NodeFit
       (binary add ∷ binary subtract ∷ binary multiply ∷ binary lesser ∷ binary greater ∷ leaf theClock ∷ unary negate ∷ []) op
-      (leaf theClock) (two, (two, (two, (two, (two, (tt, ((λ x a. a), tt))))))) tt
+      (leaf theClock) (two & two & two & two & two & tt & (λ x a. a) & tt) tt
     where
       two : (x y : Expr) → ExprFit m x → ExprFit m y → ExprFit m x × ExprFit m y
       two x y a b = (a, b)
@@ -172,8 +150,8 @@ module _ (n : List ℕ) (g : Gathered) (c : (j : ℕ) → getD n j 0 ≡ getD (c
   pile-fits [] e = tt
   pile-fits (d ∷ ns) e = let a = and-true (nodeKnown (getD n 4 0) d) _ e in go (pile ns) (a .0) (pile-fits ns (a .1))
     where
-      go : (p : Option (List Expr)) → nodeKnown (getD n 4 0) d ≡ true → PileFit p →
-          PileFit (elim p [ none ↦ none | some es ↦ onto (nodeOf (u16 d 0) (u32 d 2)) es ])
+      go : (p : Option (List Expr)) → nodeKnown (getD n 4 0) d ≡ true → PileFit p
+          → PileFit (elim p [ none ↦ none | some es ↦ onto (nodeOf (u16 d 0) (u32 d 2)) es ])
       go none e h = tt
       go (some es) e h = onto-fits (nodeOf (u16 d 0) (u32 d 2)) es (node-fits (u16 d 0) (u32 d 2) e) h
 
@@ -190,19 +168,20 @@ module _ (n : List ℕ) (g : Gathered) (c : (j : ℕ) → getD n j 0 ≡ getD (c
   abbrev ListFit : {B : Type 0} → (B → Type 0) → (B → B → Type 0) → List B → Type 0
   ListFit P R xs = (length xs ≤ 4) × AllOf P xs × Ordered R xs
 
-  list-fits : {B : Type 0} (p : Part) (f : List ℕ → B) (P : B → Type 0) (R : B → B → Type 0) →
-      ((x : List ℕ) → partValid p x ≡ true → partKnown p n x ≡ true → P (f x)) →
-      ((x y : List ℕ) → samePart p x y ≡ false → R (f x) (f y)) →
-      (bs : List ℕ) → Told (listOf p) bs → ListFit P R (map f (partsOf p bs))
+  list-fits : {B : Type 0} (p : Part) (f : List ℕ → B) (P : B → Type 0) (R : B → B → Type 0)
+      → ((x : List ℕ) → partValid p x ≡ true → partKnown p n x ≡ true → P (f x))
+      → ((x y : List ℕ) → samePart p x y ≡ false → R (f x) (f y))
+      → (bs : List ℕ) → Told (listOf p) bs → ListFit P R (map f (partsOf p bs))
   unfolding tailKnown listValid listTwice
   list-fits p f P R g h bs t =
       let xs : List (List ℕ) = partsOf p bs in
       let a = and-true (leb (u16 bs 0) 4) _ (t .0) in
       let l = leb-true (u16 bs 0) 4 (a .0) in
-      let b = all-both _ _ xs (all-true (partValid p) xs (a .1)) (all-true (partKnown p n) xs (t .2)) in
-      (omega (arith, length-map xs f, parts-many (partSize p) (u16 bs 0) (drop 2 bs)),
-      all-mapped (λ x. (partValid p x ≡ true) × (partKnown p n x ≡ true)) P f (λ x k. g x (k .0) (k .1)) xs b,
-      apart (samePart p) R f h xs (t .1))
+      let b = all-both _ _ xs (all-hold (partValid p) xs (a .1)) (all-hold (partKnown p n) xs (t .2)) in (
+        omega (arith, length-map xs f, parts-many (partSize p) (u16 bs 0) (drop 2 bs)),
+        all-mapped (λ x. (partValid p x ≡ true) × (partKnown p n x ≡ true)) P f (λ x k. g x (k .0) (k .1)) xs b,
+        apart (samePart p) R f h xs (t .1),
+      )
 
   item-fits : (x : List ℕ) (k : ℕ) → validAt x k ≡ true → ltb (u16 x 2) (getD n (k + 1) 0) ≡ true → ItemFit m (itemAt x k)
   item-fits x zero e f = (there 1 (u16 x 2) f, amount x e)
@@ -221,12 +200,12 @@ module _ (n : List ℕ) (g : Gathered) (c : (j : ℕ) → getD n j 0 ≡ getD (c
   unfolding sharesIn
   shares-fit =
       list-fits share shareOf (ShareFit m) SharesApart
-      (λ x v k. (there 1 (u16 x 0) k, is-within 1 1_000_000 (u32 x 2) v)) (λ x y e. e)
+      (λ x v k. (there 1 (u16 x 0) k, says-within .yes v)) (λ x y e. e)
 
-  each-branch : (xs : List (List ℕ)) → all (λ b. listValid item (drop 2 b)) xs ≡ true →
-      any (λ b. listTwice item (drop 2 b)) xs ≡ false →
-      all (λ b. ltb (u16 b 0) (getD n 6 0) && all (partKnown item n) (partsOf item (drop 2 b))) xs ≡ true →
-      AllOf (BranchFit m) (map branchOf xs)
+  each-branch : (xs : List (List ℕ)) → all (λ b. listValid item (drop 2 b)) xs ≡ true
+      → any (λ b. listTwice item (drop 2 b)) xs ≡ false
+      → all (λ b. ltb (u16 b 0) (getD n 6 0) && all (partKnown item n) (partsOf item (drop 2 b))) xs ≡ true
+      → AllOf (BranchFit m) (map branchOf xs)
   unfolding tailKnown
   each-branch [] v t k = tt
   each-branch (b ∷ xs) v t k =
@@ -236,51 +215,48 @@ module _ (n : List ℕ) (g : Gathered) (c : (j : ℕ) → getD n j 0 ≡ getD (c
       let k₂ = and-true (ltb (u16 b 0) (getD n 6 0)) _ (k₁ .0) in
       ((there 6 (u16 b 0) (k₂ .0), claim-fits (drop 2 b) (v₁ .0, t₁ .0, k₂ .1)), each-branch xs (v₁ .1) (t₁ .1) (k₁ .1))
 
-  branches-fit : (bs : List ℕ) → Told branches bs →
-      Within 1 4 (length (branchesIn bs)) × AllOf (BranchFit m) (branchesIn bs)
+  branches-fit : (bs : List ℕ) → Told branches bs
+      → Within 1 4 (length (branchesIn bs)) × AllOf (BranchFit m) (branchesIn bs)
   unfolding tailKnown branchesIn
   branches-fit bs t =
       let xs : List (List ℕ) = branchesFrom (u16 bs 0) (drop 2 bs) in
       let a = and-true (within 1 4 (u16 bs 0)) _ (t .0) in
-      let w = is-within 1 4 (u16 bs 0) (a .0) in
+      let w : Within 1 4 (u16 bs 0) = says-within .yes (a .0) in
       (omega (arith, length-map xs branchOf, branches-many (u16 bs 0) (drop 2 bs)), each-branch xs (a .1) (t .1) (t .2))
 
-  -- THE ROWS, in the table's order: s is that the field is in its set, k that it is known, d that a class is not too deep.
+  -- THE ROWS, in the table's order: s is that the field is in its set, k that it is known, t what the tail says.
   abbrev RowFit : Row → Type 0
   RowFit r =
-      (bs : List ℕ) → inSet (r .field) bs ≡ true → fieldKnown n (r .naming) bs ≡ true →
-      Told (r .tail) (drop (r .head) bs) → eqb (r .kind) 5 && ltb 8 (depth m (u16 bs 0)) ≡ false → EntryFit m (r .says bs)
+      (bs : List ℕ) → inSet (r .field) bs ≡ true → fieldKnown n (r .naming) bs ≡ true
+      → Told (r .tail) (drop (r .head) bs) → EntryFit m (r .says bs)
 
   rows-fit : AllOf RowFit table
   rows-fit =
-      ((λ bs s k t d. is-within 0 1_000_000 (u32 bs 0) s .high),
-      ((λ bs s k t d. is-within 0 1_000_000 (u32 bs 0) s .high),
-      ((λ bs s k t d. tt),
-      ((λ bs s k t d. signed-fits (u32 bs 0)),
-      ((λ bs s k t d. (there 6 (u16 bs 0) k, ltb-false 8 (depth m (u16 bs 0)) d)),
-      ((λ bs s k t d. tt),
-      ((λ bs s k t d. (there 5 (u16 bs 0) k, is-within 0 1_000_000 (u32 bs 2) s .high)),
-      ((λ bs s k t d. expression-fits bs t),
-      ((λ bs s k t d. expression-fits bs t),
-      ((λ bs s k t d. (there 4 (u16 bs 0) k, expression-fits (drop 2 bs) t)),
-      ((λ bs s k t d. (ltb-true (u16 bs 0) No.locals k, expression-fits (drop 2 bs) t)),
-      ((λ bs s k t d. there 6 (u16 bs 2) k),
-      ((λ bs s k t d. (there 1 (u16 bs 0) k, is-within 1 1_000_000 (u32 bs 2) s)),
-      ((λ bs s k t d. (there 2 (u16 bs 0) k, is-within 1 1_000_000 (u32 bs 2) s)),
-      ((λ bs s k t d. (there 3 (u16 bs 0) k, is-within 1 64 (u16 bs 2) s)),
-      ((λ bs s k t d. there 3 (u16 bs 0) k),
-      ((λ bs s k t d. claim-fits bs t),
-      ((λ bs s k t d. branches-fit bs t),
-      ((λ bs s k t d. (there 6 (u16 bs 0) k, claim-fits (drop 2 bs) t)),
-      ((λ bs s k t d.
-        let h = shares-fit (drop 6 bs) t in
-        (there 5 (u16 bs 0) k, is-within 0 1_000_000 (u32 bs 2) s .high, h .0, h .1, h .2)),
-      ((λ bs s k t d. expression-fits bs t),
-      ((λ bs s k t d. tt), tt))))))))))))))))))))))
+      (λ bs s k t. says-within .yes s .high)
+      & (λ bs s k t. says-within .yes s .high)
+      & (λ bs s k t. tt)
+      & (λ bs s k t. signed-fits (u32 bs 0))
+      & (λ bs s k t. there 6 (u16 bs 0) k)
+      & (λ bs s k t. tt)
+      & (λ bs s k t. (there 5 (u16 bs 0) k, says-within .yes s .high))
+      & (λ bs s k t. expression-fits bs t)
+      & (λ bs s k t. expression-fits bs t)
+      & (λ bs s k t. (there 4 (u16 bs 0) k, expression-fits (drop 2 bs) t))
+      & (λ bs s k t. (ltb-true (u16 bs 0) No.locals k, expression-fits (drop 2 bs) t))
+      & (λ bs s k t. there 6 (u16 bs 2) k)
+      & (λ bs s k t. (there 1 (u16 bs 0) k, says-within .yes s))
+      & (λ bs s k t. (there 2 (u16 bs 0) k, says-within .yes s))
+      & (λ bs s k t. (there 3 (u16 bs 0) k, says-within .yes s))
+      & (λ bs s k t. there 3 (u16 bs 0) k)
+      & (λ bs s k t. claim-fits bs t)
+      & (λ bs s k t. branches-fit bs t)
+      & (λ bs s k t. (there 6 (u16 bs 0) k, claim-fits (drop 2 bs) t))
+      & (λ bs s k t. let h = shares-fit (drop 6 bs) t in (there 5 (u16 bs 0) k, says-within .yes s .high, h .0, h .1, h .2))
+      & (λ bs s k t. expression-fits bs t)
+      & (λ bs s k t. tt)
+      & tt
 
-  pub entry-fits : (seen : List ℕ) (own k : ℕ) (bs : List ℕ) → Judged seen (rowOf k) bs → Named n own (rowOf k) bs →
-      eqb k 5 && ltb 8 (depth m (u16 bs 0)) ≡ false → EntryFit m (rowOf k .says bs)
-  entry-fits seen own k bs h w d =
-      let r = its-row RowFit rows-fit k (h .grouped) in
-      r .0 bs (h .in-set) (w .field-known) (h .tail-valid, h .tail-once, w .tail-known)
-      (subst (λ x. eqb x 5 && ltb 8 (depth m (u16 bs 0)) ≡ false) (r .1) d)
+  pub entry-fits : (seen : List ℕ) (own k : ℕ) (bs : List ℕ) → Judged seen (rowOf k) bs → Named n own (rowOf k) bs
+      → EntryFit m (rowOf k .says bs)
+  entry-fits seen own k bs h w =
+      its-row RowFit rows-fit k (h .grouped) .0 bs (h .in-set) (w .field-known) (h .tail-valid, h .tail-once, w .tail-known)

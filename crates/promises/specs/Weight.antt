@@ -6,21 +6,20 @@ use mathlib.Core.Path.{_≡_, refl}
 use mathlib.Core.List.{List, [], _∷_, map}
 use lib.ListN.{length, List·getD-eq-default}
 use Rattle.semantics.specs.Words.{sum, largest}
-use Rattle.semantics.specs.Model.{
-  Action, HOLD, PRIO, TRACE, SET, LSET, DO, PUTR, PUTB, PUTS, BECOME, REQ, TRY, WHILE, START, CLOSE, Branch, Model, block, body
-}
-use Rattle.semantics.specs.Bound.{adds, weigh, weightIn, weight}
+use Rattle.semantics.specs.Model.{Action, HOLD, PRIO, TRACE, SET, LSET, DO, PUTR, PUTB, PUTS, BECOME, REQ, TRY, WHILE, START}
+use Rattle.semantics.specs.Model.{CLOSE, Branch, Model, block, body}
+use Rattle.semantics.specs.Bound.{beside, weigh, weightIn, weight}
 use Rattle.promises.specs.Laws.{AllOf, over}
 use Rattle.promises.specs.Fit.{GoesForward, Forward}
 
 -- An action of block b weighs the same under weights that agree on later blocks.
 module _ (m : Model) (b : ℕ) (w v : ℕ → ℕ) (same : (k : ℕ) → b < k → w k ≡ v k) where
-  branches-same : (bs : List Branch) → AllOf (λ x. b < x .block) bs →
-      largest (map (λ x. w (x .block) + 1) bs) ≡ largest (map (λ x. v (x .block) + 1) bs)
+  branches-same : (bs : List Branch) → AllOf (λ x. b < x .block) bs
+      → largest (map (λ x. w (x .block) + 1) bs) ≡ largest (map (λ x. v (x .block) + 1) bs)
   branches-same [] h = refl
   branches-same (x ∷ xs) h = rw (same (x .block) (h .0), branches-same xs (h .1))
 
-  adds-same : (a : Action) → GoesForward m b a → adds m w a ≡ adds m v a
+  adds-same : (a : Action) → GoesForward m b a → beside m w a ≡ beside m v a
   adds-same (HOLD e) h = refl
   adds-same (PRIO e) h = refl
   adds-same (TRACE e) h = refl
@@ -46,8 +45,8 @@ past-last : (m : Model) (b : ℕ) → length (m .blocks) ≤ b → block m b ≡
 past-last m b h = List·getD-eq-default (m .blocks) [] h
 
 -- Two distances that both reach the last block give the same weight.
-enough : (m : Model) → Forward m → (d e b : ℕ) → length (m .blocks) ≤ d + b → length (m .blocks) ≤ e + b →
-    weightIn m d b ≡ weightIn m e b
+enough : (m : Model) → Forward m → (d e b : ℕ) → length (m .blocks) ≤ d + b → length (m .blocks) ≤ e + b
+    → weightIn m d b ≡ weightIn m e b
 unfolding weightIn
 enough m t zero zero b h g = refl
 enough m t zero (suc e) b h g = rw (past-last m b (omega arith))

@@ -1,15 +1,13 @@
 -- The bound (document 01, "The bound").
 -- Assumes nothing.
 use Prim.Native.Nat.{ℕ, zero, suc, _+_, _*_, _-_}
-use mathlib.Core.List.{List, [], _∷_, _++_, map}
-use mathlib.Core.Bool.{Bool, true, false, not, _&&_, _||_}
+use mathlib.Core.List.{List, [], _∷_, map}
+use mathlib.Core.Bool.{Bool, true, false, _||_}
 use lib.ListN.{length, getD}
 use lib.Dec.{leb}
 use Rattle.semantics.specs.Words.{if_then_else_, sum, largest, any}
-use Rattle.semantics.specs.Model.{
-  Action, HOLD, PRIO, TRACE, SET, LSET, DO, PUTR, PUTB, PUTS, BECOME, REQ, TRY, WHILE, START, CLOSE,
-  Model, Entity, Branch, block, body
-}
+use Rattle.semantics.specs.Model.{Action, HOLD, PRIO, TRACE, SET, LSET, DO, PUTR, PUTB, PUTS, BECOME, REQ, TRY, WHILE}
+use Rattle.semantics.specs.Model.{START, CLOSE, Model, block, body}
 
 -- The kind of an action's record.
 abbrev pub kindOf : Action → ℕ
@@ -38,25 +36,25 @@ ownWeight a = getD ownWeights (kindOf a - 16) 0
 
 -- What an action weighs beside its own weight, given the weights of later blocks: START its class; DO n × (block + 1); TRY the
 -- largest of its (block + 1). A class weighs its body block plus 1.
-abbrev pub adds : Model → (ℕ → ℕ) → Action → ℕ
-adds m w (HOLD e) = 0
-adds m w (PRIO e) = 0
-adds m w (TRACE e) = 0
-adds m w (SET i e) = 0
-adds m w (LSET i e) = 0
-adds m w (DO n b) = n * (w b + 1)
-adds m w (PUTR i n) = 0
-adds m w (PUTB i n) = 0
-adds m w (PUTS i n) = 0
-adds m w (BECOME i) = 0
-adds m w (REQ c) = 0
-adds m w (TRY bs) = largest (map (λ b. w (b .block) + 1) bs)
-adds m w (WHILE b c) = 0
-adds m w (START c t h) = w (body m c) + 1
-adds m w CLOSE = 0
+abbrev pub beside : Model → (ℕ → ℕ) → Action → ℕ
+beside m w (HOLD e) = 0
+beside m w (PRIO e) = 0
+beside m w (TRACE e) = 0
+beside m w (SET i e) = 0
+beside m w (LSET i e) = 0
+beside m w (DO n b) = n * (w b + 1)
+beside m w (PUTR i n) = 0
+beside m w (PUTB i n) = 0
+beside m w (PUTS i n) = 0
+beside m w (BECOME i) = 0
+beside m w (REQ c) = 0
+beside m w (TRY bs) = largest (map (λ b. w (b .block) + 1) bs)
+beside m w (WHILE b c) = 0
+beside m w (START c t h) = w (body m c) + 1
+beside m w CLOSE = 0
 
 unfoldable pub weigh : Model → (ℕ → ℕ) → Action → ℕ
-weigh m w a = ownWeight a + adds m w a
+weigh m w a = ownWeight a + beside m w a
 
 -- A block weighs the sum of its actions. Here the distance from block b to the last is at most d.
 unfoldable pub weightIn : Model → ℕ → ℕ → ℕ

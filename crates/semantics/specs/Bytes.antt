@@ -2,7 +2,7 @@
 -- Assumes nothing.
 use Prim.Native.Nat.{ℕ, zero, suc, _+_, _*_, _-_}
 use mathlib.Core.List.{List, [], _∷_}
-use mathlib.Core.Bool.{Bool, true, false, _&&_}
+use mathlib.Core.Bool.{Bool, _&&_}
 use lib.Dec.{eqb, leb, ltb}
 use lib.ListN.{length, getD, take, drop}
 use lib.IntN.{ℤ, pos, negsuc}
@@ -40,9 +40,10 @@ whole bs = leb 2 (u16 bs 0) && leb (spans bs) (length bs)
 unfoldable pub cut : ℕ → ℕ → List ℕ → List Raw
 cut zero at bs = []
 cut (suc n) at bs =
-    if eqb (length bs) 0 then []
-    else if whole bs then
-      raw at (u16 bs 2) (take (spans bs - 4) (drop 4 bs)) ∷ cut n (at + spans bs) (drop (spans bs) bs)
+    if eqb (length bs) 0
+    then []
+    else if whole bs
+    then raw at (u16 bs 2) (take (spans bs - 4) (drop 4 bs)) ∷ cut n (at + spans bs) (drop (spans bs) bs)
     else torn at ∷ []
 
 unfoldable pub recordsFrom : ℕ → List ℕ → List Raw

@@ -1,21 +1,19 @@
 -- When a claim is met, what taking it does, who is barred, and which branch is taken (document 01, "One step").
 -- Assumes nothing.
-use Prim.Native.Nat.{ℕ, zero, suc, _+_, _-_}
+use Prim.Native.Nat.{ℕ, suc}
 use mathlib.Core.List.{List, [], _∷_, _++_, map}
-use mathlib.Core.Bool.{Bool, true, false, not, _&&_, _||_}
+use mathlib.Core.Bool.{Bool, true, false, not, _&&_}
 use mathlib.Core.Option.{Option, none, some}
-use lib.Dec.{eqb, leb, ltb}
+use lib.Dec.{eqb, leb}
 use lib.ListN.{length, getD, set, take, drop, getElem?}
 use lib.IntN.{ℤ, pos}
 use lib.Signed.{ltZ, leZ}
-use Rattle.semantics.specs.Words.{if_then_else_, all, any, isEmpty, more, less}
-use Rattle.semantics.specs.Model.{
-  Kind, resource, bin, sync, Relation, below, atMost, equals, differs, atLeast, above, Item, get, condition, Claim, Branch,
-  Action, HOLD, PRIO, TRACE, SET, LSET, DO, PUTR, PUTB, PUTS, BECOME, REQ, TRY, WHILE, START, CLOSE, Model, block
-}
-use Rattle.semantics.specs.State.{
-  State, Process, Frame, Slave, Waiter, process, put, with-free, with-bins, with-waiting, with-held, with-slaves, past, into
-}
+use Rattle.semantics.specs.Words.{all, any, isEmpty, more, less}
+use Rattle.semantics.specs.Model.{Kind, resource, bin, sync, Relation, below, atMost, equals, differs, atLeast, above}
+use Rattle.semantics.specs.Model.{Item, get, condition, Claim, Action, HOLD, PRIO, TRACE, SET, LSET, DO, PUTR, PUTB, PUTS}
+use Rattle.semantics.specs.Model.{BECOME, REQ, TRY, WHILE, START, CLOSE, Model, block}
+use Rattle.semantics.specs.State.{State, Process, Frame, Waiter, process, put, with-free, with-bins, with-waiting}
+use Rattle.semantics.specs.State.{with-held, with-slaves, past, into}
 
 -- MET: each free amount, bin amount or count of waiting slaves is at least the item's amount, and each condition holds.
 abbrev pub holds : Relation → ℤ → ℤ → Bool

@@ -1,25 +1,21 @@
 -- From the bytes of a model file to the model, or the number and the place of its refusal: checks 1 to 10 in their order
 -- (document 01, "Numbers the desk sees").
 -- Assumes nothing.
-use Prim.Native.Nat.{ℕ, zero, suc, _+_, _*_, _-_}
+use Prim.Native.Nat.{ℕ, zero, suc, _+_, _-_}
 use mathlib.Core.List.{List, [], _∷_, _++_, map}
 use mathlib.Core.Bool.{Bool, true, false, not, _&&_, _||_}
 use lib.Dec.{eqb, leb, ltb}
 use lib.ListN.{length, getD, drop, replicate}
 use lib.IntN.{ℤ}
-use Rattle.semantics.specs.Words.{
-  if_then_else_, Outcome, ok, fails, Passed, passed, _>>=_, _>>_, need, all, any, collect, largest, more
-}
+use Rattle.semantics.specs.Words.{if_then_else_, Outcome, ok, fails, Passed, passed, _>>=_, _>>_, need, all, collect}
+use Rattle.semantics.specs.Words.{largest, more}
 use Rattle.semantics.specs.Numbers as No
-use Rattle.semantics.specs.Model.{
-  Claim, Branch, Share, Entity, Model, block,
-  Action, HOLD, PRIO, TRACE, SET, LSET, DO, PUTR, PUTB, PUTS, BECOME, REQ, TRY, WHILE, START, CLOSE
-}
+use Rattle.semantics.specs.Model.{Entity, Model, block, Action, HOLD, PRIO, TRACE, SET, LSET, DO, PUTR, PUTB, PUTS}
+use Rattle.semantics.specs.Model.{BECOME, REQ, TRY, WHILE, START, CLOSE}
 use Rattle.semantics.specs.Bytes.{u8, u16, u32, Raw, raw, torn, recordsFrom, parts}
-use Rattle.semantics.specs.Record.{
-  nodes, Part, item, share, partsOf, branchesFrom, Tail, nothing, expression, branches, listOf, Naming, nameless, names,
-  namesLocal, Entry, RES, BIN, SYNC, VAR, CLASS, BLOCK, ENTITY, ACTION, Row, rowOf, bodyJudged
-}
+use Rattle.semantics.specs.Record.{nodes, Part, item, share, partsOf, branchesFrom, Tail, nothing, expression, branches}
+use Rattle.semantics.specs.Record.{listOf, Naming, nameless, names, namesLocal, Entry, RES, BIN, SYNC, VAR, CLASS, BLOCK}
+use Rattle.semantics.specs.Record.{ENTITY, ACTION, rowOf, bodyJudged}
 
 pub data Checked (A : Type 0) : Type 0 where
   refused : ℕ → ℕ → Checked A  -- number, place
@@ -130,21 +126,30 @@ module _ (g : Gathered) where
   declaring t n k v c e =
       record {
         model = record {
-          totals = t ++ g .model .totals; amounts = n ++ g .model .amounts; syncs = k + g .model .syncs;
-          vars = v ++ g .model .vars; classes = c ++ g .model .classes; entities = e ++ g .model .entities;
-          blocks = g .model .blocks
+          totals = t ++ g .model .totals;
+          amounts = n ++ g .model .amounts;
+          syncs = k + g .model .syncs;
+          vars = v ++ g .model .vars;
+          classes = c ++ g .model .classes;
+          entities = e ++ g .model .entities;
+          blocks = g .model .blocks;
         };
-        loose = g .loose
+        loose = g .loose;
       }
 
   abbrev opening : Gathered
   opening =
       record {
         model = record {
-          totals = g .model .totals; amounts = g .model .amounts; syncs = g .model .syncs; vars = g .model .vars;
-          classes = g .model .classes; entities = g .model .entities; blocks = g .loose ∷ g .model .blocks
+          totals = g .model .totals;
+          amounts = g .model .amounts;
+          syncs = g .model .syncs;
+          vars = g .model .vars;
+          classes = g .model .classes;
+          entities = g .model .entities;
+          blocks = g .loose ∷ g .model .blocks;
         };
-        loose = []
+        loose = [];
       }
 
   abbrev pub adds : Entry → Gathered

@@ -13,5 +13,6 @@ pub mod Sound
 pub mod Run
 pub mod Bound
 pub mod Journal
+pub mod Desk
 pub mod Plan
 pub mod Plans

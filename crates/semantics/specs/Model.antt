@@ -1,7 +1,7 @@
 -- A model: what a model file that is not refused says (document 01, "The model file").
 -- Assumes nothing.
 use Prim.Native.Nat.{ℕ}
-use mathlib.Core.List.{List, [], _∷_}
+use mathlib.Core.List.{List, []}
 use lib.ListN.{getD}
 use lib.IntN.{ℤ}
 

@@ -1,22 +1,19 @@
 -- The table of record kinds (document 01, "The model file"): what a record of each kind must be by checks 5, 6 and 7, what it
 -- names, and what it says.
 -- Assumes nothing.
-use Prim.Native.Nat.{ℕ, zero, suc, _+_, _*_, _-_, _/_, _%_}
-use mathlib.Core.List.{List, [], _∷_, _++_, map}
+use Prim.Native.Nat.{ℕ, zero, suc, _+_, _*_, _/_, _%_}
+use mathlib.Core.List.{List, [], _∷_, map}
 use mathlib.Core.Bool.{Bool, true, false, not, _&&_, _||_}
 use mathlib.Core.Option.{Option, none, some}
-use lib.Dec.{eqb, leb, ltb}
+use lib.Dec.{eqb, leb}
 use lib.ListN.{length, getD, take, drop}
-use lib.IntN.{ℤ, pos}
-use Rattle.semantics.specs.Words.{
-  if_then_else_, Outcome, ok, fails, Passed, passed, _>>=_, _>>_, need, all, any, within
-}
+use lib.IntN.{ℤ}
+use Rattle.semantics.specs.Words.{if_then_else_, Outcome, Passed, _>>_, need, all, any, within}
 use Rattle.semantics.specs.Numbers as No
-use Rattle.semantics.specs.Model.{
-  Expr, literal, global, local, add, subtract, multiply, lesser, greater, negate, theClock, Kind, resource, bin, sync,
-  Relation, below, atMost, equals, differs, atLeast, above, Item, get, condition, Claim, Branch, Share, Entity,
-  Action, HOLD, PRIO, TRACE, SET, LSET, DO, PUTR, PUTB, PUTS, BECOME, REQ, TRY, WHILE, START, CLOSE
-}
+use Rattle.semantics.specs.Model.{Expr, literal, global, local, add, subtract, multiply, lesser, greater, negate}
+use Rattle.semantics.specs.Model.{theClock, resource, bin, sync, Relation, below, atMost, equals, differs, atLeast, above}
+use Rattle.semantics.specs.Model.{Item, get, condition, Claim, Branch, Share, Entity, Action, HOLD, PRIO, TRACE, SET}
+use Rattle.semantics.specs.Model.{LSET, DO, PUTR, PUTB, PUTS, BECOME, REQ, TRY, WHILE, START, CLOSE}
 use Rattle.semantics.specs.Bytes.{u8, u16, u32, i32, signed, parts}
 
 -- EXPRESSIONS: 1 to 16 nodes of 6 bytes in prefix order (u16 op, i32 operand).
@@ -30,7 +27,8 @@ pub data Node : Type 0 where
 abbrev pub nodeOf : ℕ → ℕ → Node
 nodeOf op v =
     getD
-    (leaf (literal (signed v)) ∷ leaf (global v) ∷ leaf (local v) ∷ binary add ∷ binary subtract ∷ binary multiply ∷ binary lesser ∷ binary greater ∷ leaf theClock ∷ unary negate ∷ [])
+    (leaf (literal (signed v)) ∷ leaf (global v) ∷ leaf (local v)
+    ∷ binary add ∷ binary subtract ∷ binary multiply ∷ binary lesser ∷ binary greater ∷ leaf theClock ∷ unary negate ∷ [])
     op
     (leaf theClock)
 

@@ -2,14 +2,14 @@
 -- desk sees").
 -- Assumes nothing.
 use Prim.Native.Nat.{ℕ, zero, suc, _+_, _-_}
-use mathlib.Core.List.{List, [], _∷_, _++_, map}
-use mathlib.Core.Bool.{Bool, true, false, not, _&&_, _||_}
+use mathlib.Core.List.{List, [], _∷_, _++_}
+use mathlib.Core.Bool.{Bool, true, false, _&&_}
 use lib.Dec.{eqb, leb}
 use lib.ListN.{length}
-use Rattle.semantics.specs.Words.{if_then_else_, Outcome, ok, fails, isEmpty}
+use Rattle.semantics.specs.Words.{if_then_else_, ok, fails, isEmpty}
 use Rattle.semantics.specs.Numbers as No
 use Rattle.semantics.specs.Model.{Model}
-use Rattle.semantics.specs.Decode.{Checked, refused, accepted, decode}
+use Rattle.semantics.specs.Decode.{refused, accepted, decode}
 use Rattle.semantics.specs.State.{State, Floor, empty, held}
 use Rattle.semantics.specs.Walk.{Line, Next}
 use Rattle.semantics.specs.Step.{step}

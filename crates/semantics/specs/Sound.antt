@@ -1,26 +1,20 @@
 -- When an open run is sound (document 01, "Numbers the desk sees"): its clauses in their order, as tests that compute.
 -- Assumes nothing.
-use Prim.Native.Nat.{ℕ, zero, suc, _+_, _-_}
+use Prim.Native.Nat.{ℕ, _+_}
 use mathlib.Core.List.{List, [], _∷_, _++_, map}
 use mathlib.Core.Bool.{Bool, true, false, not, _&&_, _||_}
 use mathlib.Core.Option.{Option, none, some}
 use lib.Dec.{eqb, leb, ltb}
 use lib.ListN.{length, getD, getElem?}
-use lib.IntN.{ℤ, pos, negsuc}
+use lib.IntN.{ℤ, pos}
 use lib.Signed.{leZ}
-use Rattle.semantics.specs.Words.{
-  if_then_else_, all, any, keep, isEmpty, ordered, collect, sum, upTo, within
-}
+use Rattle.semantics.specs.Words.{if_then_else_, all, any, keep, isEmpty, ordered, collect, sum, upTo, within}
 use Rattle.semantics.specs.Numbers as No
-use Rattle.semantics.specs.Model.{
-  Claim, Branch, Share, Model, block,
-  Action, HOLD, PRIO, TRACE, SET, LSET, DO, PUTR, PUTB, PUTS, BECOME, REQ, TRY, WHILE, START, CLOSE
-}
-use Rattle.semantics.specs.Decode.{Checked, refused, accepted, decode}
-use Rattle.semantics.specs.State.{
-  State, Process, Frame, Slave, Waiter, Event, Notice, wakes, returnsR, returnsB, Floor, empty, held, process, isFree,
-  sooner, higher
-}
+use Rattle.semantics.specs.Model.{Model, block, Action, HOLD, PRIO, TRACE, SET, LSET, DO, PUTR, PUTB, PUTS, BECOME, REQ}
+use Rattle.semantics.specs.Model.{TRY, WHILE, START, CLOSE}
+use Rattle.semantics.specs.Decode.{refused, accepted, decode}
+use Rattle.semantics.specs.State.{State, Process, Frame, Waiter, Event, Notice, wakes, returnsR, returnsB, Floor, empty}
+use Rattle.semantics.specs.State.{held, process, isFree, sooner, higher}
 use Rattle.semantics.specs.Value.{isI32}
 use Rattle.semantics.specs.Claim.{standsIn}
 use Rattle.semantics.specs.Step.{lowest, ofReturns, isReturn}
@@ -28,16 +22,17 @@ use Rattle.semantics.specs.Step.{lowest, ofReturns, isReturn}
 abbrev pub same : ℤ → ℤ → Bool
 same x y = leZ x y && leZ y x
 
--- Of each living process.
-abbrev pub living : (Process → Bool) → State → Bool
-living f s = all (λ q. isFree q || f q) (s .processes)
+-- Of each ofLiving process.
+abbrev pub ofLiving : (Process → Bool) → State → Bool
+ofLiving f s = all (λ q. isFree q || f q) (s .processes)
 
--- THE SHAPE, which document 01's words take for granted: 64 places; an amount for each resource and bin, a value for each variable,
--- a list for each sync; 8 locals and a holding for each resource in a process; nothing in a free place; and the priority that is
--- listed beside a process is its own.
+-- THE SHAPE, which document 01's words take for granted: 64 places; an amount for each resource and bin, a value for each
+-- variable, a list for each sync; 8 locals and a holding for each resource in a process; nothing in a free place; and the
+-- priority that is listed beside a process is its own.
 abbrev pub vacant : Process → Bool
 vacant q =
-    eqb (q .number) 0 && (same (q .priority) (pos 0) && (isEmpty (q .locals) && (isEmpty (q .held) && isEmpty (q .slaves))))
+    eqb (q .number) 0
+    && (same (q .priority) (pos 0) && (isEmpty (q .locals) && (isEmpty (q .held) && isEmpty (q .slaves))))
 
 abbrev pub furnished : Model → Process → Bool
 furnished m q = eqb (length (q .locals)) No.locals && eqb (length (q .held)) (length (m .totals))
@@ -54,12 +49,19 @@ waiterTied s w = ownPriority s (w .priority) (w .place)
 
 abbrev pub shaped : Model → State → Bool
 shaped m s =
-    eqb (length (s .processes)) No.places && (eqb (length (s .free)) (length (m .totals)) && (eqb (length (s .bins)) (length (m .amounts)) && (eqb (length (s .globals)) (length (m .vars)) && (eqb (length (s .waiting)) (m .syncs) && (all (λ q. if isFree q then vacant q else furnished m q) (s .processes) && (all (eventTied s) (s .events) && (all (waiterTied s) (s .blocked) && all (all (waiterTied s)) (s .waiting))))))))
+    eqb (length (s .processes)) No.places
+    && (eqb (length (s .free)) (length (m .totals))
+    && (eqb (length (s .bins)) (length (m .amounts))
+    && (eqb (length (s .globals)) (length (m .vars))
+    && (eqb (length (s .waiting)) (m .syncs)
+    && (all (λ q. if isFree q then vacant q else furnished m q) (s .processes)
+    && (all (eventTied s) (s .events) && (all (waiterTied s) (s .blocked) && all (all (waiterTied s)) (s .waiting))))))))
 
 -- EVERY NUMBER IS IN ITS RANGE: a process's priority from -10,000, a return notice's exactly -15,000.
 abbrev pub processInRange : Model → Process → Bool
 processInRange m q =
-    leZ lowest (q .priority) && (isI32 (q .priority) && (all isI32 (q .locals) && all (λ x. ltb (x .of) (m .syncs)) (q .slaves)))
+    leZ lowest (q .priority)
+    && (isI32 (q .priority) && (all isI32 (q .locals) && all (λ x. ltb (x .of) (m .syncs)) (q .slaves)))
 
 abbrev pub returnInRange : ℕ → ℕ → ℤ → ℕ → ℕ → ℕ → Bool
 returnInRange known last x i n g =
@@ -74,12 +76,18 @@ eventInRange m s e =
       | returnsB i n g ↦ returnInRange (length (m .amounts)) (s .last) (e .priority) i n g
     ]
 
-abbrev pub inRange : Model → State → Bool
-inRange m s =
-    leb (s .clock) No.latest && (leb (s .last) No.lastNumber && (all isI32 (s .globals) && (all (λ n. leb n No.fullBin) (s .bins) && (living (processInRange m) s && (all (eventInRange m s) (s .events) && leb (length (keep isReturn (s .events))) No.returns)))))
+abbrev pub numbersInRange : Model → State → Bool
+numbersInRange m s =
+    leb (s .clock) No.latest
+    && (leb (s .last) No.lastNumber
+    && (all isI32 (s .globals)
+    && (all (λ n. leb n No.fullBin) (s .bins)
+    && (ofLiving (processInRange m) s
+    && (all (eventInRange m s) (s .events) && leb (length (keep isReturn (s .events))) No.returns)))))
 
--- .. a place from the block's first action to just past its last, rounds left 1 to n in a DO's block, else 1; A PROCESS'S BLOCKS
--- BEGIN WITH A CLASS BODY, EACH NEXT ONE NAMED WHERE THE ONE BEFORE STANDS. `enters a b r`: a names b, to go into for r rounds more.
+-- .. a place from the block's first action to just past its last, rounds left 1 to n in a DO's block, else 1; A PROCESS'S
+-- BLOCKS BEGIN WITH A CLASS BODY, EACH NEXT ONE NAMED WHERE THE ONE BEFORE STANDS. `enters a b r`: one that stands at a can be in
+-- block b with r rounds left.
 abbrev pub enters : Action → ℕ → ℕ → Bool
 enters (HOLD e) b r = false
 enters (PRIO e) b r = false
@@ -101,13 +109,13 @@ abbrev pub entersAt : Option Action → ℕ → ℕ → Bool
 entersAt none b r = false
 entersAt (some a) b r = enters a b r
 
-abbrev pub named : Model → Frame → List Frame → Bool
-named m f [] = any (eqb (f .block)) (m .classes) && eqb (f .rounds) 1
-named m f (g ∷ gs) = entersAt (getElem? (block m (g .block)) (g .at)) (f .block) (f .rounds)
+abbrev pub namedThere : Model → Frame → List Frame → Bool
+namedThere m f [] = any (eqb (f .block)) (m .classes) && eqb (f .rounds) 1
+namedThere m f (g ∷ gs) = entersAt (getElem? (block m (g .block)) (g .at)) (f .block) (f .rounds)
 
 abbrev pub chained : Model → List Frame → Bool
 chained m [] = true
-chained m (f ∷ fs) = leb (f .at) (length (block m (f .block))) && (named m f fs && chained m fs)
+chained m (f ∷ fs) = leb (f .at) (length (block m (f .block))) && (namedThere m f fs && chained m fs)
 
 abbrev pub allChained : Model → State → Bool
 allChained m s = all (λ q. chained m (q .frames)) (s .processes)
@@ -115,7 +123,9 @@ allChained m s = all (λ q. chained m (q .frames)) (s .processes)
 -- ALL LISTS ARE ORDERED AND NO LISTED TIME IS BEFORE THE CLOCK.
 abbrev pub inOrder : State → Bool
 inOrder s =
-    ordered (λ e f. not (sooner f e)) (s .events) && (ordered (λ w v. not (higher v w)) (s .blocked) && (all (ordered (λ w v. not (higher v w))) (s .waiting) && all (λ e. leb (s .clock) (e .time)) (s .events)))
+    ordered (λ e f. not (sooner f e)) (s .events)
+    && (ordered (λ w v. not (higher v w)) (s .blocked)
+    && (all (ordered (λ w v. not (higher v w))) (s .waiting) && all (λ e. leb (s .clock) (e .time)) (s .events)))
 
 -- EACH LIVING PROCESS HAS ITS OWN NUMBER, NONE ABOVE THE LAST GIVEN.
 abbrev pub ownNumber : State → Process → Bool
@@ -123,7 +133,7 @@ ownNumber s q =
     within 1 (s .last) (q .number) && eqb (length (keep (λ r. eqb (q .number) (r .number)) (s .processes))) 1
 
 abbrev pub ownNumbers : State → Bool
-ownNumbers s = living (ownNumber s) s
+ownNumbers s = ofLiving (ownNumber s) s
 
 -- AND IS IN EXACTLY ONE of floor, event list, blocked list, a waiting list or one owner's slaves.
 abbrev pub onFloor : Floor → List ℕ
@@ -140,7 +150,10 @@ waitersPlaces ws = map (λ w. w .place) ws
 
 abbrev pub listed : State → List ℕ
 listed s =
-    onFloor (s .floor) ++ (collect (λ e. woken (e .notice)) (s .events) ++ (waitersPlaces (s .blocked) ++ (collect waitersPlaces (s .waiting) ++ collect (λ q. map (λ x. x .place) (q .slaves)) (s .processes))))
+    onFloor (s .floor)
+    ++ (collect (λ e. woken (e .notice)) (s .events)
+    ++ (waitersPlaces (s .blocked)
+    ++ (collect waitersPlaces (s .waiting) ++ collect (λ q. map (λ x. x .place) (q .slaves)) (s .processes))))
 
 abbrev pub inOne : State → Bool
 inOne s =
@@ -190,7 +203,9 @@ addsUp m s =
 
 unfoldable pub soundIn : Model → State → Bool
 soundIn m s =
-    shaped m s && (inRange m s && (allChained m s && (inOrder s && (ownNumbers s && (inOne s && (blockedStand m s && addsUp m s))))))
+    shaped m s
+    && (numbersInRange m s
+    && (allChained m s && (inOrder s && (ownNumbers s && (inOne s && (blockedStand m s && addsUp m s))))))
 
 -- The open run handed in: the bytes of its model file and its state. Its model passes 1 to 10, and the rest.
 unfoldable pub sound : List ℕ → State → Bool

@@ -1,13 +1,13 @@
 -- The state of a run, the order of its lists, its parts changed one at a time, and the fresh state (document 01, "One step").
 -- Assumes nothing.
-use Prim.Native.Nat.{ℕ, zero, suc, _+_, _-_}
-use mathlib.Core.List.{List, [], _∷_, _++_, map}
+use Prim.Native.Nat.{ℕ, _+_}
+use mathlib.Core.List.{List, [], _∷_, map}
 use mathlib.Core.Bool.{Bool, true, false, not, _&&_, _||_}
-use lib.Dec.{eqb, leb, ltb}
+use lib.Dec.{eqb, ltb}
 use lib.ListN.{length, getD, set, replicate}
-use lib.IntN.{ℤ, pos, negsuc}
+use lib.IntN.{ℤ, pos}
 use lib.Signed.{ltZ}
-use Rattle.semantics.specs.Words.{if_then_else_, firstAt, isEmpty, keep, insert}
+use Rattle.semantics.specs.Words.{firstAt, isEmpty, keep, insert}
 use Rattle.semantics.specs.Numbers as No
 use Rattle.semantics.specs.Model.{Model, Entity, body}
 
@@ -66,43 +66,78 @@ pub record State : Type 0 where
   pub processes : List Process
 
 -- THE PARTS CHANGED one at a time.
-abbrev make : ℕ → Bool → ℕ → List ℤ → List ℕ → List ℕ → List (List Waiter) → Floor → List Event → List Waiter → List Process → State
+abbrev make : ℕ → Bool → ℕ → List ℤ → List ℕ → List ℕ → List (List Waiter) → Floor → List Event → List Waiter → List Process
+    → State
 make c d l g f b w o e k p =
-    record { clock = c; closed = d; last = l; globals = g; free = f; bins = b; waiting = w; floor = o; events = e; blocked = k; processes = p }
+    record {
+      clock = c;
+      closed = d;
+      last = l;
+      globals = g;
+      free = f;
+      bins = b;
+      waiting = w;
+      floor = o;
+      events = e;
+      blocked = k;
+      processes = p;
+    }
 
 module _ (s : State) where
   abbrev pub at-clock : ℕ → State
-  at-clock x = make x (s .closed) (s .last) (s .globals) (s .free) (s .bins) (s .waiting) (s .floor) (s .events) (s .blocked) (s .processes)
+  at-clock x =
+      make x (s .closed) (s .last) (s .globals) (s .free) (s .bins)
+      (s .waiting) (s .floor) (s .events) (s .blocked) (s .processes)
 
   abbrev pub now-closed : State
-  now-closed = make (s .clock) true (s .last) (s .globals) (s .free) (s .bins) (s .waiting) (s .floor) (s .events) (s .blocked) (s .processes)
+  now-closed =
+      make (s .clock) true (s .last) (s .globals) (s .free) (s .bins)
+      (s .waiting) (s .floor) (s .events) (s .blocked) (s .processes)
 
   abbrev pub with-last : ℕ → State
-  with-last x = make (s .clock) (s .closed) x (s .globals) (s .free) (s .bins) (s .waiting) (s .floor) (s .events) (s .blocked) (s .processes)
+  with-last x =
+      make (s .clock) (s .closed) x (s .globals) (s .free) (s .bins)
+      (s .waiting) (s .floor) (s .events) (s .blocked) (s .processes)
 
   abbrev pub with-globals : List ℤ → State
-  with-globals x = make (s .clock) (s .closed) (s .last) x (s .free) (s .bins) (s .waiting) (s .floor) (s .events) (s .blocked) (s .processes)
+  with-globals x =
+      make (s .clock) (s .closed) (s .last) x (s .free) (s .bins)
+      (s .waiting) (s .floor) (s .events) (s .blocked) (s .processes)
 
   abbrev pub with-free : List ℕ → State
-  with-free x = make (s .clock) (s .closed) (s .last) (s .globals) x (s .bins) (s .waiting) (s .floor) (s .events) (s .blocked) (s .processes)
+  with-free x =
+      make (s .clock) (s .closed) (s .last) (s .globals) x (s .bins)
+      (s .waiting) (s .floor) (s .events) (s .blocked) (s .processes)
 
   abbrev pub with-bins : List ℕ → State
-  with-bins x = make (s .clock) (s .closed) (s .last) (s .globals) (s .free) x (s .waiting) (s .floor) (s .events) (s .blocked) (s .processes)
+  with-bins x =
+      make (s .clock) (s .closed) (s .last) (s .globals) (s .free) x
+      (s .waiting) (s .floor) (s .events) (s .blocked) (s .processes)
 
   abbrev pub with-waiting : List (List Waiter) → State
-  with-waiting x = make (s .clock) (s .closed) (s .last) (s .globals) (s .free) (s .bins) x (s .floor) (s .events) (s .blocked) (s .processes)
+  with-waiting x =
+      make (s .clock) (s .closed) (s .last) (s .globals) (s .free) (s .bins)
+      x (s .floor) (s .events) (s .blocked) (s .processes)
 
   abbrev pub with-floor : Floor → State
-  with-floor x = make (s .clock) (s .closed) (s .last) (s .globals) (s .free) (s .bins) (s .waiting) x (s .events) (s .blocked) (s .processes)
+  with-floor x =
+      make (s .clock) (s .closed) (s .last) (s .globals) (s .free) (s .bins)
+      (s .waiting) x (s .events) (s .blocked) (s .processes)
 
   abbrev pub with-events : List Event → State
-  with-events x = make (s .clock) (s .closed) (s .last) (s .globals) (s .free) (s .bins) (s .waiting) (s .floor) x (s .blocked) (s .processes)
+  with-events x =
+      make (s .clock) (s .closed) (s .last) (s .globals) (s .free) (s .bins)
+      (s .waiting) (s .floor) x (s .blocked) (s .processes)
 
   abbrev pub with-blocked : List Waiter → State
-  with-blocked x = make (s .clock) (s .closed) (s .last) (s .globals) (s .free) (s .bins) (s .waiting) (s .floor) (s .events) x (s .processes)
+  with-blocked x =
+      make (s .clock) (s .closed) (s .last) (s .globals) (s .free) (s .bins)
+      (s .waiting) (s .floor) (s .events) x (s .processes)
 
   abbrev pub with-processes : List Process → State
-  with-processes x = make (s .clock) (s .closed) (s .last) (s .globals) (s .free) (s .bins) (s .waiting) (s .floor) (s .events) (s .blocked) x
+  with-processes x =
+      make (s .clock) (s .closed) (s .last) (s .globals) (s .free) (s .bins)
+      (s .waiting) (s .floor) (s .events) (s .blocked) x
 
 module _ (q : Process) where
   abbrev like : ℤ → List ℤ → List ℕ → List Slave → List Frame → Process
@@ -182,8 +217,12 @@ into n b q = with-frames q (record { block = b; at = 0; rounds = n } ∷ q .fram
 abbrev pub newcomer : Model → ℕ → ℕ → List ℕ → Process
 newcomer m n c h =
     record {
-      number = n; priority = pos 0; locals = replicate No.locals (pos 0); held = h; slaves = [];
-      frames = record { block = body m c; at = 0; rounds = 1 } ∷ []
+      number = n;
+      priority = pos 0;
+      locals = replicate No.locals (pos 0);
+      held = h;
+      slaves = [];
+      frames = record { block = body m c; at = 0; rounds = 1 } ∷ [];
     }
 
 unfoldable pub begin : Model → ℕ → ℕ → List ℕ → State → State

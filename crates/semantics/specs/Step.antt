@@ -1,29 +1,25 @@
 -- One step (document 01, "One step"): the next state with the journal lines of the step, or the number of a fault.
--- Each action tests for its faults in ascending number, on the state before the step; so the lowest that applies is given.
+-- Each action tests for its faults in ascending number, before it changes anything; so the lowest that applies is given.
 -- Assumes nothing.
 use Prim.Native.Nat.{ℕ, zero, suc, _+_, _-_}
-use mathlib.Core.List.{List, [], _∷_, _++_, map}
-use mathlib.Core.Bool.{Bool, true, false, not, _&&_, _||_}
-use mathlib.Core.Option.{Option, none, some}
+use mathlib.Core.List.{List, [], _∷_, map}
+use mathlib.Core.Bool.{Bool, true, false, _&&_}
+use mathlib.Core.Option.{none, some}
 use lib.Dec.{eqb, leb, ltb}
 use lib.ListN.{length, getD, set}
 use lib.IntN.{ℤ, pos, negsuc, natAbs}
 use lib.Signed.{leZ, nonNeg}
-use Rattle.semantics.specs.Words.{
-  if_then_else_, Outcome, ok, fails, _>>=_, _>>_, need, all, keep, isEmpty, more, less
-}
+use Rattle.semantics.specs.Words.{if_then_else_, Outcome, ok, fails, _>>=_, _>>_, need, all, keep, isEmpty, more, less}
 use Rattle.semantics.specs.Numbers as No
-use Rattle.semantics.specs.Model.{
-  Expr, Claim, Branch, Share, Model,
-  Action, HOLD, PRIO, TRACE, SET, LSET, DO, PUTR, PUTB, PUTS, BECOME, REQ, TRY, WHILE, START, CLOSE
-}
-use Rattle.semantics.specs.State.{
-  State, Process, Frame, Slave, Waiter, Event, Floor, empty, held, Notice, wakes, returnsR, returnsB, nobody, process, put,
-  at-clock, now-closed, with-globals, with-free, with-bins, with-waiting, with-floor, with-events, with-blocked,
-  with-priority, with-locals, with-held, with-slaves, with-frames, enter, wake, join, onward, past, into, begin, living
-}
+use Rattle.semantics.specs.Model.{Expr, Share, Model, Action, HOLD, PRIO, TRACE, SET, LSET, DO, PUTR, PUTB, PUTS, BECOME}
+use Rattle.semantics.specs.Model.{REQ, TRY, WHILE, START, CLOSE}
+use Rattle.semantics.specs.State.{State, Process, Frame, Slave, Waiter, Event, empty, held, Notice, wakes, returnsR}
+use Rattle.semantics.specs.State.{returnsB, nobody, process, put, at-clock, now-closed, with-globals, with-free}
+use Rattle.semantics.specs.State.{with-bins, with-waiting, with-floor, with-events, with-blocked, with-priority}
+use Rattle.semantics.specs.State.{with-locals, with-held, with-slaves, with-frames, enter, wake, join, onward, past, into}
+use Rattle.semantics.specs.State.{begin, living}
 use Rattle.semantics.specs.Value.{eval}
-use Rattle.semantics.specs.Claim.{offers, standsIn, Choice, waits, goes, choice, grant}
+use Rattle.semantics.specs.Claim.{offers, standsIn, waits, goes, choice, grant}
 use Rattle.semantics.specs.Walk.{Next, line, quiet, after, walk}
 
 -- The lowest priority of a process, -10,000, and that of a return notice, -15,000.
@@ -180,20 +176,18 @@ module _ (m : Model) (s : State) (p : ℕ) (q : Process) where
     need No.LATE (leb (s .clock + t) No.latest)
     need No.HELD (all (λ x. leb (x .amount) (getD (q .held) (x .of) 0)) h)
     need No.FULL (ltb (living s) No.places && ltb (s .last) No.lastNumber)
-    ok (
-      after (line s (s .last + 1) No.started (pos c))
-      (quiet (begin m c (s .clock + t) (handed h (map (λ x. 0) (q .held))) (on (past (with-held q (kept h (q .held)))))))
-    )
+    ok (after (line s (s .last + 1) No.started (pos c))
+        (quiet (begin m c (s .clock + t) (handed h (map (λ x. 0) (q .held))) (on (past (with-held q (kept h (q .held))))))))
 
   -- On the floor one is barred by any blocked process of equal or higher priority.
-  abbrev pub before : List Waiter
-  before = keep (λ w. leZ (q .priority) (w .priority)) (s .blocked)
+  abbrev pub inFront : List Waiter
+  inFront = keep (λ w. leZ (q .priority) (w .priority)) (s .blocked)
 
   -- REQ, TRY: take the first branch that can be met, or join the blocked list; floor lost.
   unfoldable pub request : Action → Outcome Next
   unfolding choice grant join
   request a =
-      elim (choice m s before (offers a)) [
+      elim (choice m s inFront (offers a)) [
         | waits ↦
             ok (after (line s (q .number) No.blocked (pos 0))
             (quiet (with-blocked (with-floor s empty) (join s p (s .blocked)))))
@@ -204,7 +198,7 @@ module _ (m : Model) (s : State) (p : ℕ) (q : Process) where
   unfoldable pub while : Action → Outcome Next
   unfolding choice grant past
   while a =
-      elim (choice m s before (offers a)) [
+      elim (choice m s inFront (offers a)) [
         | waits ↦ ok (quiet (on (past q)))
         | goes i o ↦ ok (after (line s (q .number) No.granted (pos i)) (quiet (grant p o s)))
       ]

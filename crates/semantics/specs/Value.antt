@@ -1,16 +1,14 @@
 -- The value of an expression (document 01, "The model file" and fault 21).
 -- Assumes nothing.
-use Prim.Native.Nat.{ℕ}
-use mathlib.Core.Bool.{Bool, true, false}
+use mathlib.Core.Bool.{Bool}
 use lib.Dec.{ltb}
 use lib.ListN.{getD}
 use lib.IntN.{ℤ, pos, negℤ, _+ℤ_, _-ℤ_, _*ℤ_}
 use lib.Signed.{leZ, mag}
 use Rattle.semantics.specs.Words.{if_then_else_, Outcome, ok, _>>=_, _>>_, need}
 use Rattle.semantics.specs.Numbers as No
-use Rattle.semantics.specs.Model.{
-  Expr, literal, global, local, add, subtract, multiply, lesser, greater, negate, theClock
-}
+use Rattle.semantics.specs.Model.{Expr, literal, global, local, add, subtract, multiply, lesser, greater, negate}
+use Rattle.semantics.specs.Model.{theClock}
 use Rattle.semantics.specs.State.{State, Process}
 
 -- The i32 range, -2,147,483,648 to 2,147,483,647: `mag` is n of a number n, and n - 1 of -n.

@@ -6,7 +6,7 @@ use lib.IntN.{ℤ, pos}
 use Rattle.semantics.specs.Numbers as No
 use Rattle.semantics.specs.Model.{Model}
 use Rattle.semantics.specs.State.{State, Waiter, process, with-blocked, wake}
-use Rattle.semantics.specs.Claim.{asks, Choice, waits, goes, choice, grant}
+use Rattle.semantics.specs.Claim.{asks, waits, goes, choice, grant}
 
 -- A line of the journal, before it is written as bytes.
 pub record Line : Type 0 where
@@ -31,8 +31,8 @@ quiet s = record { state = s; lines = [] }
 abbrev pub after : Line → Next → Next
 after l n = record { state = n .state; lines = l ∷ n .lines }
 
--- Once down the blocked list from the front; `ahead` are those passed that are still blocked. Each one not barred by these and met
--- takes its first met branch and enters the event list now.
+-- Once down the blocked list from the front; `ahead` are those passed that are still blocked. Each one not barred by these and
+-- met takes its first met branch and enters the event list now.
 unfoldable pub walkOn : Model → State → List Waiter → List Waiter → Next
 unfolding choice grant wake
 walkOn m s ahead [] = quiet (with-blocked s ahead)
