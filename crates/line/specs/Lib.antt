@@ -1,0 +1,4 @@
+pub mod Code
+pub mod Lines
+pub mod Order
+pub mod Shown

@@ -1,0 +1,105 @@
+// An ordered list of at most 128 entries: an array of keys and an array of data, each lent by itself, and how many entries there
+// are. What is not used is 0. The data of an entry are packed into one word.
+ghost use mathlib.Core.Path.{_≡_};
+ghost use Prim.Native.Nat.{_≤_, _<_};
+ghost use lib.Dec.{leb};
+ghost use lib.ListN.{length, take};
+ghost use Rattle.semantics.specs.Words.{keep};
+ghost use Rattle.line.specs.Lines.{rowOf, Canon, inserted, removed, placeOf, between};
+ghost use Rattle.line.specs.Lines.{packed, kindOf, numberOf, amountOf, giverOf};
+
+// ---- one array
+
+// How many at the front have a key of at most `key`: in an ordered list, the place behind its equals.
+pub fn place_behind(keys: &[u64; 128], len: usize, key: u64) -> usize
+    requires { ⌜ Canon (now keys) len ⌝ }
+    ensures { λ r. ⌜ (r ≡ placeOf (λ k. leb k key) (take len (now (keys .entry)))) × (r ≤ len) ⌝ }
+{
+    let mut i = 0;
+    while i < len {
+        if key < keys[i] {
+            return i;
+        }
+        i += 1;
+    }
+    len
+}
+
+// `x` put in at a place; what stands from there on moves up.
+pub fn put_in(row: &mut [u64; 128], len: usize, at: usize, x: u64)
+    requires { ⌜ Canon (now row) len ⌝ }
+    requires { ⌜ (at ≤ len) × (len ≤ 127) ⌝ }
+    ensures { λ _. ⌜ now (row .exit) ≡ rowOf (inserted at x (take len (now (row .entry)))) ⌝ }
+{
+    let mut i = len;
+    while at < i {
+        row[i] = row[i - 1];
+        i -= 1;
+    }
+    row[at] = x;
+}
+
+// What stands at a place is gone; what stands behind it moves down, and the last place becomes 0.
+pub fn take_out(row: &mut [u64; 128], len: usize, at: usize)
+    requires { ⌜ Canon (now row) len ⌝ }
+    requires { ⌜ at < len ⌝ }
+    ensures { λ _. ⌜ now (row .exit) ≡ rowOf (removed at (take len (now (row .entry)))) ⌝ }
+{
+    let last = len - 1;
+    let mut i = at;
+    while i < last {
+        row[i] = row[i + 1];
+        i += 1;
+    }
+    row[last] = 0;
+}
+
+// How many keys lie from `low` to below `high`.
+pub fn count_between(keys: &[u64; 128], len: usize, low: u64, high: u64) -> usize
+    requires { ⌜ Canon (now keys) len ⌝ }
+    ensures { λ r. ⌜ (r ≡ length (keep (between low high) (take len (now (keys .entry))))) × (r ≤ len) ⌝ }
+{
+    let mut found = 0;
+    let mut i = 0;
+    while i < len {
+        let key = keys[i];
+        if (low <= key) & (key < high) {
+            found += 1;
+        }
+        i += 1;
+    }
+    found
+}
+
+// ---- the word of an entry
+
+pub fn pack(kind: u64, number: u64, amount: u64, giver: u64) -> u64
+    requires { ⌜ (kind < 4) × ((number < 64) × ((amount < 1048576) × (giver < 2147483648))) ⌝ }
+    ensures { λ r. ⌜ r ≡ packed kind number amount giver ⌝ }
+{
+    kind + 4 * (number + 64 * (amount + 1048576 * giver))
+}
+
+pub fn kind_of(word: u64) -> u64
+    ensures { λ r. ⌜ (r ≡ kindOf word) × (r < 4) ⌝ }
+{
+    word % 4
+}
+
+pub fn number_of(word: u64) -> u64
+    ensures { λ r. ⌜ (r ≡ numberOf word) × (r < 64) ⌝ }
+{
+    word / 4 % 64
+}
+
+pub fn amount_of(word: u64) -> u64
+    ensures { λ r. ⌜ (r ≡ amountOf word) × (r < 1048576) ⌝ }
+{
+    word / 256 % 1048576
+}
+
+pub fn giver_of(word: u64) -> u64
+    ensures { λ r. ⌜ r ≡ giverOf word ⌝ }
+{
+    word / 268435456
+}
