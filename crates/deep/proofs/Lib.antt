@@ -1,0 +1,4 @@
+pub mod Fuel
+pub mod Laws
+pub mod Loop
+pub mod Model

@@ -1,0 +1,12 @@
+pub mod Records
+pub mod Filled
+pub mod Bodies
+pub mod Limits
+pub mod Turns
+pub mod Branches
+pub mod Indexing
+pub mod Graphing
+pub mod Runs
+pub mod Gathered
+pub mod Standing
+pub mod Ties

@@ -1,0 +1,3 @@
+pub mod Pass
+pub mod Deep
+pub mod Whole
