@@ -35,7 +35,7 @@ largest-le : (p : ℕ → ℕ) (m : ℕ) (xs : List ℕ) → ((x : ℕ) → p x 
 largest-le p m [] h = omega arith
 largest-le p m (x ∷ xs) h = omega (arith, h x, largest-le p m xs h)
 
-nth : (P : ℕ → Type 0) (xs : List ℕ) (i : ℕ) → i < length xs → AllOf P xs → P (getD xs i 0)
+pub nth : (P : ℕ → Type 0) (xs : List ℕ) (i : ℕ) → i < length xs → AllOf P xs → P (getD xs i 0)
 nth P [] i l h = absurd (omega arith)
 nth P (x ∷ xs) zero l h = h .0
 nth P (x ∷ xs) (suc i) l h = nth P xs i (omega arith) (h .1)
@@ -46,7 +46,7 @@ module _ (P : ℕ → Type 0) (l : List ℕ) (t : ℕ) (r : t ≤ length l) wher
   slice-at k i p q h =
       let e : k + (i - k) ≡ i = omega arith in
       let at : getD (slice k t l) (i - k) 0 ≡ getD l i 0 =
-          getD-drop k (take t l) (i - k) 0 ∙ rw e (getD-take t l i 0 q) in
+      getD-drop k (take t l) (i - k) 0 ∙ rw e (getD-take t l i 0 q) in
       rw (← at) (nth P (slice k t l) (i - k) (omega (arith, length-slice k t l r)) h)
 
   pub all-slice : (j k : ℕ) → k + j ≡ t → ((i : ℕ) → k ≤ i → i < t → P (getD l i 0)) → AllOf P (slice k t l)

@@ -27,8 +27,13 @@ module _ {measure : ℕ → List ℕ → List ℕ} {value : ℕ → ℕ} {n : �
   pub begun : {k : ℕ} → Known value n old → k ≡ begin → end ≡ stop → begin ≤ stop →
       Turn measure value n goes begin stop end old old 0 k
   begun w p q h = record {
-      known = w; noted = rw (p, q); low = omega arith; high = omega arith; last = q; found = rw (p, q) (omega arith)
-    }
+    known = w;
+    noted = rw (p, q);
+    low = omega arith;
+    high = omega arith;
+    last = q;
+    found = rw (p, q) (omega arith);
+  }
 
   module _ {memo : List ℕ} {d k : ℕ} (w : Turn measure value n goes begin stop end old memo d k) where
     pub turned : {after : List ℕ} {v : ℕ} → stop ≤ length goes → k < end → Known value n after →
@@ -36,12 +41,16 @@ module _ {measure : ℕ → List ℕ → List ℕ} {value : ℕ → ℕ} {n : �
         Turn measure value n goes begin stop end old after (max d v) (k + 1)
     turned {v = v} r h a m e =
         let cut : slice k end goes ≡ getD goes k 0 ∷ slice (k + 1) end goes =
-            rw add-one (slice-cons k end goes 0 h (omega (arith, w .last))) in
+        rw add-one (slice-cons k end goes 0 h (omega (arith, w .last))) in
         let parted : max d (max (value (getD goes k 0)) (largest (map value (slice (k + 1) end goes))))
-            ≡ largest (map value (slice begin stop goes)) = rw cut at (w .found) in
+        ≡ largest (map value (slice begin stop goes)) = rw cut at (w .found) in
         record {
-          known = a; noted = rw m (rw cut at (w .noted)); low = omega (arith, w .low); high = omega arith; last = w .last;
-          found = rw e (omega (arith, parted))
+          known = a;
+          noted = rw m (rw cut at (w .noted));
+          low = omega (arith, w .low);
+          high = omega arith;
+          last = w .last;
+          found = rw e (omega (arith, parted));
         }
 
     module _ (h : end ≤ k) where

@@ -35,8 +35,11 @@ module _ (m : Model) (names : ℕ → List ℕ) (same : (b : ℕ) → b < length
 slice-join : (l : List ℕ) (j f t u : ℕ) → f + j ≡ t → t ≤ u → u ≤ length l → slice f u l ≡ slice f t l ++ slice t u l
 slice-join l zero f t u e h r = let z : f ≡ t = omega arith in rw (z, slice-empty t l)
 slice-join l (suc j) f t u e h r =
-    rw (slice-cons f u l 0 (omega arith) r, slice-cons f t l 0 (omega arith) (omega arith),
-    slice-join l j (suc f) t u (omega arith) h r)
+    rw (
+      slice-cons f u l 0 (omega arith) r,
+      slice-cons f t l 0 (omega arith) (omega arith),
+      slice-join l j (suc f) t u (omega arith) h r,
+    )
 
 -- Each is so of what f gives of each, so it is of what f gives of all.
 pub all-collect : {A : Type 0} (P : ℕ → Type 0) (f : A → List ℕ) (xs : List A) → AllOf (λ x. AllOf P (f x)) xs →
@@ -56,8 +59,11 @@ joined first from goes n s f (x ∷ xs) a t e h g =
     slice-join goes (getD from (suc a) 0 - getD from a 0) (getD from a 0) (getD from (suc a) 0) (getD from t 0)
     (omega (arith, rises 1 a (suc a) (omega arith) (omega arith))) (rises (length xs) (suc a) t (omega arith) h)
     (omega (arith, s .room, s .stops t h))
-    ∙ rw (here, joined first from goes n s f xs (suc a) t (omega arith) h (λ i y q.
-    let z : a + suc i ≡ suc a + i = omega arith in rw z at (g (suc i) y q)))
+    ∙ rw (
+      here,
+      joined first from goes n s f xs (suc a) t (omega arith) h (λ i y q.
+          let z : a + suc i ≡ suc a + i = omega arith in rw z at (g (suc i) y q)),
+    )
 
 -- THE ARRAYS of a model: the i-th action of block b is numbered as many as stand before the block, and i, and goes where f says.
 -- For the depth f is `inner`; for the weight it has what a START starts, too.
@@ -73,5 +79,6 @@ module _ (m : Model) (first from goes : List ℕ) (s : Laid first from goes (len
   pub graph-is : ((b : ℕ) → AllOf (λ x. AllOf (λ k. (b < k) × (k < length (m .blocks))) (f x)) (block m b)) →
       Graph first from goes (length (m .blocks))
   graph-is later = record {
-      laid = s; later = λ b l. rw (names-are b l) (all-collect (λ k. (b < k) × (k < length (m .blocks))) f (block m b) (later b))
-    }
+    laid = s;
+    later = λ b l. rw (names-are b l) (all-collect (λ k. (b < k) × (k < length (m .blocks))) f (block m b) (later b));
+  }

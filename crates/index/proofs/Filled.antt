@@ -42,8 +42,9 @@ module _ {base : List ℕ} {m : ℕ} {all out : List ℕ} {n : ℕ} where
     next-filled =
         let f = x .fills in
         record {
-          fits = f .fits; same = sym (sets-append out n xs left) ∙ f .same;
-          count = omega (arith, f .count, length-append xs left)
+          fits = f .fits;
+          same = sym (sets-append out n xs left) ∙ f .same;
+          count = omega (arith, f .count, length-append xs left);
         }
 
   pub fills-end : {left : List ℕ} → left ≡ [] → Fills base m all out n left → Wrote m all base n out
@@ -70,10 +71,11 @@ pub zeros-filled : (cap : ℕ) {all out : List ℕ} {n : ℕ} {left : List ℕ} 
     (n ≡ length all) × (out ≡ pad cap all)
 zeros-filled cap {all} e f =
     let d = fills-end e f in
-    let z : 0 + length all ≡ length all = omega arith in
-    (omega (arith, d .next-is),
-    d .after-is ∙ sets-eq all (zeros cap) 0 (f .fits) ∙ ap (λ k. all ++ drop k (zeros cap)) z
-    ∙ ap (λ xs. all ++ xs) (drop-zeros (length all) cap))
+    let z : 0 + length all ≡ length all = omega arith in (
+      omega (arith, d .next-is),
+      d .after-is ∙ sets-eq all (zeros cap) 0 (f .fits) ∙ ap (λ k. all ++ drop k (zeros cap)) z
+          ∙ ap (λ xs. all ++ xs) (drop-zeros (length all) cap),
+    )
 
 -- One number or none.
 pub given-count : (b : Bool) (v n : ℕ) → n + length (given b v) ≡ (if b then n + 1 else n)

@@ -48,9 +48,9 @@ graph-starts s start bodies r =
       owns = zeros-none 1_024 _ _ (omega (arith, length-map xs (λ a. ownIn (a .kind)))) (ap ownsOf (left-all s));
       timed = zeros-none 1_024 _ _ (omega (arith, length-map xs (λ a. timesIn (a .kind) (a .body)))) (ap timesOf (left-all s));
       froms =
-        zeros-none 1_025 _ _ (omega (arith, runs-count (λ a. length (goesBy start bodies a)) 0 xs))
-        (ap (fromsOf start bodies 0) (left-all s));
-      names = zeros-none 4_096 _ _ (few-goes s r start bodies) (ap (namesOf start bodies) (left-all s))
+          zeros-none 1_025 _ _ (omega (arith, runs-count (λ a. length (goesBy start bodies a)) 0 xs))
+          (ap (fromsOf start bodies 0) (left-all s));
+      names = zeros-none 4_096 _ _ (few-goes s r start bodies) (ap (namesOf start bodies) (left-all s));
     }
 
 module _ {s : List ℕ} {start : Bool} {bodies own times from goes : List ℕ} {actions ends : ℕ} {rest : List ℕ}
@@ -88,7 +88,7 @@ module _ {s : List ℕ} {start : Bool} {bodies own times from goes : List ℕ} {
     timed-on : Next (zeros 1_024) 0 (timesOf (recordsFrom 0 s)) times actions (given (acts k) (timesIn k bs)) (timesOf next)
     timed-on =
         record {
-          fills = rw (here h (x .on) e i, acts-turn at k bs next (λ a. timesIn (a .kind) (a .body))) at (x .timed)
+          fills = rw (here h (x .on) e i, acts-turn at k bs next (λ a. timesIn (a .kind) (a .body))) at (x .timed);
         }
 
     froms-on : Next (zeros 1_025) 0 (fromsOf start bodies 0 (recordsFrom 0 s)) from actions (given (acts k) ends)
@@ -131,7 +131,7 @@ module _ {s : List ℕ} {start : Bool} {bodies own times from goes : List ℕ} {
             owns = rw (same-own, same-count ends (ownIn k)) (next-filled owns-on);
             timed = rw (l, same-count ends (timesIn k bs)) (next-filled timed-on);
             froms = next-filled froms-on;
-            names = next-filled names-on
+            names = next-filled names-on;
           }
 
   -- Nothing is left.

@@ -34,7 +34,7 @@ index-starts s r =
       on = on-all s r;
       firsts = zeros-none 257 _ _ (few-firsts s r) (ap (firstsOf 0) (left-all s));
       places = zeros-none 1_024 _ _ (few-places s r) (ap placesOf (left-all s));
-      bodies = zeros-none 64 _ _ (few-bodies s r) (ap bodiesOf (left-all s))
+      bodies = zeros-none 64 _ _ (few-bodies s r) (ap bodiesOf (left-all s));
     }
 
 module _ {s first place body : List ℕ} {blocks actions classes : ℕ} {rest : List ℕ}
@@ -97,7 +97,7 @@ module _ {s first place body : List ℕ} {blocks actions classes : ℕ} {rest : 
             on = on-next h (x .on) e i;
             firsts = rw (given-count (acts k) at actions) (next-filled firsts-on);
             places = next-filled places-on;
-            bodies = rw same-body (next-filled bodies-on)
+            bodies = rw same-body (next-filled bodies-on);
           }
 
   -- Nothing is left.
@@ -110,8 +110,13 @@ module _ {s first place body : List ℕ} {blocks actions classes : ℕ} {rest : 
     last-room = omega (arith, next-room firsts-last, first-long)
 
     pub index-ends : record {
-          blocks = blocks; actions = actions; classes = classes; first = set first blocks actions; place = place; body = body
-        }
+      blocks = blocks;
+      actions = actions;
+      classes = classes;
+      first = set first blocks actions;
+      place = place;
+      body = body;
+    }
         ≡ indexOf (recordsFrom 0 s)
     unfolding indexOf actsOf bodiesOf
     index-ends =

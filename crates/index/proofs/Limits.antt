@@ -129,9 +129,9 @@ goes-count start bodies (torn at ∷ rs) f = absurd f
 goes-count start bodies (raw at k bs ∷ rs) f =
     if-has (λ (l : List Act). length (collect (goesBy start bodies) l) ≤ 4 * length l) (acts k)
     (λ e.
-      let g : List ℕ = goesIn start bodies k bs in
-      let more : List ℕ = collect (goesBy start bodies) (actsOf rs) in
-      omega (arith, goes-few start bodies k bs (f .0), length-append g more, goes-count start bodies rs (f .1)))
+    let g : List ℕ = goesIn start bodies k bs in
+    let more : List ℕ = collect (goesBy start bodies) (actsOf rs) in
+    omega (arith, goes-few start bodies k bs (f .0), length-append g more, goes-count start bodies rs (f .1)))
     (λ e. goes-count start bodies rs (f .1))
 
 pub runs-count : {A : Type 0} (f : A → ℕ) (n : ℕ) (xs : List A) → length (runs f n xs) ≡ length xs + 1

@@ -74,8 +74,8 @@ records-whole at bs h w =
     enough (length bs) (suc (length bs)) at bs (omega arith) (omega arith)
     ∙ cut-whole at bs h (length bs) w
     ∙ ap (λ rs. raw at (u16 bs 2) (take (spans bs - 4) (drop 4 bs)) ∷ rs)
-      (enough (length bs) (length (drop (spans bs) bs)) (at + spans bs) (drop (spans bs) bs)
-      (omega (arith, length-drop (spans bs) bs)) (omega arith))
+    (enough (length bs) (length (drop (spans bs) bs)) (at + spans bs) (drop (spans bs) bs)
+    (omega (arith, length-drop (spans bs) bs)) (omega arith))
 
 -- FINE RECORDS.
 abbrev pub Fine : List Raw → Type 0
@@ -101,8 +101,9 @@ counted-by seen k bs e =
     let b = needed-then No.PLACE (placed (rowOf k .group) (getD seen 6 0)) _ (a .1) in
     let c = needed-then No.MANY (ltb (getD seen (rowOf k .group) 0) (rowOf k .most)) _ (b .1) in
     record {
-      fine = record { grouped = ltb-true 0 (rowOf k .group) (a .0); body-judged = c .1 }; placed-is = b .0;
-      roomy = ltb-true (getD seen (rowOf k .group) 0) (rowOf k .most) (c .0)
+      fine = record { grouped = ltb-true 0 (rowOf k .group) (a .0); body-judged = c .1 };
+      placed-is = b .0;
+      roomy = ltb-true (getD seen (rowOf k .group) 0) (rowOf k .most) (c .0);
     }
 
 pub passed-on : (at k : ℕ) (bs : List ℕ) (rs : List Raw) (seen n : List ℕ) → firstPass seen (raw at k bs ∷ rs) ≡ accepted n →
@@ -160,7 +161,7 @@ pub on-all : (s : List ℕ) → Readable s → On s s
 on-all s r =
     record {
       short = omega arith;
-      fine = rw (left-all s) (fine-all noneSeen (recordsFrom 0 s) (r .accepts .0) (r .accepts .1))
+      fine = rw (left-all s) (fine-all noneSeen (recordsFrom 0 s) (r .accepts .0) (r .accepts .1));
     }
 
 -- A record stands at the front of the rest.

@@ -50,12 +50,17 @@ module _ (bs : List ℕ) (n at : ℕ) where
       let a = and-true (leb 2 (u16 l 0)) _ w in
       let y = leb-true 2 (u16 l 0) (a .0) in
       let z = leb-true (spans l) (length l) (a .1) in
-      let c : spans l - 4 ≡ u16 l 0 - 2 = omega arith in
-      (record {
-        an-act = q; judged = j; long = y; fits = omega (arith, z, length-drop at bs); kind-is = refl;
-        body-is = ap (λ i. take i (drop 4 l)) c
-      },
-      h)
+      let c : spans l - 4 ≡ u16 l 0 - 2 = omega arith in (
+        record {
+          an-act = q;
+          judged = j;
+          long = y;
+          fits = omega (arith, z, length-drop at bs);
+          kind-is = refl;
+          body-is = ap (λ i. take i (drop 4 l)) c;
+        },
+        h,
+      )
 
   stand-on : (t w : Bool) → whole l ≡ w → Fine (if t then [] else if w then raw at k x ∷ more else torn at ∷ []) →
       (Fine more → AllOf (Stands bs) (actsOf more)) →
@@ -114,5 +119,5 @@ accepted-by bs m e = go (leb (length bs) 65_535) refl e
         let c = then-is (thirdPass x rs) (λ q. accepted x) m (b .2) in
         record {
           readable = record { short = leb-true (length bs) 65_535 h; accepts = (a .0, a .1) };
-          is = cc (c .2)
+          is = cc (c .2);
         }

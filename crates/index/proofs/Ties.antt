@@ -42,9 +42,13 @@ stands-at bs a x s e =
     let z : p + 0 ≡ p = omega arith in
     let u : u16 (drop p bs) 0 ≡ u16 bs p = u16-drop bs p 0 ∙ ap (u16 bs) z in
     record {
-      there = omega (arith, s .fits, s .long); long = omega (arith, s .long); fits = omega (arith, s .fits); size-is = sym u;
-      kind-is = sym (u16-drop bs p 2); judged = rw (← (s .kind-is), ← (s .body-is)) (s .judged);
-      says = rw (← (s .kind-is), ← (s .body-is)) e
+      there = omega (arith, s .fits, s .long);
+      long = omega (arith, s .long);
+      fits = omega (arith, s .fits);
+      size-is = sym u;
+      kind-is = sym (u16-drop bs p 2);
+      judged = rw (← (s .kind-is), ← (s .body-is)) (s .judged);
+      says = rw (← (s .kind-is), ← (s .body-is)) e;
     }
 
 -- What each action's record says of the action, said of all.
@@ -178,12 +182,18 @@ module _ (bs : List ℕ) (m : Model) (e : Accepted bs m) where
   pub index-ties : Ties bs m (indexOf rs)
   index-ties =
       record {
-        blocks-are = blocks-count; actions-are = actions-count; classes-are = classes-count; body-is = same-body;
-        first-none = first-over 0 (omega arith); first-next = first-step; first-last = first-all; first-few = first-small;
+        blocks-are = blocks-count;
+        actions-are = actions-count;
+        classes-are = classes-count;
+        body-is = same-body;
+        first-none = first-over 0 (omega arith);
+        first-next = first-step;
+        first-last = first-all;
+        first-few = first-small;
         acts-at = λ b i x q.
-          let f = act-at (getD (indexOf rs .first) b 0 + i) x (flat-at b i x q) in
-          rw (place-at (getD (indexOf rs .first) b 0 + i) (f .0) (f .1))
-          (stands-at bs (f .0) x (all-at (Stands bs) (actsOf rs) _ (f .0) stand (f .1)) (f .2))
+            let f = act-at (getD (indexOf rs .first) b 0 + i) x (flat-at b i x q) in
+            rw (place-at (getD (indexOf rs .first) b 0 + i) (f .0) (f .1))
+            (stands-at bs (f .0) x (all-at (Stands bs) (actsOf rs) _ (f .0) stand (f .1)) (f .2));
       }
 
   -- THE GRAPH, by the classes' bodies that the index has.
@@ -292,9 +302,9 @@ module _ (bs : List ℕ) (m : Model) (e : Accepted bs m) where
         let n = over-next length [] (m .blocks) b h in
         let p = over-part length (m .blocks) (b + 1) in
         let s : slice i j xs ≡ block m b =
-            ap (slice i j) (sym (append-nil xs)) ∙ slice-collect (λ l. l) (m .blocks) [] b (b + 1) (omega arith)
-            ∙ ap (λ k. collect (λ l. l) (slice b k (m .blocks))) (add-one b)
-            ∙ ap (collect (λ l. l)) (slice-one (m .blocks) b [] h) ∙ append-nil (block m b) in
+        ap (slice i j) (sym (append-nil xs)) ∙ slice-collect (λ l. l) (m .blocks) [] b (b + 1) (omega arith)
+        ∙ ap (λ k. collect (λ l. l) (slice b k (m .blocks))) (add-one b)
+        ∙ ap (collect (λ l. l)) (slice-one (m .blocks) b [] h) ∙ append-nil (block m b) in
         rw (first-over b (omega arith), first-over (b + 1) (omega arith))
         (from-slice i j (omega arith) p
         ∙ ap (collect (λ l. l)) (slice-map (goesOf start m) i j xs ∙ ap (map (goesOf start m)) s)
@@ -303,8 +313,12 @@ module _ (bs : List ℕ) (m : Model) (e : Accepted bs m) where
     pub graph-ties : GraphTies m start (indexOf rs .first) graph
     graph-ties =
         record {
-          own-at = own-of; times-at = times-of; goes-at = goes-of; block-goes = block-of; rising = from-rises;
-          from-few = from-small
+          own-at = own-of;
+          times-at = times-of;
+          goes-at = goes-of;
+          block-goes = block-of;
+          rising = from-rises;
+          from-few = from-small;
         }
 
   -- LOOPS.

@@ -71,8 +71,12 @@ unfoldable pub indexOf : List Raw → Index
 unfolding actsOf firstsOf bodiesOf
 indexOf rs =
     record {
-      blocks = length (firstsOf 0 rs) - 1; actions = length (actsOf rs); classes = length (bodiesOf rs);
-      first = pad 257 (firstsOf 0 rs); place = pad 1_024 (map (λ a. a .place) (actsOf rs)); body = pad 64 (bodiesOf rs)
+      blocks = length (firstsOf 0 rs) - 1;
+      actions = length (actsOf rs);
+      classes = length (bodiesOf rs);
+      first = pad 257 (firstsOf 0 rs);
+      place = pad 1_024 (map (λ a. a .place) (actsOf rs));
+      body = pad 64 (bodiesOf rs);
     }
 
 -- THE GRAPH. By an action's kind and body: its own weight; how many times it weighs what it names; the blocks that it names.
@@ -117,7 +121,7 @@ graphOf start bodies rs =
       own = pad 1_024 (map (λ a. ownIn (a .kind)) (actsOf rs));
       times = pad 1_024 (map (λ a. timesIn (a .kind) (a .body)) (actsOf rs));
       from = pad 1_025 (runs (λ a. length (goesBy start bodies a)) 0 (actsOf rs));
-      goes = pad 4_096 (collect (goesBy start bodies) (actsOf rs))
+      goes = pad 4_096 (collect (goesBy start bodies) (actsOf rs));
     }
 
 -- LOOPS: a WHILE, or a START whose class's body block isn't greater than the START's own block. `own` BLOCKs stand before, so

@@ -106,7 +106,14 @@ pub fn index_of(s: &[u8]) -> Index
         rest = &rest[size..];
     }
     first[blocks] = actions as u16;
-    Index { blocks: blocks, actions: actions, classes: classes, first: first, place: place, body: body }
+    Index {
+        blocks: blocks,
+        actions: actions,
+        classes: classes,
+        first: first,
+        place: place,
+        body: body,
+    }
 }
 
 // ---- the graph
@@ -192,7 +199,12 @@ pub fn graph_of(s: &[u8], start: bool, body: [u16; 64]) -> Graph
         rest = &rest[size..];
     }
     from[actions] = ends as u16;
-    Graph { own: own, times: times, from: from, goes: goes }
+    Graph {
+        own: own,
+        times: times,
+        from: from,
+        goes: goes,
+    }
 }
 
 // ---- loops

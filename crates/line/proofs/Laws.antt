@@ -72,15 +72,28 @@ up row (suc j) p h =
     let v : ℕ = getD row j 0 in
     let l : length (take (suc j) row) ≡ suc j = length-take-le (suc j) row (omega arith) in
     let a : drop (suc j) (set row (suc j) v) ≡ v ∷ drop (suc (suc j)) row =
-      ap (drop (suc j)) (set-split row (suc j) v h) ∙ drop-at (take (suc j) row) _ (suc j) l in
-    rw (sub-one (suc j), add-one j, take-set-le j row (suc j) v (omega arith), a, add-one, take-suc row j 0 (omega arith),
-      append-snoc)
+    ap (drop (suc j)) (set-split row (suc j) v h) ∙ drop-at (take (suc j) row) _ (suc j) l in
+    rw (
+      sub-one (suc j),
+      add-one j,
+      take-set-le j row (suc j) v (omega arith),
+      a,
+      add-one,
+      take-suc row j 0 (omega arith),
+      append-snoc,
+    )
 
 pub down : (row : List ℕ) (i : ℕ) → i + 1 < length row → removed (i + 1) (set row i (getD row (i + 1) 0)) ≡ removed i row
 down row i h =
     let v : ℕ = getD row (suc i) 0 in
-    rw (add-one i, take-suc-set row i v (omega arith), add-one, drop-set-lt (suc (suc i)) row i v (omega arith), append-snoc,
-      ← drop-cons row (suc i) 0 (omega arith))
+    rw (
+      add-one i,
+      take-suc-set row i v (omega arith),
+      add-one,
+      drop-set-lt (suc (suc i)) row i v (omega arith),
+      append-snoc,
+      ← drop-cons row (suc i) 0 (omega arith),
+    )
 
 -- What stands at a place written over is another put in where it stood.
 written : (row : List ℕ) (i x : ℕ) → i < length row → set row i x ≡ inserted i x (removed i row)
@@ -99,8 +112,8 @@ module _ (row₀ row : List ℕ) (n at : ℕ) (c : Canon row₀ n) (l : length r
       let z : List ℕ = replicate (128 - (n + 1)) 0 in
       let k : 128 - n ≡ suc (128 - (n + 1)) = omega arith in
       let w : removed at row ≡ xs ++ z =
-        e ∙ ap (λ t. xs ++ drop (n + 1) t) (spelled row₀ n c ∙ ap (λ m. xs ++ replicate m 0) k ∙ sym (append-snoc xs 0 z))
-        ∙ ap (λ t. xs ++ t) (drop-at (xs ++ 0 ∷ []) z (n + 1) (simp length-append (omega arith))) in
+      e ∙ ap (λ t. xs ++ drop (n + 1) t) (spelled row₀ n c ∙ ap (λ m. xs ++ replicate m 0) k ∙ sym (append-snoc xs 0 z))
+      ∙ ap (λ t. xs ++ t) (drop-at (xs ++ 0 ∷ []) z (n + 1) (simp length-append (omega arith))) in
       written row at x (omega arith)
       ∙ rw (w, take-append-le at xs z (omega arith), drop-append-le at xs z (omega arith), append-assoc, ln)
 
@@ -113,8 +126,8 @@ module _ (row₀ row : List ℕ) (n at : ℕ) (c : Canon row₀ n) (l : length r
       let ly : length ys ≡ n - 1 = omega (arith, removed-length at xs (omega arith)) in
       let z : List ℕ = replicate (128 - n) 0 in
       let w : removed (n - 1) row ≡ ys ++ z =
-        e ∙ ap (removed at) (spelled row₀ n c)
-        ∙ rw (take-append-le at xs z (omega arith), drop-append-le (at + 1) xs z (omega arith), append-assoc) in
+      e ∙ ap (removed at) (spelled row₀ n c)
+      ∙ rw (take-append-le at xs z (omega arith), drop-append-le (at + 1) xs z (omega arith), append-assoc) in
       let k : 128 - (n - 1) ≡ suc (128 - n) = omega (arith, c .room) in
       written row (n - 1) 0 (omega (arith, c .room))
       ∙ rw (w, take-at ys z (n - 1) ly, drop-at ys z (n - 1) ly, ly, k)

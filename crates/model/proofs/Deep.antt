@@ -32,6 +32,7 @@ use Rattle.deep.proofs.Model.{depth-is, all-collect}
 use Rattle.deep.specs.Deep.{Known}
 use Rattle.deep.proofs.Laws.{known-none}
 use Rattle.model.specs.Check.{spanOf, Named}
+use Rattle.model.proofs.Laid.{laid}
 use Rattle.model.proofs.Pass.{record-here, judged-on, on-behind}
 
 -- Without STARTs a block goes to the blocks that its actions name.
@@ -68,40 +69,9 @@ module _ (bs : List ℕ) (n : Named bs) where
   blocks-few : length (m .blocks) ≤ 256
   blocks-few = counted rs (n .two) 6 .1
 
-  goes-long : length (g .goes) ≡ 4_096
-  unfolding graphOf
-  goes-long =
-      let xs : List ℕ = collect (goesBy false (indexOf rs .body)) (actsOf rs) in
-      let f = few-goes bs readable false (indexOf rs .body) in
-      omega (arith, length-append xs (replicate (4_096 - length xs) 0), length-replicate {A = ℕ} (4_096 - length xs) 0)
-
-  -- The first actions of the blocks rise up to the number of actions.
-  first-rises : (j b : ℕ) → b + j ≤ length (m .blocks) → getD (indexOf rs .first) b 0 ≤ getD (indexOf rs .first) (b + j) 0
-  first-rises zero b h = let z : b + 0 ≡ b = omega arith in rw z (omega arith)
-  first-rises (suc j) b h =
-      let z : b + suc j ≡ b + j + 1 = omega arith in
-      let ih = first-rises j b (omega arith) in
-      rw z (omega (arith, ties .first-next (b + j) (omega arith)))
-
-  first-last : (b : ℕ) → b ≤ length (m .blocks) → getD (indexOf rs .first) b 0 ≤ getD (indexOf rs .first) (length (m .blocks)) 0
-  first-last b h =
-      let z : b + (length (m .blocks) - b) ≡ length (m .blocks) = omega arith in
-      rw z at (first-rises (length (m .blocks) - b) b (omega arith))
-
-  laid : Laid (indexOf rs .first) (g .from) (g .goes) (length (m .blocks))
-  laid =
-      record {
-        few = blocks-few;
-        many = ties .first-few (length (m .blocks));
-        room = goes-long;
-        rises = λ b h. omega (arith, ties .first-next b h);
-        ends = λ b h. first-last (b + 1) (omega arith);
-        climbs = λ a h. wires .rising a (omega (arith, ties .first-last));
-        stops = λ a h. wires .from-few a;
-      }
-
   -- THE DEPTHS that the code finds are the model's.
-  same-names : (b : ℕ) → b < length (m .blocks) → namesIn (indexOf rs .first) (g .from) (g .goes) b ≡ collect inner (block m b)
+  same-names : (b : ℕ) → b < length (m .blocks) → namesIn (indexOf rs .first) (g .from) (g .goes) b ≡ collect inner
+      (block m b)
   same-names b h = wires .block-goes b h ∙ collect-inner m (block m b)
 
   names-later : (b : ℕ) → b < length (m .blocks)
@@ -113,7 +83,7 @@ module _ (bs : List ℕ) (n : Named bs) where
   blocks-are = ties .blocks-are
 
   pub graph-right : Graph (indexOf rs .first) (g .from) (g .goes) (indexOf rs .blocks)
-  graph-right = rw blocks-are (record { laid = laid; later = names-later })
+  graph-right = rw blocks-are (record { laid = laid bs m made false blocks-few; later = names-later })
 
   pub depths : (b : ℕ) → b < length (m .blocks)
       → depthOf (namesIn (indexOf rs .first) (g .from) (g .goes)) (indexOf rs .blocks) b ≡ depth m b
@@ -133,10 +103,14 @@ classes-in k n seen x own [] c p q = tt
 classes-in k n seen x own (torn at ∷ rs) c p q = not-accepted p
 classes-in k n seen x own (raw at kind bs ∷ rs) c p q =
     let a = first-on at kind bs rs seen x p in
-    let b = second-on at kind bs rs n own q in
-    ((λ e. rw c at (ltb-true (u16 bs 0) (getD n 6 0) (rw e at (b .0 .field-known)))), classes-in k n (saw seen kind) x (opened own kind) rs c (a .1) (b .1))
+    let b = second-on at kind bs rs n own q in (
+      (λ e. rw c at (ltb-true (u16 bs 0) (getD n 6 0) (rw e at (b .0 .field-known)))),
+      classes-in k n (saw seen kind) x
+          (opened own kind) rs c (a .1) (b .1),
+    )
 
-pub classes-all : (bs : List ℕ) (n : Named bs) → Classes (length (gather (recordsFrom 0 bs) .model .blocks)) (recordsFrom 0 bs)
+pub classes-all : (bs : List ℕ) (n : Named bs) → Classes (length (gather (recordsFrom 0 bs) .model .blocks))
+    (recordsFrom 0 bs)
 classes-all bs n =
     classes-in (length (gather (recordsFrom 0 bs) .model .blocks)) (n .two .seen) noneSeen (n .two .seen) 0 (recordsFrom 0 bs)
     (counted (recordsFrom 0 bs) (n .two) 6 .0) (n .two .first) (n .two .second)
@@ -165,7 +139,7 @@ module _ (s : List ℕ) where
         right = λ b h. depths s n b (rw (blocks-are s n) at h);
         classes = rw (blocks-are s n, left-all s) (classes-all s n);
         known = known-none _ _ (graph-right s n .laid .few);
-        goes-on = ap (thirdPass m) (left-all s)
+        goes-on = ap (thirdPass m) (left-all s);
       })
 
   module _ {first from goes : List ℕ} {blocks : ℕ} {memo rest : List ℕ} (w : Turn first from goes blocks memo rest)
@@ -202,8 +176,12 @@ module _ (s : List ℕ) where
           → Turn first from goes blocks after (take (length rest - z) (drop z rest))
       turned f q =
           record {
-            on = on-behind h (w .on) j i; graph = w .graph; right = w .right; classes = classes-here .1; known = q;
-            goes-on = sym (third-step false f)
+            on = on-behind h (w .on) j i;
+            graph = w .graph;
+            right = w .right;
+            classes = classes-here .1;
+            known = q;
+            goes-on = sym (third-step false f);
           }
 
   pub third-ends : {first from goes : List ℕ} {blocks : ℕ} {memo rest : List ℕ} → Turn first from goes blocks memo rest

@@ -1,3 +1,5 @@
 pub mod Pass
+pub mod Laid
 pub mod Deep
+pub mod Stated
 pub mod Whole

@@ -21,11 +21,14 @@ use Rattle.index.proofs.Records.{here, judged-here, on-next, shorter}
 use Rattle.model.specs.Check.{spanOf}
 
 -- THE NUMBER of an outcome tells whether it is one.
+abbrev pub Number : ℕ → Type 0
+Number n = (0 < n) × (n ≤ 10)
+
 pub data Proper : Outcome Passed → Type 0 where
   fine : Proper (ok passed)
-  bad : {n : ℕ} → 0 < n → Proper (fails n)
+  bad : {n : ℕ} → Number n → Proper (fails n)
 
-need-proper : (n : ℕ) (b : Bool) → 0 < n → Proper (need n b)
+need-proper : (n : ℕ) (b : Bool) → Number n → Proper (need n b)
 unfolding need
 need-proper n true h = fine
 need-proper n false h = bad h
@@ -38,17 +41,18 @@ then-proper (bad h) q = bad h
 pub judged-proper : (seen : List ℕ) (k : ℕ) (bs : List ℕ) → Proper (judged seen k bs)
 unfolding judged bodyJudged
 judged-proper seen k bs =
-    then-proper (need-proper 2 _ (omega arith)) (then-proper (need-proper 3 _ (omega arith))
-    (then-proper (need-proper 4 _ (omega arith)) (then-proper (need-proper 5 _ (omega arith))
-    (then-proper (need-proper 6 _ (omega arith)) (need-proper 7 _ (omega arith))))))
+    then-proper (need-proper 2 _ (omega arith, omega arith)) (then-proper (need-proper 3 _ (omega arith, omega arith))
+    (then-proper (need-proper 4 _ (omega arith, omega arith)) (then-proper (need-proper 5 _ (omega arith, omega arith))
+    (then-proper (need-proper 6 _ (omega arith, omega arith)) (need-proper 7 _ (omega arith, omega arith))))))
 
 pub named-proper : (n : List ℕ) (own k : ℕ) (bs : List ℕ) → Proper (named n own k bs)
 unfolding named
-named-proper n own k bs = then-proper (need-proper 8 _ (omega arith)) (need-proper 9 _ (omega arith))
+named-proper n own k bs =
+    then-proper (need-proper 8 _ (omega arith, omega arith)) (need-proper 9 _ (omega arith, omega arith))
 
 passes : {o : Outcome Passed} → Proper o → (n : ℕ) → n ≡ numberOf o → n ≡ 0 → o ≡ ok passed
 passes fine n e f = refl
-passes (bad h) n e f = absurd (omega arith)
+passes (bad h) n e f = absurd (omega (arith, h .0))
 
 fails-with : (o : Outcome Passed) (n : ℕ) → n ≡ numberOf o → (n ≡ 0 → ⊥) → o ≡ fails n
 fails-with (ok passed) n e h = absurd (h e)
@@ -88,22 +92,31 @@ short-torn bs h = go (leb 2 (u16 bs 0)) refl
 
 -- THE FIRST PASS over what is left of the file s.
 module _ (s seen rest : List ℕ) (h : 0 < length rest) where
-  pub first-torn : (z : ℕ) → z ≡ spanOf rest → z ≡ 0 → firstPass seen (left s rest) ≡ refused No.SHORT (length s - length rest)
+  pub first-torn : (z : ℕ) → z ≡ spanOf rest → z ≡ 0 → firstPass seen (left s rest) ≡ refused No.SHORT
+      (length s - length rest)
   unfolding firstPass
   first-torn z e f = rw (records-torn (length s - length rest) rest h (span-torn rest z e f))
 
-  module _ (l : length rest ≤ length s) (z k n : ℕ) (q : Spanned rest z) (i : k ≡ u16 rest 2) (e : n ≡ numberOf (judged seen k (take (z - 4) (drop 4 rest)))) where
-    first-here : left s rest ≡ raw (length s - length rest) k (take (z - 4) (drop 4 rest)) ∷ left s (take (length rest - z) (drop z rest))
+  module _ (l : length rest ≤ length s) (z k n : ℕ) (q : Spanned rest z) (i : k ≡ u16 rest 2) (e : n ≡ numberOf
+      (judged seen k (take (z - 4) (drop 4 rest)))) where
+    first-here : left s rest ≡ raw (length s - length rest) k (take (z - 4) (drop 4 rest)) ∷ left s (take
+        (length rest - z) (drop z rest))
     first-here =
         let y : ℕ = spans rest in
-        let j : length s - length rest + y ≡ length s - length (drop y rest) = omega (arith, length-drop y rest, q .is, q .fits) in
+        let j : length s - length rest + y ≡ length s - length (drop y rest) = omega (
+          arith,
+          length-drop y rest,
+          q .is,
+          q .fits,
+        ) in
         rw (rest-of z rest, q .is, i) (records-whole (length s - length rest) rest h (q .whole-is) ∙ rw j)
 
     pub first-refused : (n ≡ 0 → ⊥) → firstPass seen (left s rest) ≡ refused n (length s - length rest)
     unfolding firstPass
     first-refused f = rw (first-here, firstPass, fails-with (judged seen k (take (z - 4) (drop 4 rest))) n e f)
 
-    pub first-goes : n ≡ 0 → firstPass seen (left s rest) ≡ firstPass (saw seen k) (left s (take (length rest - z) (drop z rest)))
+    pub first-goes : n ≡ 0 → firstPass seen (left s rest) ≡ firstPass (saw seen k) (left s (take (length rest - z)
+        (drop z rest)))
     unfolding firstPass
     first-goes f = rw (first-here, firstPass, passes (judged-proper seen k (take (z - 4) (drop 4 rest))) n e f)
 
@@ -112,7 +125,8 @@ unfolding firstPass
 first-ends s seen rest h = rw (left-none s rest h)
 
 -- A record that passes is not one too many.
-pub passes-few : (seen : List ℕ) (k : ℕ) (bs : List ℕ) (n : ℕ) → n ≡ numberOf (judged seen k bs) → n ≡ 0 → getD seen (rowOf k .group) 0 < rowOf k .most
+pub passes-few : (seen : List ℕ) (k : ℕ) (bs : List ℕ) (n : ℕ) → n ≡ numberOf (judged seen k bs) → n ≡ 0 → getD seen
+    (rowOf k .group) 0 < rowOf k .most
 unfolding firstPass
 passes-few seen k bs n e f =
     passed-on 0 k bs [] seen (saw seen k) (rw (firstPass, passes (judged-proper seen k bs) n e f) refl) .0 .roomy
@@ -130,7 +144,8 @@ module _ {s rest : List ℕ} (h : 0 < length rest) (o : On s rest) {z : ℕ} (j 
   less = shorter h o (stands .is)
 
   module _ {k : ℕ} (i : k ≡ u16 rest 2) where
-    pub record-here : left s rest ≡ raw (length s - length rest) k (take (z - 4) (drop 4 rest)) ∷ left s (take (length rest - z) (drop z rest))
+    pub record-here : left s rest ≡ raw (length s - length rest) k (take (z - 4) (drop 4 rest)) ∷ left s (take
+        (length rest - z) (drop z rest))
     record-here = here h o (stands .is) i
 
     -- it has passed 2 to 7
@@ -148,10 +163,12 @@ module _ {s rest : List ℕ} (h : 0 < length rest) (o : On s rest) {z : ℕ} (j 
       unfolding secondPass
       second-refused f = rw (record-here, secondPass, fails-with (named n own k (take (z - 4) (drop 4 rest))) x e f)
 
-      pub second-goes : x ≡ 0 → secondPass n own (left s rest) ≡ secondPass n (opened own k) (left s (take (length rest - z) (drop z rest)))
+      pub second-goes : x ≡ 0 → secondPass n own (left s rest) ≡ secondPass n (opened own k) (left s (take
+          (length rest - z) (drop z rest)))
       unfolding secondPass
       second-goes f = rw (record-here, secondPass, passes (named-proper n own k (take (z - 4) (drop 4 rest))) x e f)
 
-pub second-ends : (s n : List ℕ) (own : ℕ) (rest : List ℕ) → length rest ≡ 0 → secondPass n own (left s rest) ≡ accepted passed
+pub second-ends : (s n : List ℕ) (own : ℕ) (rest : List ℕ) → length rest ≡ 0 → secondPass n own
+    (left s rest) ≡ accepted passed
 unfolding secondPass
 second-ends s n own rest h = rw (left-none s rest h)

@@ -1,48 +1,20 @@
 -- The three passes in their order: what the first that refuses says, and what all of them passing says. Assumes nothing.
-use mathlib.Core.Path.{_≡_, refl, sym, _∙_, ap}
-use mathlib.Core.List.{List, [], _∷_}
-use Prim.Native.Nat.{ℕ, _+_, _≤_, _<_}
+use mathlib.Core.Path.{_≡_, refl}
+use mathlib.Core.List.{List}
+use Prim.Native.Nat.{ℕ, _≤_, _<_}
 use native.Mathlib.Omega.{arith}
 use borrow.Author.Tests.{le-leb, lt-leb}
 use lib.ListN.{length}
-use Rattle.semantics.specs.Words.{Outcome, ok, fails, Passed, passed}
-use Rattle.semantics.specs.Bytes.{Raw, raw, torn, recordsFrom}
+use Rattle.semantics.specs.Words.{Passed, passed}
+use Rattle.semantics.specs.Bytes.{Raw, recordsFrom}
 use Rattle.semantics.specs.Model.{Model}
-use Rattle.semantics.specs.Decode.{Checked, refused, accepted, judged, saw, firstPass, noneSeen, named, opened, secondPass}
-use Rattle.semantics.specs.Decode.{gather, thirdPass, andThen, decode}
-use Rattle.promises.specs.Passes.{TwoPasses}
+use Rattle.semantics.specs.Decode.{Checked, refused, accepted, firstPass, noneSeen, secondPass, gather, thirdPass, andThen}
+use Rattle.semantics.specs.Decode.{decode}
 use Rattle.index.specs.Index.{Readable}
 use Rattle.model.specs.Check.{refusalOf, firstOf, Named}
 use Rattle.model.specs.declared.First.{First}
 use Rattle.model.specs.declared.Refusal.{Refusal}
-use Rattle.model.proofs.Pass.{Proper, fine, bad, judged-proper, named-proper}
-
--- A REFUSAL'S NUMBER is not 0.
-abbrev pub Numbered : {A : Type 0} → Checked A → Type 0
-Numbered (refused n p) = 0 < n
-Numbered (accepted a) = Unit {0}
-
-first-numbered : (seen : List ℕ) (rs : List Raw) → Numbered (firstPass seen rs)
-unfolding firstPass
-first-numbered seen [] = tt
-first-numbered seen (torn at ∷ rs) = omega arith
-first-numbered seen (raw at k bs ∷ rs) = go (judged seen k bs) (judged-proper seen k bs) (first-numbered (saw seen k) rs)
-  where
-    go : (o : Outcome Passed) → Proper o → Numbered (firstPass (saw seen k) rs)
-        → Numbered {A = List ℕ} (elim o [ fails x ↦ refused x at | ok y ↦ firstPass (saw seen k) rs ])
-    go (ok passed) fine i = i
-    go (fails n) (bad h) i = h
-
-second-numbered : (n : List ℕ) (own : ℕ) (rs : List Raw) → Numbered (secondPass n own rs)
-unfolding secondPass
-second-numbered n own [] = tt
-second-numbered n own (torn at ∷ rs) = omega arith
-second-numbered n own (raw at k bs ∷ rs) = go (named n own k bs) (named-proper n own k bs) (second-numbered n (opened own k) rs)
-  where
-    go : (o : Outcome Passed) → Proper o → Numbered (secondPass n (opened own k) rs)
-        → Numbered {A = Passed} (elim o [ fails x ↦ refused x at | ok y ↦ secondPass n (opened own k) rs ])
-    go (ok passed) fine i = i
-    go (fails x) (bad h) i = h
+use Rattle.model.proofs.Stated.{Stated, records-within, first-stated, second-stated}
 
 pub too-long : (bs : List ℕ) → 65_535 < length bs → record { number = 4; place = 0 } ≡ refusalOf (decode bs)
 unfolding decode
@@ -56,7 +28,8 @@ module _ (bs : List ℕ) (h : length bs ≤ 65_535) where
   abbrev m : Model
   m = gather rs .model
 
-  in-order : decode bs ≡ andThen (firstPass noneSeen rs) λ n. andThen (secondPass n 0 rs) λ x. andThen (thirdPass m rs) λ y. accepted m
+  in-order : decode bs ≡ andThen (firstPass noneSeen rs) λ n. andThen (secondPass n 0 rs) λ x. andThen
+      (thirdPass m rs) λ y. accepted m
   unfolding decode
   in-order = rw (decode, le-leb (length bs) 65_535 h)
 
@@ -71,10 +44,10 @@ module _ (bs : List ℕ) (h : length bs ≤ 65_535) where
         go (accepted n) e = absurd (k (rw e))
 
     pub first-passes : f .number ≡ 0 → firstPass noneSeen rs ≡ accepted (f .seen)
-    first-passes z = go (firstPass noneSeen rs) (first-numbered noneSeen rs) e
+    first-passes z = go (firstPass noneSeen rs) (first-stated (length bs) noneSeen rs (records-within bs)) e
       where
-        go : (p : Checked (List ℕ)) → Numbered p → f ≡ firstOf p → p ≡ accepted (f .seen)
-        go (refused n p) q e = let i : f .number ≡ n = rw e in absurd (omega arith)
+        go : (p : Checked (List ℕ)) → Stated (length bs) p → f ≡ firstOf p → p ≡ accepted (f .seen)
+        go (refused n p) q e = let i : f .number ≡ n = rw e in absurd (omega (arith, q .0 .0))
         go (accepted n) q e = rw e
 
     pub reads : f .number ≡ 0 → Readable bs
@@ -91,10 +64,10 @@ module _ (bs : List ℕ) (h : length bs ≤ 65_535) where
           go (accepted n) i = absurd (k (rw i))
 
       second-passes : g .number ≡ 0 → secondPass (f .seen) 0 rs ≡ accepted passed
-      second-passes y = go (secondPass (f .seen) 0 rs) (second-numbered (f .seen) 0 rs) i
+      second-passes y = go (secondPass (f .seen) 0 rs) (second-stated (length bs) (f .seen) 0 rs (records-within bs)) i
         where
-          go : (p : Checked Passed) → Numbered p → g ≡ refusalOf p → p ≡ accepted passed
-          go (refused n p) q i = let j : g .number ≡ n = rw i in absurd (omega arith)
+          go : (p : Checked Passed) → Stated (length bs) p → g ≡ refusalOf p → p ≡ accepted passed
+          go (refused n p) q i = let j : g .number ≡ n = rw i in absurd (omega (arith, q .0 .0))
           go (accepted passed) q i = refl
 
       pub names : g .number ≡ 0 → Named bs

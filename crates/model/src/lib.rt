@@ -51,18 +51,30 @@ fn first_pass(s: &[u8]) -> First
         let at = s.len() - rest.len();
         let size = span(rest);
         if size == 0 {
-            return First { number: 1, place: at, seen: [0u32; 17] };
+            return First {
+                number: 1,
+                place: at,
+                seen: [0u32; 17],
+            };
         }
         let kind = fields::u16_at(rest, 2);
         let n = record::judge(seen, kind, &rest[4..size]);
         if n != 0 {
-            return First { number: n, place: at, seen: [0u32; 17] };
+            return First {
+                number: n,
+                place: at,
+                seen: [0u32; 17],
+            };
         }
         let g = record::group_of(kind);
         seen[g] = seen[g] + 1;
         rest = &rest[size..];
     }
-    First { number: 0, place: 0, seen: seen }
+    First {
+        number: 0,
+        place: 0,
+        seen: seen,
+    }
 }
 
 // How many BLOCKs stand before the next record.
@@ -86,12 +98,18 @@ fn second_pass(s: &[u8], n: [u32; 17]) -> Refusal
         let kind = fields::u16_at(rest, 2);
         let x = record::name(n, own, kind, &rest[4..size]);
         if x != 0 {
-            return Refusal { number: x, place: at };
+            return Refusal {
+                number: x,
+                place: at,
+            };
         }
         own = opened(own, kind);
         rest = &rest[size..];
     }
-    Refusal { number: 0, place: 0 }
+    Refusal {
+        number: 0,
+        place: 0,
+    }
 }
 
 // Whether the record is a CLASS whose body nests over 8 blocks, itself included. The memo has the depths found already.
@@ -143,12 +161,26 @@ fn third_pass(s: &[u8]) -> Refusal
         let at = s.len() - rest.len();
         let size = span(rest);
         let kind = fields::u16_at(rest, 2);
-        if too_deep(kind, &rest[4..size], &first, &from, &goes, blocks, &mut memo) {
-            return Refusal { number: 10, place: at };
+        if too_deep(
+            kind,
+            &rest[4..size],
+            &first,
+            &from,
+            &goes,
+            blocks,
+            &mut memo,
+        ) {
+            return Refusal {
+                number: 10,
+                place: at,
+            };
         }
         rest = &rest[size..];
     }
-    Refusal { number: 0, place: 0 }
+    Refusal {
+        number: 0,
+        place: 0,
+    }
 }
 
 // The checks in their order; over 65,535 bytes are 4 at place 0, first of all.
@@ -156,11 +188,17 @@ pub fn check(s: &[u8]) -> Refusal
     ensures { λ r. ⌜ r ≡ refusalOf (decode (now (s .entry))) ⌝ }
 {
     if 65535 < s.len() {
-        return Refusal { number: 4, place: 0 };
+        return Refusal {
+            number: 4,
+            place: 0,
+        };
     }
     let f = first_pass(s);
     if f.number != 0 {
-        return Refusal { number: f.number, place: f.place };
+        return Refusal {
+            number: f.number,
+            place: f.place,
+        };
     }
     let n = f.seen;
     let g = second_pass(s, n);

@@ -38,7 +38,8 @@ module _ (p : List ℕ → Bool) (k n : ℕ) (bs : List ℕ) (h : 0 < n) where
   any-more false = rw (parts-cons k n bs h)
 
 module _ (same : List ℕ → List ℕ → Bool) (k n : ℕ) (bs : List ℕ) (h : 0 < n) where
-  repeats-more : (t : Bool) → (t || repeats same (parts k n bs)) ≡ ((t || any (same (take k bs)) (parts k (n - 1) (drop k bs))) || repeats same (parts k (n - 1) (drop k bs)))
+  repeats-more : (t : Bool) → (t || repeats same (parts k n bs)) ≡ ((t || any (same (take k bs)) (parts k (n - 1)
+      (drop k bs))) || repeats same (parts k (n - 1) (drop k bs)))
   unfolding repeats
   repeats-more true = refl
   repeats-more false = rw (parts-cons k n bs h)
@@ -65,13 +66,17 @@ module _ (k n : ℕ) (bs : List ℕ) (h : 0 < n) where
   pub fits-turn : k * n ≤ length bs → k * (n - 1) ≤ length (take (length bs - k) (drop k bs))
   fits-turn e = rw (rest-of k bs, length-drop k bs) (fits-less k n (length bs) h e)
 
-  pub all-turn : (p : List ℕ → Bool) (t r x : Bool) → r ≡ p (take k bs) → (t && all p (parts k n bs)) ≡ x → ((t && r) && all p (parts k (n - 1) (take (length bs - k) (drop k bs)))) ≡ x
+  pub all-turn : (p : List ℕ → Bool) (t r x : Bool) → r ≡ p (take k bs) → (t && all p (parts k n bs)) ≡ x →
+      ((t && r) && all p (parts k (n - 1) (take (length bs - k) (drop k bs)))) ≡ x
   all-turn p t r x e i = rw (rest-of k bs, e) (sym (all-more p k n bs h t) ∙ i)
 
-  pub any-turn : (p : List ℕ → Bool) (t r x : Bool) → r ≡ p (take k bs) → (t || any p (parts k n bs)) ≡ x → ((t || r) || any p (parts k (n - 1) (take (length bs - k) (drop k bs)))) ≡ x
+  pub any-turn : (p : List ℕ → Bool) (t r x : Bool) → r ≡ p (take k bs) → (t || any p (parts k n bs)) ≡ x →
+      ((t || r) || any p (parts k (n - 1) (take (length bs - k) (drop k bs)))) ≡ x
   any-turn p t r x e i = rw (rest-of k bs, e) (sym (any-more p k n bs h t) ∙ i)
 
-  pub repeats-turn : (same : List ℕ → List ℕ → Bool) (t r x : Bool) → r ≡ any (same (take k bs)) (parts k (n - 1) (take (length bs - k) (drop k bs))) → (t || repeats same (parts k n bs)) ≡ x → ((t || r) || repeats same (parts k (n - 1) (take (length bs - k) (drop k bs)))) ≡ x
+  pub repeats-turn : (same : List ℕ → List ℕ → Bool) (t r x : Bool) → r ≡ any (same (take k bs)) (parts k (n - 1) (take
+      (length bs - k) (drop k bs))) → (t || repeats same (parts k n bs)) ≡ x → ((t || r) || repeats same (parts k
+      (n - 1) (take (length bs - k) (drop k bs)))) ≡ x
   repeats-turn same t r x e i = rw (e, rest-of k bs) (sym (repeats-more same k n bs h t) ∙ i)
 
 module _ (k n : ℕ) (bs : List ℕ) (h : n ≡ 0) where
@@ -94,7 +99,8 @@ six-bytes (suc (suc (suc zero))) f g = absurd (g refl)
 six-bytes (suc (suc (suc (suc zero)))) f g = refl
 six-bytes (suc (suc (suc (suc (suc t))))) f g = refl
 
-pub last-test : (t : ℕ) → (t ≡ 0 → ⊥) → (t ≡ 1 → ⊥) → (t ≡ 2 → ⊥) → (t ≡ 3 → ⊥) → (t ≡ 4 → ⊥) → (n x : List ℕ) → passes t n x ≡ nodeKnown (getD n 4 0) x
+pub last-test : (t : ℕ) → (t ≡ 0 → ⊥) → (t ≡ 1 → ⊥) → (t ≡ 2 → ⊥) → (t ≡ 3 → ⊥) → (t ≡ 4 → ⊥) →
+    (n x : List ℕ) → passes t n x ≡ nodeKnown (getD n 4 0) x
 last-test zero e₀ e₁ e₂ e₃ e₄ n x = absurd (e₀ refl)
 last-test (suc zero) e₀ e₁ e₂ e₃ e₄ n x = absurd (e₁ refl)
 last-test (suc (suc zero)) e₀ e₁ e₂ e₃ e₄ n x = absurd (e₂ refl)

@@ -140,7 +140,11 @@ fn same_part(share: bool, i: &[u8], j: &[u8]) -> bool
     requires { ⌜ (partSize (partOf share) ≤ length (now i)) × (partSize (partOf share) ≤ length (now j)) ⌝ }
     ensures { λ r. ⌜ r ≡ samePart (partOf share) (now (i .entry)) (now (j .entry)) ⌝ }
 {
-    if share { same_share(i, j) } else { same_item(i, j) }
+    if share {
+        same_share(i, j)
+    } else {
+        same_item(i, j)
+    }
 }
 
 fn part_size(share: bool) -> usize
@@ -152,7 +156,8 @@ fn part_size(share: bool) -> usize
 // Whether one of the parts of bs names what the part x does.
 fn named_again(share: bool, x: &[u8], count: u32, bs: &[u8]) -> bool
     requires { ⌜ (partSize (partOf share) ≤ length (now x)) × (partSize (partOf share) * count ≤ length (now bs)) ⌝ }
-    ensures { λ r. ⌜ r ≡ any (samePart (partOf share) (now (x .entry))) (parts (partSize (partOf share)) count (now (bs .entry))) ⌝ }
+    ensures { λ r. ⌜ r ≡ any (samePart (partOf share) (now (x .entry)))
+        (parts (partSize (partOf share)) count (now (bs .entry))) ⌝ }
 {
     let size = part_size(share);
     let mut found = false;

@@ -103,8 +103,12 @@ place-bit p h = shl-exact 1 p 64 (omega arith) (omega arith) ∙ one-mul (2 ^ p)
 busy : Process
 busy =
     record {
-      number = 1; priority = pos 0; locals = []; held = []; slaves = [];
-      frames = record { block = 0; at = 0; rounds = 1 } ∷ []
+      number = 1;
+      priority = pos 0;
+      locals = [];
+      held = [];
+      slaves = [];
+      frames = record { block = 0; at = 0; rounds = 1 } ∷ [];
     }
 
 bearer : (d : ℕ) → d < 2 → (q : Process) × (lives q ≡ d)

@@ -45,7 +45,8 @@ module _ (m : Model) where
   abbrev Makes : ℕ → Gathered → Type 0
   Makes own g =
       AllOf (λ n. n ≤ 1_000_000) (g .model .totals) × AllOf (λ n. n ≤ 1_000_000) (g .model .amounts) × AllOf I32 (g .model .vars)
-      × AllOf (λ b. b < length (m .blocks)) (g .model .classes) × AllOf (EntityFit m) (g .model .entities) × AllOf (ActAt own) (g .loose)
+      × AllOf (λ b. b < length (m .blocks)) (g .model .classes)
+      × AllOf (EntityFit m) (g .model .entities) × AllOf (ActAt own) (g .loose)
       × AllFrom BlockAt own (g .model .blocks)
 
   one-more : (own : ℕ) (e : Entry) (g : Gathered) → EntryFit m e → AllOf (λ k. own ≤ k) (innerOf e)
@@ -132,14 +133,16 @@ links rs p = record { later = at; there = made rs p .3 }
     at b =
         all-map _ _ (λ a x. all-both _ _ (inner a) (x .1) (inner-there m a (x .0))) (block m b) (block-at rs p b)
 
--- The third pass has looked at each class. Row by row: of a CLASS it has found the body not too deep, of the others it says nothing.
+-- The third pass has looked at each class. Row by row: of a CLASS it has found the body not too deep, of the others it says
+-- nothing.
 module _ (m : Model) where
   abbrev Shallow : Gathered → Type 0
   Shallow g = AllOf (λ b. depth m b ≤ 8) (g .model .classes)
 
   abbrev RowShallow : Row → Type 0
   RowShallow r =
-      (bs : List ℕ) (g : Gathered) → eqb (r .kind) 5 && ltb 8 (depth m (u16 bs 0)) ≡ false → Shallow g → Shallow (adds g (r .says bs))
+      (bs : List ℕ) (g : Gathered) → eqb (r .kind) 5 && ltb 8 (depth m (u16 bs 0)) ≡ false → Shallow g
+      → Shallow (adds g (r .says bs))
 
   rows-shallow : AllOf RowShallow table
   rows-shallow =

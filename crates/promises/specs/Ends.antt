@@ -12,7 +12,8 @@ use Rattle.semantics.specs.Model.{Model}
 use Rattle.semantics.specs.State.{State}
 use Rattle.semantics.specs.Walk.{Line, Next}
 use Rattle.semantics.specs.Step.{step}
-use Rattle.semantics.specs.Run.{Answer, CLOSED, IDLE, LIMIT, FAULT, Ran, stopped, further, Before, before, isClosed, isIdle, goesOn}
+use Rattle.semantics.specs.Run.{Answer, CLOSED, IDLE, LIMIT, FAULT, Ran, stopped, further, Before, before, isClosed, isIdle}
+use Rattle.semantics.specs.Run.{goesOn}
 use Rattle.semantics.specs.Run.{Room, endless, fits, left, run, noEnd}
 use Rattle.promises.specs.Laws.{no-way}
 use Rattle.promises.specs.Answers.{run-keeps, run-why, Why, was-closed, was-idle, at-limit, at-fault, no-room}
@@ -45,7 +46,8 @@ why-stops {m = m} {t = t} (at-fault {j = j} e h g) f = fault-stops m t j e g
 why-stops (no-room e h g i) f = no-way (sym f)
 
 -- After an end (CLOSED, IDLE, or a fault other than 30) no call makes a step.
-pub end-stays : (m : Model) (n : ℕ) (r : Room) (s : State) → noEnd (run m n r s .answer) ≡ false → StopsAt m (run m n r s .state)
+pub end-stays : (m : Model) (n : ℕ) (r : Room) (s : State) → noEnd (run m n r s .answer) ≡ false → StopsAt m
+    (run m n r s .state)
 end-stays m n r s e = why-stops (run-why m n r s) e
 
 -- A run that does not answer 30 is the run with endless room.

@@ -107,7 +107,8 @@ every : (ℕ → ℕ → Bool) → ℕ → List ℕ → Bool
 every f i [] = true
 every f i (x ∷ xs) = f i x && every f (suc i) xs
 
-at : (f : ℕ → ℕ → Bool) (xs : List ℕ) (i : ℕ) → every f i xs ≡ true → (k j : ℕ) → j ≡ i + k → k < length xs → f j (getD xs k 0) ≡ true
+at : (f : ℕ → ℕ → Bool) (xs : List ℕ) (i : ℕ) → every f i xs ≡ true → (k j : ℕ) → j ≡ i + k → k < length xs → f j
+    (getD xs k 0) ≡ true
 unfolding every
 at f [] i e k j d h = absurd (omega arith)
 at f (x ∷ xs) i e zero j d h = let z : j ≡ i = omega arith in rw z (and-left (f i x) _ e)

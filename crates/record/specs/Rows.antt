@@ -60,7 +60,8 @@ tailNumber (listOf share) = 4
 unfoldable pub columnOf : ℕ → Row → ℕ
 columnOf c r =
     getD
-    (r .group ∷ r .most ∷ r .head ∷ fieldSize (r .field) ∷ fieldAt (r .field) ∷ fieldLow (r .field) ∷ fieldHigh (r .field) ∷ tailNumber (r .tail) ∷ namingOf (r .naming) ∷ namingAt (r .naming) ∷ [])
+    (r .group ∷ r .most ∷ r .head ∷ fieldSize (r .field) ∷ fieldAt (r .field) ∷ fieldLow (r .field) ∷ fieldHigh (r .field)
+    ∷ tailNumber (r .tail) ∷ namingOf (r .naming) ∷ namingAt (r .naming) ∷ [])
     c
     0
 

@@ -9,8 +9,9 @@ ghost use Rattle.semantics.specs.Record.{inSet, bodyJudged, rowOf};
 ghost use Rattle.semantics.specs.Decode.{placed, judged, fieldKnown, innerOf, named};
 ghost use Rattle.record.specs.Rows.{numberOf, columnOf, numberAt, Judged};
 
-// A row for each kind from 0 to 30: its group (0: no kind) and the most of it; the bytes of its fields; the field with a stated set: its
-// size (0: none), its place, the lowest and the highest; its tail; what its naming field names (0: nothing, 17: a local), and its place.
+// A row for each kind from 0 to 30: its group (0: no kind) and the most of it; the bytes of its fields; the field with a stated
+// set: its size (0: none), its place, the lowest and the highest; its tail; what its naming field names (0: nothing, 17: a
+// local), and its place.
 const TABLE: [u32; 310] = [
     0, 0, 0, 0, 0, 0, 0, 0, 0, 0,
     1, 32, 4, 4, 0, 0, 1000000, 0, 0, 0,

@@ -1,5 +1,5 @@
--- What the booking desk's three requests answer (document 01, "Numbers the desk sees"): it hands over bytes to check a model, to get
--- its bound, or to run it whole.
+-- What the booking desk's three requests answer (document 01, "Numbers the desk sees"): it hands over bytes to check a model,
+-- to get its bound, or to run it whole.
 -- Assumes nothing.
 use Prim.Native.Nat.{ℕ}
 use mathlib.Core.List.{List}
@@ -21,7 +21,8 @@ unfoldable pub boundFile : List ℕ → Checked Bounded
 unfolding decode boundIs
 boundFile bs = andThen (decode bs) λ m. accepted (boundIs m)
 
--- Run whole, from fresh, with a step limit and a lent journal: the refusal, or the answer, the steps done and what the journal holds.
+-- Run whole, from fresh, with a step limit and a lent journal: the refusal, or the answer, the steps done and what the journal
+-- holds.
 pub record Told : Type 0 where
   pub answer : Answer
   pub steps : ℕ

@@ -113,7 +113,8 @@ plan k bs p = record { number = k; look = prints 1_000_000; file = bs; shows = p
 abbrev stopping : ℕ → ℕ → List ℕ → Printed → Case
 stopping k n bs p = record { number = k; look = prints n; file = bs; shows = printed p }
 
--- The lines of plan 2, of plan 8 with two waiters, and of plan 9. With W, A comes back first at 15: the walk passes Z, since B is still out, and goes on to W.
+-- The lines of plan 2, of plan 8 with two waiters, and of plan 9. With W, A comes back first at
+-- 15: the walk passes Z, since B is still out, and goes on to W.
 abbrev exampleLines : List Told
 exampleLines =
     (0, 1, 4, pos 0) ∷ (0, 2, 3, pos 0)

@@ -22,7 +22,8 @@ pub and-right : (a b : Bool) → (a && b) ≡ true → b ≡ true
 and-right true b e = e
 and-right false b e = absurd (let z : _≡_ {A = ℕ} 0 1 = cc in omega arith)
 
-from-cons : (n : ℕ) (bs : List ℕ) → 0 < n → branchesFrom n bs ≡ take (branchSize bs) bs ∷ branchesFrom (n - 1) (drop (branchSize bs) bs)
+from-cons : (n : ℕ) (bs : List ℕ) → 0 < n → branchesFrom n bs ≡ take (branchSize bs) bs ∷ branchesFrom (n - 1) (drop
+    (branchSize bs) bs)
 unfolding branchesFrom
 from-cons zero bs h = absurd (omega arith)
 from-cons (suc n) bs h = rw (sub-one (suc n))
@@ -31,7 +32,8 @@ from-none : (n : ℕ) (bs : List ℕ) → n ≡ 0 → branchesFrom n bs ≡ []
 unfolding branchesFrom
 from-none n bs h = rw h
 
-pub fit-cons : (n : ℕ) (bs : List ℕ) → 0 < n → branchesFit n bs ≡ (leb 4 (length bs) && (leb (branchSize bs) (length bs) && branchesFit (n - 1) (drop (branchSize bs) bs)))
+pub fit-cons : (n : ℕ) (bs : List ℕ) → 0 < n → branchesFit n bs ≡ (leb 4 (length bs) && (leb (branchSize bs)
+    (length bs) && branchesFit (n - 1) (drop (branchSize bs) bs)))
 unfolding branchesFit
 fit-cons zero bs h = absurd (omega arith)
 fit-cons (suc n) bs h = rw (sub-one (suc n))
@@ -55,7 +57,8 @@ module _ (n : ℕ) (bs : List ℕ) (h : 0 < n) (e : branchesFit n bs ≡ true) w
   fit-turn z i = rw (rest-of z bs, i) (and-right (leb (branchSize bs) (length bs)) _ (and-right (leb 4 (length bs)) _ split))
 
 module _ (n : ℕ) (bs : List ℕ) (h : 0 < n) (z : ℕ) (j : z ≡ branchSize bs) where
-  pub all-branch : (p : List ℕ → Bool) (t r x : Bool) → r ≡ p (take z bs) → (t && all p (branchesFrom n bs)) ≡ x → ((t && r) && all p (branchesFrom (n - 1) (take (length bs - z) (drop z bs)))) ≡ x
+  pub all-branch : (p : List ℕ → Bool) (t r x : Bool) → r ≡ p (take z bs) → (t && all p (branchesFrom n bs)) ≡ x →
+      ((t && r) && all p (branchesFrom (n - 1) (take (length bs - z) (drop z bs)))) ≡ x
   all-branch p true r x e i = rw (rest-of z bs, e, j) (rw (from-cons n bs h) at i)
   all-branch p false r x e i = i
 
@@ -73,7 +76,8 @@ module _ (n : ℕ) (bs : List ℕ) (h : n ≡ 0) where
   all-branched p t x i = sym (and-true t (all p (branchesFrom n bs)) (rw (from-none n bs h))) ∙ i
 
 -- The claim of a branch has its size.
-pub claim-fits : (b : List ℕ) → 4 ≤ length b → branchSize b ≤ length b → (2 ≤ length (take (length b - 2) (drop 2 b))) × (2 + 8 * u16 (take (length b - 2) (drop 2 b)) 0 ≤ length (take (length b - 2) (drop 2 b)))
+pub claim-fits : (b : List ℕ) → 4 ≤ length b → branchSize b ≤ length b → (2 ≤ length (take (length b - 2) (drop 2 b))) ×
+    (2 + 8 * u16 (take (length b - 2) (drop 2 b)) 0 ≤ length (take (length b - 2) (drop 2 b)))
 claim-fits b h e =
     let l = length-drop 2 b in
     rw (rest-of 2 b) (omega arith, omega (arith, getD-drop 2 b 0 0, getD-drop 2 b 1 0))

@@ -9,9 +9,8 @@ use lib.Dec.{leb, eqb}
 use lib.ListN.{length, drop}
 use Rattle.semantics.specs.Words.{all, within}
 use Rattle.semantics.specs.Bytes.{u16}
-use Rattle.semantics.specs.Record.{
-  Part, nothing, expression, branches, sized, twice, partSize, listSized, oneTree, pile, nodes, branchesFit, branchesFrom, listTwice, item
-}
+use Rattle.semantics.specs.Record.{Part, nothing, expression, branches, sized, twice, partSize, listSized, oneTree, pile}
+use Rattle.semantics.specs.Record.{nodes, branchesFit, branchesFrom, listTwice, item}
 use Rattle.tails.specs.Tails.{tailOf, branchPasses}
 use Rattle.tails.proofs.Branches.{and-left, and-right, any-not}
 
@@ -24,7 +23,8 @@ no-tail (suc (suc (suc zero))) e f g h = absurd (g refl)
 no-tail (suc (suc (suc (suc zero)))) e f g h = absurd (h refl)
 no-tail (suc (suc (suc (suc (suc t))))) e f g h = refl
 
-pub last-branch-test : (t : ℕ) → (t ≡ 0 → ⊥) → (t ≡ 1 → ⊥) → (t ≡ 2 → ⊥) → (n : List ℕ) (own : ℕ) (b : List ℕ) → branchPasses t n own b ≡ leb own (u16 b 0)
+pub last-branch-test : (t : ℕ) → (t ≡ 0 → ⊥) → (t ≡ 1 → ⊥) → (t ≡ 2 → ⊥) → (n : List ℕ) (own : ℕ)
+    (b : List ℕ) → branchPasses t n own b ≡ leb own (u16 b 0)
 unfolding branchPasses
 last-branch-test zero e f g n own b = absurd (e refl)
 last-branch-test (suc zero) e f g n own b = absurd (f refl)
@@ -56,7 +56,8 @@ twice-none (suc (suc (suc zero))) f g h bs = absurd (g refl)
 twice-none (suc (suc (suc (suc zero)))) f g h bs = absurd (h refl)
 twice-none (suc (suc (suc (suc (suc t))))) f g h bs = refl
 
-pub twice-is : (n : List ℕ) (own : ℕ) (bs : List ℕ) → not (all (branchPasses 1 n own) (branchesFrom (u16 bs 0) (drop 2 bs))) ≡ twice branches bs
+pub twice-is : (n : List ℕ) (own : ℕ) (bs : List ℕ) → not (all (branchPasses 1 n own) (branchesFrom (u16 bs 0)
+    (drop 2 bs))) ≡ twice branches bs
 unfolding branchPasses
 twice-is n own bs =
     sym (any-not (λ b. listTwice item (drop 2 b)) (branchPasses 1 n own) (λ b. refl) (branchesFrom (u16 bs 0) (drop 2 bs)))

@@ -62,7 +62,11 @@ onto-height (binary f) [] = sym (grown-no 2 1 (omega arith))
 onto-height (binary f) (a ∷ []) = sym (grown-no 2 2 (omega arith))
 onto-height (binary f) (a ∷ b ∷ es) = omega (arith, grown-yes 2 (suc (suc (suc (length es)))) (omega arith))
 
-height-over : (n : List ℕ) (q : Option (List Expr)) → heightOf (elim q [ none ↦ none | some es ↦ onto (nodeOf (u16 n 0) (u32 n 2)) es ]) ≡ grownBy (arity (u16 n 0)) (heightOf q)
+height-over : (n : List ℕ) (q : Option (List Expr)) → heightOf (elim q [
+  | none ↦ none
+  | some es ↦ onto (nodeOf (u16 n 0)
+      (u32 n 2)) es
+]) ≡ grownBy (arity (u16 n 0)) (heightOf q)
 height-over n none = sym (grown-no (arity (u16 n 0)) 0 (omega arith))
 height-over n (some es) =
     onto-height (nodeOf (u16 n 0) (u32 n 2)) es ∙ ap (λ (a : ℕ). grownBy a (suc (length es))) (agree (u32 n 2) (u16 n 0))
@@ -83,14 +87,17 @@ front bs at =
 abbrev heightFrom : ℕ → ℕ → List ℕ → ℕ
 heightFrom n k bs = heightOf (pile (parts 6 (n - k) (drop (6 * k) bs)))
 
-pub height-turn : (n k : ℕ) (bs : List ℕ) → 0 < k → k ≤ n → heightFrom n (k - 1) bs ≡ grownBy (arity (u16 bs (6 * (k - 1)))) (heightFrom n k bs)
+pub height-turn : (n k : ℕ) (bs : List ℕ) → 0 < k → k ≤ n → heightFrom n (k - 1) bs ≡ grownBy (arity (u16 bs (6 *
+    (k - 1)))) (heightFrom n k bs)
 height-turn n k bs h m =
     let i : n - (k - 1) - 1 ≡ n - k = omega arith in
     let j : 6 * (k - 1) + 6 ≡ 6 * k = omega arith in
     let rest : List (List ℕ) = parts 6 (n - k) (drop (6 * k) bs) in
-    let e : parts 6 (n - (k - 1)) (drop (6 * (k - 1)) bs) ≡ take 6 (drop (6 * (k - 1)) bs) ∷ parts 6 (n - k) (drop (6 * k) bs) =
+    let e : parts 6 (n - (k - 1)) (drop (6 * (k - 1)) bs) ≡ take 6 (drop (6 * (k - 1)) bs) ∷ parts 6 (n - k) (drop
+    (6 * k) bs) =
     rw (parts-cons 6 (n - (k - 1)) (drop (6 * (k - 1)) bs) (omega arith), i, drop-drop 6 (6 * (k - 1)) bs, j) in
-    rw e (height-more (take 6 (drop (6 * (k - 1)) bs)) rest ∙ ap (λ (o : ℕ). grownBy (arity o) (heightOf (pile rest))) (front bs (6 * (k - 1))))
+    rw e (height-more (take 6 (drop (6 * (k - 1)) bs)) rest ∙ ap (λ (o : ℕ). grownBy (arity o) (heightOf (pile rest)))
+    (front bs (6 * (k - 1))))
 
 pub height-none : (n : ℕ) (bs : List ℕ) → heightFrom n n bs ≡ 1
 unfolding pile

@@ -9,9 +9,7 @@ use lib.ListN.{length, getD, drop}
 use Rattle.semantics.specs.Words.{if_then_else_, all}
 use Rattle.semantics.specs.Model.{Expr}
 use Rattle.semantics.specs.Bytes.{u16}
-use Rattle.semantics.specs.Record.{
-  Tail, nothing, expression, branches, claim, shares, item, partsOf, listValid, listTwice
-}
+use Rattle.semantics.specs.Record.{Tail, nothing, expression, branches, claim, shares, item, partsOf, listValid, listTwice}
 use Rattle.semantics.specs.Decode.{partKnown}
 
 -- 0 nothing, 1 expression, 2 branches, 3 claim, 4 shares
@@ -22,7 +20,8 @@ tailOf t = getD (nothing ∷ expression ∷ branches ∷ claim ∷ shares ∷ []
 -- 3 its block is not below `own`.
 unfoldable pub branchPasses : ℕ → List ℕ → ℕ → List ℕ → Bool
 branchPasses test n own b =
-    getD (listValid item (drop 2 b) ∷ not (listTwice item (drop 2 b)) ∷ (ltb (u16 b 0) (getD n 6 0) && all (partKnown item n) (partsOf item (drop 2 b))) ∷ [])
+    getD (listValid item (drop 2 b) ∷ not (listTwice item (drop 2 b))
+    ∷ (ltb (u16 b 0) (getD n 6 0) && all (partKnown item n) (partsOf item (drop 2 b))) ∷ [])
     test
     (leb own (u16 b 0))
 

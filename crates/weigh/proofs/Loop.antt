@@ -29,9 +29,14 @@ module _ {s : Acts} {n b end : ℕ} {old : List ℕ} where
   pub sum-begun : {a : ℕ} → Known (told s n) n old → a ≡ s .first b → end ≡ s .first (b + 1) → s .first b ≤ s .first (b + 1) →
       Sum s n b end old old 0 a
   sum-begun k p q h = record {
-      known = k; noted = rw (p, q); low = omega arith; high = omega arith; last = q; small = omega arith;
-      found = rw (p, q) (omega arith)
-    }
+    known = k;
+    noted = rw (p, q);
+    low = omega arith;
+    high = omega arith;
+    last = q;
+    small = omega arith;
+    found = rw (p, q) (omega arith);
+  }
 
   module _ {memo : List ℕ} {w a : ℕ} (t : Sum s n b end old memo w a) where
     pub sum-turned : {after : List ℕ} {v : ℕ} → a < end → Known (told s n) n after → after ≡ actionWeighed s n a memo →
@@ -39,11 +44,15 @@ module _ {s : Acts} {n b end : ℕ} {old : List ℕ} where
     sum-turned h k m e =
         let cut = run-cons a end h in
         let parted : cap (w + (actionWeightOf s n a + sum (map (actionWeightOf s n) (run (end - (a + 1)) (a + 1)))))
-            ≡ cap (sum (map (actionWeightOf s n) (actions s b))) = rw cut at (t .found) in
+        ≡ cap (sum (map (actionWeightOf s n) (actions s b))) = rw cut at (t .found) in
         record {
-          known = k; noted = rw (m, ← measured-append (weighed s n) (s .goes a)) (rw cut at (t .noted));
-          low = omega (arith, t .low); high = omega arith; last = t .last; small = omega arith;
-          found = rw e (omega (arith, parted))
+          known = k;
+          noted = rw (m, ← measured-append (weighed s n) (s .goes a)) (rw cut at (t .noted));
+          low = omega (arith, t .low);
+          high = omega arith;
+          last = t .last;
+          small = omega arith;
+          found = rw e (omega (arith, parted));
         }
 
     module _ (ahead : Ahead s n) (l : b < n) (h : end ≤ a) where

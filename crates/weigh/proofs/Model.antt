@@ -4,14 +4,14 @@
 use Prim.Native.Nat.{ℕ, zero, suc, _+_, _*_, _-_, _<_, max}
 use mathlib.Core.Path.{_≡_, refl, _∙_}
 use mathlib.Core.List.{List, [], _∷_, map}
+use mathlib.Core.Bool.{true}
 use mathlib.Core.Option.{some}
 use native.Mathlib.Omega.{arith}
 use native.Mathlib.Numerals.{unary-clauses}
 use lib.ListN.{length, getElem?}
 use Rattle.semantics.specs.Words.{sum, largest}
-use Rattle.semantics.specs.Model.{
-  Action, HOLD, PRIO, TRACE, SET, LSET, DO, PUTR, PUTB, PUTS, BECOME, REQ, TRY, WHILE, START, CLOSE, Branch, Model, block, body
-}
+use Rattle.semantics.specs.Model.{Action, HOLD, PRIO, TRACE, SET, LSET, DO, PUTR, PUTB, PUTS, BECOME, REQ, TRY, WHILE, START}
+use Rattle.semantics.specs.Model.{CLOSE, Branch, Model, block, body}
 use Rattle.semantics.specs.Bound as bound
 use Rattle.semantics.specs.Bound.{ownWeight, weigh, weight}
 use Rattle.semantics.specs.Decode.{inner}
@@ -21,7 +21,8 @@ use Rattle.deep.specs.Deep.{Laid, Graph}
 use Rattle.deep.proofs.Laws.{agree-later}
 use Rattle.deep.proofs.Model.{graph-is}
 use Rattle.weigh.specs.Weigh.{Acts, run, actions, actionWeight, weightIn, weightOf, actsIn}
-use Rattle.weigh.specs.Agrees.{timesOf, goesOf, Alike, Agrees}
+use Rattle.index.specs.Ties.{timesOf, goesOf}
+use Rattle.weigh.specs.Agrees.{Alike, Agrees}
 use Rattle.weigh.proofs.Laws.{Ahead, same-action}
 
 -- ONE FORMULA for all actions.
@@ -31,7 +32,7 @@ branches-largest w [] = refl
 branches-largest w (x ∷ bs) = rw (branches-largest w bs)
 
 formula : (m : Model) (w : ℕ → ℕ) (x : Action) →
-    ownWeight x + timesOf x * largest (map (λ k. w k + 1) (goesOf m x)) ≡ weigh m w x
+    ownWeight x + timesOf x * largest (map (λ k. w k + 1) (goesOf true m x)) ≡ weigh m w x
 unfolding weigh
 formula m w (HOLD e) = refl
 formula m w (PRIO e) = refl
@@ -63,8 +64,11 @@ module _ (m : Model) (s : Acts) where
   all-weigh w v [] a l h = refl
   all-weigh w v (x ∷ xs) a l h =
       let here : Alike m s a x = simp unary-clauses at (l 0 x refl) in
-      rw (alike-weigh w v a x here (h .0), all-weigh w v xs (suc a) (λ i y q.
-      let e : a + suc i ≡ suc a + i = omega arith in rw e at (l (suc i) y q)) (h .1))
+      rw (
+        alike-weigh w v a x here (h .0),
+        all-weigh w v xs (suc a) (λ i y q.
+            let e : a + suc i ≡ suc a + i = omega arith in rw e at (l (suc i) y q)) (h .1),
+      )
 
   module _ (agrees : Agrees m s) (ahead : Ahead s (length (m .blocks))) where
     same-in : (d b : ℕ) → b < length (m .blocks) → weightIn s d b ≡ bound.weightIn m d b
@@ -73,10 +77,10 @@ module _ (m : Model) (s : Acts) where
     same-in (suc d) b l =
         let e : s .first (b + 1) - s .first b ≡ length (block m b) = omega (arith, agrees .counts b l) in
         let later : AllOf (λ c. AllOf (λ k. weightIn s d k ≡ bound.weightIn m d k) (s .goes c)) (actions s b) =
-            all-map (λ c. AllOf (λ k. (b < k) × (k < length (m .blocks))) (s .goes c))
-            (λ c. AllOf (λ k. weightIn s d k ≡ bound.weightIn m d k) (s .goes c))
-            (λ c h. agree-later b _ (weightIn s d) (bound.weightIn m d) (s .goes c) (λ k p q. same-in d k q) h)
-            (actions s b) (ahead b l) in
+        all-map (λ c. AllOf (λ k. (b < k) × (k < length (m .blocks))) (s .goes c))
+        (λ c. AllOf (λ k. weightIn s d k ≡ bound.weightIn m d k) (s .goes c))
+        (λ c h. agree-later b _ (weightIn s d) (bound.weightIn m d) (s .goes c) (λ k p q. same-in d k q) h)
+        (actions s b) (ahead b l) in
         rw e (all-weigh (weightIn s d) (bound.weightIn m d) (block m b) (s .first b) (agrees .each b l) (rw e at later))
 
     pub weight-is-model : (b : ℕ) → b < length (m .blocks) → weightOf s (length (m .blocks)) b ≡ weight m b
@@ -92,7 +96,7 @@ module _ (m : Model) (nested : Nested m) (b : ℕ) where
   body-is c h = all-get (λ k. b < k → k < length (m .blocks)) (m .classes) c 0
       (all-map _ _ (λ k w p. w .0) (m .classes) (nested .bodies)) (λ p. absurd (omega arith)) h
 
-  goes-later : (x : Action) → GoesForward m b x → AllOf Later (inner x) → AllOf Later (goesOf m x)
+  goes-later : (x : Action) → GoesForward m b x → AllOf Later (inner x) → AllOf Later (goesOf true m x)
   goes-later (HOLD e) f h = tt
   goes-later (PRIO e) f h = tt
   goes-later (TRACE e) f h = tt
@@ -109,9 +113,9 @@ module _ (m : Model) (nested : Nested m) (b : ℕ) where
   goes-later (START c t g) f h = ((f, body-is c f), tt)
   goes-later CLOSE f h = tt
 
-  block-forward : Forward m → AllOf (λ x. AllOf Later (goesOf m x)) (block m b)
+  block-forward : Forward m → AllOf (λ x. AllOf Later (goesOf true m x)) (block m b)
   block-forward f =
-      all-map (λ x. GoesForward m b x × AllOf Later (inner x)) (λ x. AllOf Later (goesOf m x))
+      all-map (λ x. GoesForward m b x × AllOf Later (inner x)) (λ x. AllOf Later (goesOf true m x))
       (λ x w. goes-later x (w .0) (w .1)) (block m b)
       (all-both (GoesForward m b) (λ x. AllOf Later (inner x)) (block m b) (f .forward b) (nested .later b))
 
@@ -120,5 +124,5 @@ pub forward-graph : (m : Model) → Nested m → Forward m → (first from goes 
     Laid first from goes (length (m .blocks)) → Agrees m (actsIn first from goes own times) →
     Graph first from goes (length (m .blocks))
 forward-graph m nested f first from goes own times s agrees =
-    graph-is m first from goes s (goesOf m) (agrees .counts) (λ b l i x e. agrees .each b l i x e .ways)
+    graph-is m first from goes s (goesOf true m) (agrees .counts) (λ b l i x e. agrees .each b l i x e .ways)
     (λ b. block-forward m nested b f)

@@ -59,8 +59,10 @@ actionWeighed s n a = measuredAll (weighed s n) (s .goes a)
 abbrev pub actsIn : List ℕ → List ℕ → List ℕ → List ℕ → List ℕ → Acts
 actsIn first from goes own times =
     record {
-      first = λ b. getD first b 0; own = λ a. getD own a 0; times = λ a. getD times a 0;
-      goes = λ a. slice (getD from a 0) (getD from (a + 1) 0) goes
+      first = λ b. getD first b 0;
+      own = λ a. getD own a 0;
+      times = λ a. getD times a 0;
+      goes = λ a. slice (getD from a 0) (getD from (a + 1) 0) goes;
     }
 
 -- Action a stands in block b.

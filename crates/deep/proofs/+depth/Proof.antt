@@ -11,7 +11,8 @@ use Rattle.deep.proofs.+depth.Lts-depth as depth-lts
 use Rattle.deep.proofs.+depth.Tie.{close}
 use Rattle.deep.proofs.+depth.{statement}
 use Rattle.deep.proofs.Laws.{known-more, measured-known}
-use Rattle.deep.proofs.Loop.{begun, turned, DepthTurn, names-rise, in-range, next-later, depth-ended, depth-noted, small}
+use Rattle.deep.proofs.Loop.{begun, turned, DepthTurn, names-rise, in-range, next-later, depth-ended, depth-noted}
+use Rattle.deep.proofs.Loop.{small}
 use Rattle.deep.proofs.depth.Kinds as depth-kinds
 use Rattle.deep.proofs.depth.Reads as depth
 use Rattle.deep.proofs.greater.Reads as greater-reads
@@ -28,9 +29,16 @@ abbrev depth-below : ℕ → In 2 depth-kinds.ps
 depth-below t = and 2 depth-kinds.ps (falls 2 depth-kinds.ps _<_ μ-depth t) depth.Pre
 
 abbrev depth-claims : ℕ → depth-lts.Claims
-depth-claims t =
-    (start-reads.Asked, start-reads.Learnt, wide-reads.Asked, wide-reads.Learnt, depth-below t,
-    depth.Post, greater-reads.Asked, greater-reads.Learnt)
+depth-claims t = (
+  start-reads.Asked,
+  start-reads.Learnt,
+  wide-reads.Asked,
+  wide-reads.Learnt,
+  depth-below t,
+  depth.Post,
+  greater-reads.Asked,
+  greater-reads.Learnt,
+)
 
 abbrev depth-Inv-loop : depth-lts.InvT-loop
 depth-Inv-loop first from goes blocks memo₀ b known d₀ k₀ end memo d k = DepthTurn first from goes blocks b end memo₀ memo d k
@@ -46,9 +54,13 @@ depth-element-copy-out-known : (t : ℕ) →
 depth-element-copy-out-known t c = omega (arith, c .pre .1 .0 .laid .few, c .pre .1 .1 .0)
 
 depth-returns : (t : ℕ) → depth-lts.Need-returns (depth-claims t) (depth-at t) depth.Post depth-Inv-loop depth-μ-loop
-depth-returns t c = let p = c .before .before .pre .1 .1 in
-    (p .1, (sym (measured-known _ _ _ (c .before .before .args .b) _ (c .if1 .taken)),
-    p .1 .right (c .before .before .args .b) (p .0) (c .if1 .taken)))
+depth-returns t c = let p = c .before .before .pre .1 .1 in (
+  p .1,
+  (
+    sym (measured-known _ _ _ (c .before .before .args .b) _ (c .if1 .taken)),
+    p .1 .right (c .before .before .args .b) (p .0) (c .if1 .taken),
+  ),
+)
 
 depth-start-requires : (t : ℕ) →
     depth-lts.Need-start-requires (depth-claims t) (depth-at t) depth.Post depth-Inv-loop depth-μ-loop
@@ -134,9 +146,10 @@ depth-returns-2 t c = let o = c .before .before .before .before .before .before 
     let p = o .pre .1 in
     let w = c .before .loop .inv in
     let h = c .loop-test .left in
-    let e = depth-ended (p .0) (p .1 .0) w h in
-    (known-more _ _ _ (o .args .b) _ (omega (arith, p .0 .laid .few, p .1 .0)) (w .known) e,
-    (depth-noted (p .0) (p .1 .0) w h (c .before .before .before .before .if1 .left), e))
+    let e = depth-ended (p .0) (p .1 .0) w h in (
+      known-more _ _ _ (o .args .b) _ (omega (arith, p .0 .laid .few, p .1 .0)) (w .known) e,
+      (depth-noted (p .0) (p .1 .0) w h (c .before .before .before .before .if1 .left), e),
+    )
 
 pub +depth-spec : {M : Type 1} → statement M
 +depth-spec = close μ-depth λ t. depth-lts.spec (depth-claims t)

@@ -35,9 +35,10 @@ part-rest-end c = search needs
 loop-holds : tie.Need-loop-holds Inv-loop μ-loop
 unfolding branchBlocks
 loop-holds c = let o = c .before .before .before .before in
-    let e = c .before .u16-at .ensures .0 in
-    (rw (e, rest-of 2 (o .args .bs .now)) (o .pre .fits),
-    fills-none (o .args .out .now) (o .args .n) _ _ (o .pre .room) (rw (e, rest-of 2 (o .args .bs .now))))
+    let e = c .before .u16-at .ensures .0 in (
+      rw (e, rest-of 2 (o .args .bs .now)) (o .pre .fits),
+      fills-none (o .args .out .now) (o .args .n) _ _ (o .pre .room) (rw (e, rest-of 2 (o .args .bs .now))),
+    )
 
 u16-at-requires-2 : tie.Need-u16-at-requires-2 Inv-loop μ-loop
 u16-at-requires-2 c κs = let l = c .before .loop in fit-four (l .left) (l .rest .now) (c .loop-test .taken) (l .inv .0)
@@ -65,14 +66,20 @@ noted-requires c κs = let l = c .before .before .before .before .loop in
 sub-rest-2 : tie.Need-sub-rest-2 Inv-loop μ-loop
 sub-rest-2 c = let y = c .before .before .before .before .before in
     let l = y .before .before .loop in
-    omega (arith, y .u16-at2 .ensures .0,
-    fit-size (l .left) (l .rest .now) (y .before .loop-test .taken) (l .inv .0))
+    omega (
+      arith,
+      y .u16-at2 .ensures .0,
+      fit-size (l .left) (l .rest .now) (y .before .loop-test .taken) (l .inv .0),
+    )
 
 part-rest-start-2 : tie.Need-part-rest-start-2 Inv-loop μ-loop
 part-rest-start-2 c = let y = c .before .before .before .before .before in
     let l = y .before .before .loop in
-    omega (arith, y .u16-at2 .ensures .0,
-    fit-size (l .left) (l .rest .now) (y .before .loop-test .taken) (l .inv .0))
+    omega (
+      arith,
+      y .u16-at2 .ensures .0,
+      fit-size (l .left) (l .rest .now) (y .before .loop-test .taken) (l .inv .0),
+    )
 
 part-rest-end-2 : tie.Need-part-rest-end-2 Inv-loop μ-loop
 part-rest-end-2 c = search needs
@@ -89,9 +96,10 @@ loop-again c = let l = c .before .before .before .before .before .before .before
     let p = c .before .before .before .before .before .pair-at in
     let w = c .before .before .before .noted in
     let e = ap (λ (x : ℕ). 4 + 8 * x) (c .before .before .before .before .before .before .u16-at2 .ensures .0) in
-    let b = blocks-turn (l .left) (l .rest .now) t (l .inv .0) e (p .ensures) in
-    (fit-turn (l .left) (l .rest .now) t (l .inv .0) e,
-    rw (w .ensures .next-is, w .ensures .after-is) (next-filled (turned b (l .inv .1))))
+    let b = blocks-turn (l .left) (l .rest .now) t (l .inv .0) e (p .ensures) in (
+      fit-turn (l .left) (l .rest .now) t (l .inv .0) e,
+      rw (w .ensures .next-is, w .ensures .after-is) (next-filled (turned b (l .inv .1))),
+    )
 
 same-length : tie.Need-same-length Inv-loop μ-loop
 same-length c = fills-length (c .before .loop .inv .1)

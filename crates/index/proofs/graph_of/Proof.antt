@@ -30,17 +30,17 @@ u16-at-requires c κs = four-there (c .before .loop-test .taken) (c .before .bef
 sub-bs : tie.Need-sub-bs Inv-loop μ-loop
 sub-bs c =
     span-fits (c .before .before .loop-test .taken) (c .before .before .before .loop .inv .on)
-        (c .before .span .ensures .0) .0
+    (c .before .span .ensures .0) .0
 
 part-bs-start : tie.Need-part-bs-start Inv-loop μ-loop
 part-bs-start c =
     span-fits (c .before .before .loop-test .taken) (c .before .before .before .loop .inv .on)
-        (c .before .span .ensures .0) .0
+    (c .before .span .ensures .0) .0
 
 part-bs-end : tie.Need-part-bs-end Inv-loop μ-loop
 part-bs-end c =
     span-fits (c .before .before .loop-test .taken) (c .before .before .before .loop .inv .on)
-        (c .before .span .ensures .0) .1
+    (c .before .span .ensures .0) .1
 
 own-weight-requires : tie.Need-own-weight-requires Inv-loop μ-loop
 own-weight-requires c κs = search needs
@@ -52,12 +52,12 @@ noted-requires : tie.Need-noted-requires Inv-loop μ-loop
 noted-requires c κs = let o = c .before in
     let u = o .before .before in
     own-room (u .before .before .before .loop .inv) (u .before .before .loop-test .taken) (u .before .span .ensures .0)
-        (u .u16-at .ensures .0) (o .own-weight .ensures)
+    (u .u16-at .ensures .0) (o .own-weight .ensures)
 
 times-of-requires : tie.Need-times-of-requires Inv-loop μ-loop
 times-of-requires c κs = let u = c .before .before .before .before .before in
     do-head (judged-here (u .before .before .loop-test .taken) (u .before .before .before .loop .inv .on)
-        (u .before .span .ensures .0) (u .u16-at .ensures .0))
+    (u .before .span .ensures .0) (u .u16-at .ensures .0))
 
 slice-aggregate-noted-2 : tie.Need-slice-aggregate-noted-2 Inv-loop μ-loop
 slice-aggregate-noted-2 c =
@@ -67,49 +67,53 @@ noted-requires-2 : tie.Need-noted-requires-2 Inv-loop μ-loop
 noted-requires-2 c κs = let t = c .before in
     let u = t .before .before .before .before .before .before in
     times-room (u .before .before .before .loop .inv) (u .before .before .loop-test .taken)
-        (u .before .span .ensures .0) (u .u16-at .ensures .0) (t .times-of .ensures)
+    (u .before .span .ensures .0) (u .u16-at .ensures .0) (t .times-of .ensures)
 
 cast-noted : tie.Need-cast-noted Inv-loop μ-loop
 cast-noted c =
-    omega (arith, ends-few (c .before .before .before .before .before .before .before .before .before .before .before
-        .before .loop .inv))
+    omega (
+      arith,
+      ends-few (c .before .before .before .before .before .before .before .before .before .before .before
+          .before .loop .inv),
+    )
 
 slice-aggregate-noted-3 : tie.Need-slice-aggregate-noted-3 Inv-loop μ-loop
 slice-aggregate-noted-3 c =
     from-long (c .before .before .before .before .before .before .before .before .before .before .before .before .before
-        .loop .inv)
+    .loop .inv)
 
 noted-requires-3 : tie.Need-noted-requires-3 Inv-loop μ-loop
 noted-requires-3 c κs = let u = c .before .before .before .before .before .before .before .before .before .before in
     from-room (u .before .before .before .loop .inv) (u .before .before .loop-test .taken) (u .before .span .ensures .0)
-        (u .u16-at .ensures .0)
+    (u .u16-at .ensures .0)
 
 slice-aggregate-named : tie.Need-slice-aggregate-named Inv-loop μ-loop
 slice-aggregate-named c =
     goes-long (c .before .before .before .before .before .before .before .before .before .before .before .before .before
-        .before .before .before .loop .inv)
+    .before .before .before .loop .inv)
 
 named-requires : tie.Need-named-requires Inv-loop μ-loop
 named-requires c κs =
-    let u = c .before .before .before .before .before .before .before .before .before .before .before .before .before in
-    (judged-here (u .before .before .loop-test .taken) (u .before .before .before .loop .inv .on)
-        (u .before .span .ensures .0) (u .u16-at .ensures .0),
-    goes-room (u .before .before .before .loop .inv) (u .before .before .loop-test .taken) (u .before .span .ensures .0)
-        (u .u16-at .ensures .0))
+    let u = c .before .before .before .before .before .before .before .before .before .before .before .before .before in (
+      judged-here (u .before .before .loop-test .taken) (u .before .before .before .loop .inv .on)
+          (u .before .span .ensures .0) (u .u16-at .ensures .0),
+      goes-room (u .before .before .before .loop .inv) (u .before .before .loop-test .taken) (u .before .span .ensures .0)
+          (u .u16-at .ensures .0),
+    )
 
 sub-rest : tie.Need-sub-rest Inv-loop μ-loop
 sub-rest c =
     let u = c .before .before .before .before .before .before .before .before .before .before .before .before .before
-        .before .before in
+    .before .before in
     span-fits (u .before .before .loop-test .taken) (u .before .before .before .loop .inv .on)
-        (u .before .span .ensures .0) .1
+    (u .before .span .ensures .0) .1
 
 part-rest-start : tie.Need-part-rest-start Inv-loop μ-loop
 part-rest-start c =
     let u = c .before .before .before .before .before .before .before .before .before .before .before .before .before
-        .before .before in
+    .before .before in
     span-fits (u .before .before .loop-test .taken) (u .before .before .before .loop .inv .on)
-        (u .before .span .ensures .0) .1
+    (u .before .span .ensures .0) .1
 
 part-rest-end : tie.Need-part-rest-end Inv-loop μ-loop
 part-rest-end c = search needs
@@ -117,9 +121,12 @@ part-rest-end c = search needs
 loop-less : tie.Need-loop-less Inv-loop μ-loop
 loop-less c =
     let u = c .before .before .before .before .before .before .before .before .before .before .before .before .before
-        .before .before .before in
-    omega (arith, shorter (u .before .before .loop-test .taken) (u .before .before .before .loop .inv .on)
-        (u .before .span .ensures .0))
+    .before .before .before in
+    omega (
+      arith,
+      shorter (u .before .before .loop-test .taken) (u .before .before .before .loop .inv .on)
+          (u .before .span .ensures .0),
+    )
 
 loop-again : tie.Need-loop-again Inv-loop μ-loop
 loop-again c = let g = c .before .before in
@@ -127,10 +134,16 @@ loop-again c = let g = c .before .before in
     let t = f .before .before .before in
     let o = t .before .before .before .before in
     let u = o .before .before .before .before in
-    rw (o .noted .ensures .after-is, t .noted2 .ensures .after-is, f .noted3 .ensures .next-is, f .noted3 .ensures .after-is,
-    g .named .ensures .next-is, g .named .ensures .after-is)
+    rw (
+      o .noted .ensures .after-is,
+      t .noted2 .ensures .after-is,
+      f .noted3 .ensures .next-is,
+      f .noted3 .ensures .after-is,
+      g .named .ensures .next-is,
+      g .named .ensures .after-is,
+    )
     (graph-turn (u .before .before .before .loop .inv) (u .before .before .loop-test .taken)
-        (u .before .span .ensures .0) (u .u16-at .ensures .0)
+    (u .before .span .ensures .0) (u .u16-at .ensures .0)
     (o .before .before .own-weight .ensures) (t .before .before .times-of .ensures))
 
 cast-from : tie.Need-cast-from Inv-loop μ-loop

@@ -36,22 +36,22 @@ cast-at c = omega (arith, c .before .before .before .before .before .pre .short)
 sub-class-body : tie.Need-sub-class-body Inv-loop μ-loop
 sub-class-body c =
     span-fits (c .before .before .loop-test .taken) (c .before .before .before .loop .inv .on)
-        (c .before .span .ensures .0) .0
+    (c .before .span .ensures .0) .0
 
 part-class-body-start : tie.Need-part-class-body-start Inv-loop μ-loop
 part-class-body-start c =
     span-fits (c .before .before .loop-test .taken) (c .before .before .before .loop .inv .on)
-        (c .before .span .ensures .0) .0
+    (c .before .span .ensures .0) .0
 
 part-class-body-end : tie.Need-part-class-body-end Inv-loop μ-loop
 part-class-body-end c =
     span-fits (c .before .before .loop-test .taken) (c .before .before .before .loop .inv .on)
-        (c .before .span .ensures .0) .1
+    (c .before .span .ensures .0) .1
 
 class-body-requires : tie.Need-class-body-requires Inv-loop μ-loop
 class-body-requires c κs = let u = c .before in
     class-head (judged-here (u .before .before .loop-test .taken) (u .before .before .before .loop .inv .on)
-        (u .before .span .ensures .0) (u .u16-at .ensures .0))
+    (u .before .span .ensures .0) (u .u16-at .ensures .0))
 
 cast-noted : tie.Need-cast-noted Inv-loop μ-loop
 cast-noted c = omega (arith, actions-few (c .before .before .before .before .before .loop .inv))
@@ -62,7 +62,7 @@ slice-aggregate-noted c = first-long (c .before .before .before .before .before 
 noted-requires : tie.Need-noted-requires Inv-loop μ-loop
 noted-requires c κs = let u = c .before .before .before in
     first-room (u .before .before .before .loop .inv) (u .before .before .loop-test .taken)
-        (u .before .span .ensures .0) (u .u16-at .ensures .0)
+    (u .before .span .ensures .0) (u .u16-at .ensures .0)
 
 slice-aggregate-noted-2 : tie.Need-slice-aggregate-noted-2 Inv-loop μ-loop
 slice-aggregate-noted-2 c = body-long (c .before .before .before .before .before .before .before .before .before .loop .inv)
@@ -71,7 +71,7 @@ noted-requires-2 : tie.Need-noted-requires-2 Inv-loop μ-loop
 noted-requires-2 c κs = let b = c .before .before .before .before in
     let u = b .before .before in
     body-room (u .before .before .before .loop .inv) (u .before .before .loop-test .taken) (u .before .span .ensures .0)
-        (u .u16-at .ensures .0) (b .class-body .ensures)
+    (u .u16-at .ensures .0) (b .class-body .ensures)
 
 slice-aggregate-noted-3 : tie.Need-slice-aggregate-noted-3 Inv-loop μ-loop
 slice-aggregate-noted-3 c =
@@ -80,25 +80,28 @@ slice-aggregate-noted-3 c =
 noted-requires-3 : tie.Need-noted-requires-3 Inv-loop μ-loop
 noted-requires-3 c κs = let u = c .before .before .before .before .before .before .before .before .before in
     place-room (u .before .before .before .loop .inv) (u .before .before .loop-test .taken)
-        (u .before .span .ensures .0) (u .u16-at .ensures .0)
+    (u .before .span .ensures .0) (u .u16-at .ensures .0)
 
 sub-rest : tie.Need-sub-rest Inv-loop μ-loop
 sub-rest c = let u = c .before .before .before .before .before .before .before .before .before .before .before in
     span-fits (u .before .before .loop-test .taken) (u .before .before .before .loop .inv .on)
-        (u .before .span .ensures .0) .1
+    (u .before .span .ensures .0) .1
 
 part-rest-start : tie.Need-part-rest-start Inv-loop μ-loop
 part-rest-start c = let u = c .before .before .before .before .before .before .before .before .before .before .before in
     span-fits (u .before .before .loop-test .taken) (u .before .before .before .loop .inv .on)
-        (u .before .span .ensures .0) .1
+    (u .before .span .ensures .0) .1
 
 part-rest-end : tie.Need-part-rest-end Inv-loop μ-loop
 part-rest-end c = search needs
 
 loop-less : tie.Need-loop-less Inv-loop μ-loop
 loop-less c = let u = c .before .before .before .before .before .before .before .before .before .before .before .before in
-    omega (arith, shorter (u .before .before .loop-test .taken) (u .before .before .before .loop .inv .on)
-        (u .before .span .ensures .0))
+    omega (
+      arith,
+      shorter (u .before .before .loop-test .taken) (u .before .before .before .loop .inv .on)
+          (u .before .span .ensures .0),
+    )
 
 loop-again : tie.Need-loop-again Inv-loop μ-loop
 loop-again c = let p = c .before .before in
@@ -106,10 +109,16 @@ loop-again c = let p = c .before .before in
     let f = y .before .before .before in
     let b = f .before .before in
     let u = b .before .before in
-    rw (f .noted .ensures .next-is, f .noted .ensures .after-is, y .noted2 .ensures .next-is, y .noted2 .ensures .after-is,
-    p .noted3 .ensures .next-is, p .noted3 .ensures .after-is)
+    rw (
+      f .noted .ensures .next-is,
+      f .noted .ensures .after-is,
+      y .noted2 .ensures .next-is,
+      y .noted2 .ensures .after-is,
+      p .noted3 .ensures .next-is,
+      p .noted3 .ensures .after-is,
+    )
     (index-turn (u .before .before .before .loop .inv) (u .before .before .loop-test .taken)
-        (u .before .span .ensures .0) (u .u16-at .ensures .0) (b .class-body .ensures))
+    (u .before .span .ensures .0) (u .u16-at .ensures .0) (b .class-body .ensures))
 
 cast-first : tie.Need-cast-first Inv-loop μ-loop
 cast-first c = omega (arith, actions-few (c .before .loop .inv))

@@ -48,14 +48,18 @@ part-may-loop-end c =
 may-loop-requires : tie.Need-may-loop-requires Inv-loop μ-loop
 may-loop-requires c κs = let u = c .before in
     let g = judged-here (u .before .before .loop-test .taken) (u .before .before .before .loop .inv .0)
-        (u .before .span .ensures .0) (u .u16-at .ensures .0) in
+    (u .before .span .ensures .0) (u .u16-at .ensures .0) in
     λ e. omega (arith, start-head g e)
 
 opened-requires : tie.Need-opened-requires Inv-loop μ-loop
 opened-requires c κs =
-    omega (arith, c .before .before .before .before .before .loop .inv .1 .0,
-        c .before .before .before .before .loop-test .taken, c .before .before .before .before .before .before .before
-        .pre .short)
+    omega (
+      arith,
+      c .before .before .before .before .before .loop .inv .1 .0,
+      c .before .before .before .before .loop-test .taken,
+      c .before .before .before .before .before .before .before
+          .pre .short,
+    )
 
 sub-rest : tie.Need-sub-rest Inv-loop μ-loop
 sub-rest c = let u = c .before .before .before in
@@ -70,8 +74,11 @@ part-rest-end c = search needs
 
 loop-less : tie.Need-loop-less Inv-loop μ-loop
 loop-less c = let u = c .before .before .before .before in
-    omega (arith, shorter (u .before .before .loop-test .taken) (u .before .before .before .loop .inv .0)
-        (u .before .span .ensures .0))
+    omega (
+      arith,
+      shorter (u .before .before .loop-test .taken) (u .before .before .before .loop .inv .0)
+          (u .before .span .ensures .0),
+    )
 
 loop-again : tie.Need-loop-again Inv-loop μ-loop
 loop-again c = let u = c .before .before .before .before in
@@ -80,11 +87,14 @@ loop-again c = let u = c .before .before .before .before in
     let z = u .before .span .ensures .0 in
     let k = u .u16-at in
     let o = c .before .opened in
-    let m = c .before .before .may-loop in
-    (on-next t (l .inv .0) z (k .ensures .0),
-    (omega (arith, shorter t (l .inv .0) z, o .ensures, opened-next (l .own) (k .result), l .inv .1 .0),
-    loops-turn _ (l .own) _ (k .result) _ _ _ (here t (l .inv .0) z (k .ensures .0)) (l .found) (m .result) _ (o .result)
-    (m .ensures) (o .ensures) (l .inv .1 .1)))
+    let m = c .before .before .may-loop in (
+      on-next t (l .inv .0) z (k .ensures .0),
+      (
+        omega (arith, shorter t (l .inv .0) z, o .ensures, opened-next (l .own) (k .result), l .inv .1 .0),
+        loops-turn _ (l .own) _ (k .result) _ _ _ (here t (l .inv .0) z (k .ensures .0)) (l .found) (m .result) _ (o .result)
+            (m .ensures) (o .ensures) (l .inv .1 .1),
+      ),
+    )
 
 returns : tie.Need-returns Inv-loop μ-loop
 unfolding loopsIn

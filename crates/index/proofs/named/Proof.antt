@@ -65,7 +65,7 @@ returns-2 : tie.Need-returns-2
 returns-2 c = let o = c .before .before .before .before .before .before .before .before in
     let a = o .args in
     let e = goes-while (a .start) (a .body) (a .kind) (a .bs .now) (c .before .before .before .before .before .match
-        .keys2) in
+    .keys2) in
     rw (e, ← (c .before .before .before .before .pair-at2 .ensures)) (c .before .before .noted2 .ensures)
 
 same-length-3 : tie.Need-same-length-3
@@ -84,7 +84,7 @@ returns-4 : tie.Need-returns-4
 returns-4 c = let o = c .before .before .before .before .before .before .before .before .before in
     let a = o .args in
     let e = goes-start (a .start) (a .body) (a .kind) (a .bs .now) (c .before .before .before .before .before .before
-        .match .keys4) in
+    .match .keys4) in
     let y = c .before .before .before .before in
     let b = y .body-of .ensures ∙ ap (λ x. getD (a .body) x 0) (y .before .pair-at3 .ensures) in
     rw (e, ← b) (c .before .before .noted3 .ensures)

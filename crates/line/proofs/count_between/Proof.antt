@@ -42,12 +42,16 @@ loop-again c = let l = c .before .before .before .loop in
     let o = c .before .before .before .before in
     let q = between (o .args .low) (o .args .high) in
     ⊎-elim
-    (λ w.
-    (omega arith, omega arith,
-      rw (w .1) (found-one _ _ (o .pre) q _ (l .i) (l .found) (omega arith) (w .0 .taken) (l .inv .2))))
-    (λ w.
-    (omega arith, omega arith,
-      rw (w .1) (found-none _ _ (o .pre) q _ (l .i) (l .found) (omega arith) (w .0 .left) (l .inv .2))))
+    (λ w. (
+      omega arith,
+      omega arith,
+      rw (w .1) (found-one _ _ (o .pre) q _ (l .i) (l .found) (omega arith) (w .0 .taken) (l .inv .2)),
+    ))
+    (λ w. (
+      omega arith,
+      omega arith,
+      rw (w .1) (found-none _ _ (o .pre) q _ (l .i) (l .found) (omega arith) (w .0 .left) (l .inv .2)),
+    ))
     (c .if1 .came)
 
 returns : tie.Need-returns Inv-loop μ-loop

@@ -13,19 +13,42 @@ first-pass-requires : tie.Need-first-pass-requires
 first-pass-requires c κs = search needs
 
 returns-2 : tie.Need-returns-2
-returns-2 c = first-says (c .before .before .before .before .before .args .s .now) (omega (arith, c .before .before .before .if1 .left)) (c .before .before .first-pass .result) (c .before .before .first-pass .ensures) (c .if2 .taken)
+returns-2 c = first-says (c .before .before .before .before .before .args .s .now) (omega (
+  arith,
+  c .before .before .before .if1 .left,
+)) (c .before .before .first-pass .result)
+    (c .before .before .first-pass .ensures) (c .if2 .taken)
 
 second-pass-requires : tie.Need-second-pass-requires
-second-pass-requires c κs = reads (c .before .before .before .before .before .before .args .s .now) (omega (arith, c .before .before .before .before .if1 .left)) (c .before .before .before .first-pass .result) (c .before .before .before .first-pass .ensures) (c .before .if2 .left)
+second-pass-requires c κs = reads (c .before .before .before .before .before .before .args .s .now) (omega (
+  arith,
+  c .before .before .before .before .if1 .left,
+)) (c .before .before .before .first-pass .result)
+    (c .before .before .before .first-pass .ensures) (c .before .if2 .left)
 
 returns-3 : tie.Need-returns-3
-returns-3 c = second-says (c .before .before .before .before .before .before .before .before .before .args .s .now) (omega (arith, c .before .before .before .before .before .before .before .if1 .left)) (c .before .before .before .before .before .before .first-pass .result) (c .before .before .before .before .before .before .first-pass .ensures) (c .before .before .before .before .if2 .left) (c .before .before .second-pass .result) (c .before .before .second-pass .ensures) (c .if3 .taken)
+returns-3 c = second-says (c .before .before .before .before .before .before .before .before .before .args .s .now)
+    (omega (arith, c .before .before .before .before .before .before .before .if1 .left))
+    (c .before .before .before .before .before .before .first-pass .result)
+    (c .before .before .before .before .before .before .first-pass .ensures)
+    (c .before .before .before .before .if2 .left) (c .before .before .second-pass .result)
+    (c .before .before .second-pass .ensures) (c .if3 .taken)
 
 third-pass-requires : tie.Need-third-pass-requires
-third-pass-requires c κs = names (c .before .before .before .before .before .before .before .before .before .args .s .now) (omega (arith, c .before .before .before .before .before .before .before .if1 .left)) (c .before .before .before .before .before .before .first-pass .result) (c .before .before .before .before .before .before .first-pass .ensures) (c .before .before .before .before .if2 .left) (c .before .before .second-pass .result) (c .before .before .second-pass .ensures) (c .if3 .left)
+third-pass-requires c κs = names (c .before .before .before .before .before .before .before .before .before .args .s
+    .now) (omega (arith, c .before .before .before .before .before .before .before .if1 .left))
+    (c .before .before .before .before .before .before .first-pass .result)
+    (c .before .before .before .before .before .before .first-pass .ensures)
+    (c .before .before .before .before .if2 .left) (c .before .before .second-pass .result)
+    (c .before .before .second-pass .ensures) (c .if3 .left)
 
 returns-4 : tie.Need-returns-4
-returns-4 c = third-says (c .before .before .before .before .before .before .before .before .before .before .args .s .now) (omega (arith, c .before .before .before .before .before .before .before .before .if1 .left)) (c .before .before .before .before .before .before .before .first-pass .result) (c .before .before .before .before .before .before .before .first-pass .ensures) (c .before .before .before .before .before .if2 .left) (c .before .before .before .second-pass .result) (c .before .before .before .second-pass .ensures) (c .before .if3 .left) (c .third-pass .result) (c .third-pass .ensures)
+returns-4 c = third-says (c .before .before .before .before .before .before .before .before .before .before .args .s
+    .now) (omega (arith, c .before .before .before .before .before .before .before .before .if1 .left))
+    (c .before .before .before .before .before .before .before .first-pass .result)
+    (c .before .before .before .before .before .before .before .first-pass .ensures)
+    (c .before .before .before .before .before .if2 .left) (c .before .before .before .second-pass .result)
+    (c .before .before .before .second-pass .ensures) (c .before .if3 .left) (c .third-pass .result) (c .third-pass .ensures)
 
 pub check-spec : {M : Type 1} → statement M
 check-spec =

@@ -19,7 +19,8 @@ cast-l : tie.Need-cast-l
 cast-l c = search needs
 
 returns-2 : tie.Need-returns-2
-returns-2 c = let h : u16 (c .before .before .before .before .args .bs .now) 0 < 2 = rw (c .before .u16-at .ensures .0) at (c .if2 .taken) in
+returns-2 c = let h : u16 (c .before .before .before .before .args .bs .now) 0 < 2 = rw
+    (c .before .u16-at .ensures .0) at (c .if2 .taken) in
     rw (lt-leb _ _ h)
 
 add-if3 : tie.Need-add-if3

@@ -23,7 +23,9 @@ graph-of-requires : tie.Need-graph-of-requires Inv-loop μ-loop
 graph-of-requires c κs = readable (c .before .before .before .args .s .now) (c .before .before .before .pre)
 
 loop-holds : tie.Need-loop-holds Inv-loop μ-loop
-loop-holds c = begun (c .before .before .before .before .before .before .before .args .s .now) (c .before .before .before .before .before .before .before .pre) _ (c .before .before .before .before .before .index-of .ensures) _ (c .before .before .before .graph-of .ensures)
+loop-holds c = begun (c .before .before .before .before .before .before .before .args .s .now)
+    (c .before .before .before .before .before .before .before .pre) _
+    (c .before .before .before .before .before .index-of .ensures) _ (c .before .before .before .graph-of .ensures)
 
 sub-at : tie.Need-sub-at Inv-loop μ-loop
 sub-at c = c .before .loop .inv .on .short
@@ -36,41 +38,72 @@ u16-at-requires c κs = let q = stands (c .before .loop-test .taken) (c .before 
     omega (arith, q .four, q .fits)
 
 sub-too-deep : tie.Need-sub-too-deep Inv-loop μ-loop
-sub-too-deep c = stands (c .before .before .loop-test .taken) (c .before .before .before .loop .inv .on) (c .before .span .ensures) .four
+sub-too-deep c = stands (c .before .before .loop-test .taken) (c .before .before .before .loop .inv .on)
+    (c .before .span .ensures) .four
 
 part-too-deep-start : tie.Need-part-too-deep-start Inv-loop μ-loop
-part-too-deep-start c = stands (c .before .before .loop-test .taken) (c .before .before .before .loop .inv .on) (c .before .span .ensures) .four
+part-too-deep-start c = stands (c .before .before .loop-test .taken) (c .before .before .before .loop .inv .on)
+    (c .before .span .ensures) .four
 
 part-too-deep-end : tie.Need-part-too-deep-end Inv-loop μ-loop
-part-too-deep-end c = stands (c .before .before .loop-test .taken) (c .before .before .before .loop .inv .on) (c .before .span .ensures) .fits
+part-too-deep-end c = stands (c .before .before .loop-test .taken) (c .before .before .before .loop .inv .on)
+    (c .before .span .ensures) .fits
 
 too-deep-requires : tie.Need-too-deep-requires Inv-loop μ-loop
-too-deep-requires c κs = let w = c .before .before .before .before .before .before .before .before .loop .inv in
-    (w .graph, (class-is (c .before .before .before .before .before .before .before .before .before .before .before .before .before .before .before .before .args .s .now) w (c .before .before .before .before .before .before .before .loop-test .taken) (c .before .before .before .before .before .before .span .ensures) (c .before .before .before .before .before .u16-at .ensures .0), w .known))
+too-deep-requires c κs = let w = c .before .before .before .before .before .before .before .before .loop .inv in (
+  w .graph,
+  (
+    class-is (c .before .before .before .before .before .before .before .before .before .before .before
+        .before .before .before .before .before .args .s .now) w (c .before .before .before .before .before .before
+        .before .loop-test .taken) (c .before .before .before .before .before .before .span .ensures)
+        (c .before .before .before .before .before .u16-at .ensures .0),
+    w .known,
+  ),
+)
 
 returns : tie.Need-returns Inv-loop μ-loop
 returns c = let w = c .before .before .before .before .before .before .before .before .before .before .loop .inv in
-    ap refusalOf (sym (third-refused (c .before .before .before .before .before .before .before .before .before .before .before .before .before .before .before .before .before .before .args .s .now) w (c .before .before .before .before .before .before .before .before .before .loop-test .taken) (c .before .before .before .before .before .before .before .before .span .ensures) (c .before .before .before .before .before .before .before .u16-at .ensures .0) (c .before .too-deep .ensures .1 .1) (c .if1 .taken)))
+    ap refusalOf (sym (third-refused (c .before .before .before .before .before .before .before .before .before .before
+    .before .before .before .before .before .before .before .before .args .s .now) w
+    (c .before .before .before .before .before .before .before .before .before .loop-test .taken)
+    (c .before .before .before .before .before .before .before .before .span .ensures)
+    (c .before .before .before .before .before .before .before .u16-at .ensures .0)
+    (c .before .too-deep .ensures .1 .1) (c .if1 .taken)))
 
 sub-rest : tie.Need-sub-rest Inv-loop μ-loop
-sub-rest c = stands (c .before .before .before .before .before .before .before .before .before .loop-test .taken) (c .before .before .before .before .before .before .before .before .before .before .loop .inv .on) (c .before .before .before .before .before .before .before .before .span .ensures) .fits
+sub-rest c = stands (c .before .before .before .before .before .before .before .before .before .loop-test .taken)
+    (c .before .before .before .before .before .before .before .before .before .before .loop .inv .on)
+    (c .before .before .before .before .before .before .before .before .span .ensures) .fits
 
 part-rest-start : tie.Need-part-rest-start Inv-loop μ-loop
-part-rest-start c = stands (c .before .before .before .before .before .before .before .before .before .loop-test .taken) (c .before .before .before .before .before .before .before .before .before .before .loop .inv .on) (c .before .before .before .before .before .before .before .before .span .ensures) .fits
+part-rest-start c = stands (c .before .before .before .before .before .before .before .before .before .loop-test .taken)
+    (c .before .before .before .before .before .before .before .before .before .before .loop .inv .on)
+    (c .before .before .before .before .before .before .before .before .span .ensures) .fits
 
 part-rest-end : tie.Need-part-rest-end Inv-loop μ-loop
 part-rest-end c = search needs
 
 loop-less : tie.Need-loop-less Inv-loop μ-loop
-loop-less c = omega (arith, less (c .before .before .before .before .before .before .before .before .before .before .loop-test .taken) (c .before .before .before .before .before .before .before .before .before .before .before .loop .inv .on) (c .before .before .before .before .before .before .before .before .before .span .ensures))
+loop-less c = omega (
+  arith,
+  less (c .before .before .before .before .before .before .before .before .before .before
+      .loop-test .taken) (c .before .before .before .before .before .before .before .before .before .before .before .loop
+      .inv .on) (c .before .before .before .before .before .before .before .before .before .span .ensures),
+)
 
 loop-again : tie.Need-loop-again Inv-loop μ-loop
 loop-again c = let w = c .before .before .before .before .before .before .before .before .before .before .before .loop .inv in
     let d = c .before .before .too-deep .ensures in
-    turned (c .before .before .before .before .before .before .before .before .before .before .before .before .before .before .before .before .before .before .before .args .s .now) w (c .before .before .before .before .before .before .before .before .before .before .loop-test .taken) (c .before .before .before .before .before .before .before .before .before .span .ensures) (c .before .before .before .before .before .before .before .before .u16-at .ensures .0) (d .1 .1) (c .before .if1 .left) (d .0)
+    turned (c .before .before .before .before .before .before .before .before .before .before .before .before .before
+    .before .before .before .before .before .before .args .s .now) w
+    (c .before .before .before .before .before .before .before .before .before .before .loop-test .taken)
+    (c .before .before .before .before .before .before .before .before .before .span .ensures)
+    (c .before .before .before .before .before .before .before .before .u16-at .ensures .0) (d .1 .1)
+    (c .before .if1 .left) (d .0)
 
 returns-2 : tie.Need-returns-2 Inv-loop μ-loop
-returns-2 c = ap refusalOf (sym (third-ends (c .before .before .before .before .before .before .before .before .before .args .s .now) (c .before .loop .inv) (omega (arith, c .loop-test .left))))
+returns-2 c = ap refusalOf (sym (third-ends (c .before .before .before .before .before .before .before .before .before
+    .args .s .now) (c .before .loop .inv) (omega (arith, c .loop-test .left))))
 
 pub third-pass-spec : {M : Type 1} → statement M
 third-pass-spec =

@@ -28,7 +28,9 @@ returns : tie.Need-returns
 returns c = rw (c .before .u16-at .ensures .0, c .before .before .u8-at .ensures .0)
 
 returns-2 : tie.Need-returns-2
-returns-2 c = sym (rw (← c .before .before .u8-at .ensures .0, ← c .before .u16-at .ensures .0) (past-counts (c .before .before .before .before .args .t1) (c .before .before .u8-at .result + 1) (c .before .u16-at .result) (c .before .before .before .before .good .0 .1 .0 .1) (c .if1 .left)))
+returns-2 c = sym (rw (← c .before .before .u8-at .ensures .0, ← c .before .u16-at .ensures .0) (past-counts
+    (c .before .before .before .before .args .t1) (c .before .before .u8-at .result + 1) (c .before .u16-at .result)
+    (c .before .before .before .before .good .0 .1 .0 .1) (c .if1 .left)))
 
 pub item-known-spec : {M : Type 1} → statement M
 item-known-spec =

@@ -16,7 +16,9 @@ use Rattle.semantics.specs.Record.{partSize, samePart}
 use Rattle.semantics.specs.Words.{any}
 
 abbrev Inv-loop : tie.InvT-loop
-Inv-loop share x count bs size found₀ rest₀ left₀ found rest left = (size ≡ partSize (partOf share)) × ((size * left ≤ length rest) × ((found || any (samePart (partOf share) x) (parts size left rest)) ≡ any (samePart (partOf share) x) (parts size count bs)))
+Inv-loop share x count bs size found₀ rest₀ left₀ found rest left = (size ≡ partSize (partOf share)) ×
+    ((size * left ≤ length rest) × ((found || any (samePart (partOf share) x) (parts size left rest)) ≡ any (samePart
+    (partOf share) x) (parts size count bs)))
 
 abbrev μ-loop : tie.MeasureT-loop
 μ-loop share x count bs size found₀ rest₀ left₀ found rest left = left
@@ -36,10 +38,12 @@ same-part-requires c κs = let l = c .before .before .loop in
     rw (length-take-le _ _ (fits-more _ (l .left) _ (c .before .loop-test .taken) (l .inv .1 .0))) (omega (arith, l .inv .0))
 
 sub-rest : tie.Need-sub-rest Inv-loop μ-loop
-sub-rest c = let l = c .before .before .before .loop in fits-more _ (l .left) _ (c .before .before .loop-test .taken) (l .inv .1 .0)
+sub-rest c = let l = c .before .before .before .loop in fits-more _ (l .left) _ (c .before .before .loop-test .taken)
+    (l .inv .1 .0)
 
 part-rest-start : tie.Need-part-rest-start Inv-loop μ-loop
-part-rest-start c = let l = c .before .before .before .loop in fits-more _ (l .left) _ (c .before .before .loop-test .taken) (l .inv .1 .0)
+part-rest-start c = let l = c .before .before .before .loop in fits-more _ (l .left) _
+    (c .before .before .loop-test .taken) (l .inv .1 .0)
 
 part-rest-end : tie.Need-part-rest-end Inv-loop μ-loop
 part-rest-end c = search needs
@@ -55,8 +59,14 @@ loop-again c = let l = c .before .before .before .before .loop in
     let t = c .before .before .before .loop-test .taken in
     let o = c .before .before .before .before .before .before .before .before in
     let z = c .before .before .before .before .before .part-size .result in
-    let p = c .before .same-part in
-    (l .inv .0, (fits-turn z (l .left) (l .rest .now) t (l .inv .1 .0), any-turn z (l .left) (l .rest .now) t (samePart (partOf (o .args .share)) (o .args .x .now)) (l .found) (p .result) _ (p .ensures) (l .inv .1 .1)))
+    let p = c .before .same-part in (
+      l .inv .0,
+      (
+        fits-turn z (l .left) (l .rest .now) t (l .inv .1 .0),
+        any-turn z (l .left) (l .rest .now) t (samePart
+            (partOf (o .args .share)) (o .args .x .now)) (l .found) (p .result) _ (p .ensures) (l .inv .1 .1),
+      ),
+    )
 
 returns : tie.Need-returns Inv-loop μ-loop
 returns c = let l = c .before .loop in

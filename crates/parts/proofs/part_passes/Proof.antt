@@ -40,7 +40,8 @@ returns-5 c = rw (c .before .match .keys5) (c .share-known .ensures)
 
 returns-6 : tie.Need-returns-6
 returns-6 c = let r = c .before .match .rest in
-    rw (last-test (c .before .before .before .args .test) (r .0 .0 .0 .0 .1) (r .0 .0 .0 .1) (r .0 .0 .1) (r .0 .1) (r .1)) (c .node-known .ensures)
+    rw (last-test (c .before .before .before .args .test) (r .0 .0 .0 .0 .1) (r .0 .0 .0 .1) (r .0 .0 .1) (r .0 .1)
+    (r .1)) (c .node-known .ensures)
 
 pub part-passes-spec : {M : Type 1} → statement M
 part-passes-spec =

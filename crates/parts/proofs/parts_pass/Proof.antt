@@ -1,4 +1,5 @@
--- `parts::parts_pass` meets its contract. The loop's invariant: what is found so far and what the rest passes is the whole answer.
+-- `parts::parts_pass` meets its contract. The loop's invariant: what is found so far and what the rest passes is the whole
+-- answer.
 -- Assumes nothing.
 use Prim.Native.Nat.{_≤_, _*_}
 use borrow.Author.Needs.{needs}
@@ -15,7 +16,8 @@ use Rattle.semantics.specs.Bytes.{parts}
 use Rattle.semantics.specs.Words.{all}
 
 abbrev Inv-loop : tie.InvT-loop
-Inv-loop test n count bs size ok₀ rest₀ left₀ ok rest left = (size ≡ sizeOf test) × ((size * left ≤ length rest) × ((ok && all (passes test n) (parts size left rest)) ≡ all (passes test n) (parts size count bs)))
+Inv-loop test n count bs size ok₀ rest₀ left₀ ok rest left = (size ≡ sizeOf test) × ((size * left ≤ length rest) ×
+    ((ok && all (passes test n) (parts size left rest)) ≡ all (passes test n) (parts size count bs)))
 
 abbrev μ-loop : tie.MeasureT-loop
 μ-loop test n count bs size ok₀ rest₀ left₀ ok rest left = left
@@ -35,10 +37,12 @@ part-passes-requires c κs = let l = c .before .before .loop in
     rw (length-take-le _ _ (fits-more _ (l .left) _ (c .before .loop-test .taken) (l .inv .1 .0))) (omega (arith, l .inv .0))
 
 sub-rest : tie.Need-sub-rest Inv-loop μ-loop
-sub-rest c = let l = c .before .before .before .loop in fits-more _ (l .left) _ (c .before .before .loop-test .taken) (l .inv .1 .0)
+sub-rest c = let l = c .before .before .before .loop in fits-more _ (l .left) _ (c .before .before .loop-test .taken)
+    (l .inv .1 .0)
 
 part-rest-start : tie.Need-part-rest-start Inv-loop μ-loop
-part-rest-start c = let l = c .before .before .before .loop in fits-more _ (l .left) _ (c .before .before .loop-test .taken) (l .inv .1 .0)
+part-rest-start c = let l = c .before .before .before .loop in fits-more _ (l .left) _
+    (c .before .before .loop-test .taken) (l .inv .1 .0)
 
 part-rest-end : tie.Need-part-rest-end Inv-loop μ-loop
 part-rest-end c = search needs
@@ -54,8 +58,14 @@ loop-again c = let l = c .before .before .before .before .loop in
     let t = c .before .before .before .loop-test .taken in
     let o = c .before .before .before .before .before .before .before in
     let z = c .before .before .before .before .before .size-of .result in
-    let p = c .before .part-passes in
-    (l .inv .0, (fits-turn z (l .left) (l .rest .now) t (l .inv .1 .0), all-turn z (l .left) (l .rest .now) t (passes (o .args .test) (o .args .n)) (l .ok) (p .result) _ (p .ensures) (l .inv .1 .1)))
+    let p = c .before .part-passes in (
+      l .inv .0,
+      (
+        fits-turn z (l .left) (l .rest .now) t (l .inv .1 .0),
+        all-turn z (l .left) (l .rest .now) t (passes
+            (o .args .test) (o .args .n)) (l .ok) (p .result) _ (p .ensures) (l .inv .1 .1),
+      ),
+    )
 
 returns : tie.Need-returns Inv-loop μ-loop
 returns c = let l = c .before .loop in

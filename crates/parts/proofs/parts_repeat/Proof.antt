@@ -15,7 +15,9 @@ use Rattle.semantics.specs.Bytes.{parts}
 use Rattle.semantics.specs.Record.{partSize, samePart, repeats}
 
 abbrev Inv-loop : tie.InvT-loop
-Inv-loop share count bs size found₀ rest₀ left₀ found rest left = (size ≡ partSize (partOf share)) × ((size * left ≤ length rest) × ((found || repeats (samePart (partOf share)) (parts size left rest)) ≡ repeats (samePart (partOf share)) (parts size count bs)))
+Inv-loop share count bs size found₀ rest₀ left₀ found rest left = (size ≡ partSize (partOf share)) ×
+    ((size * left ≤ length rest) × ((found || repeats (samePart (partOf share)) (parts size left rest)) ≡ repeats
+    (samePart (partOf share)) (parts size count bs)))
 
 abbrev μ-loop : tie.MeasureT-loop
 μ-loop share count bs size found₀ rest₀ left₀ found rest left = left
@@ -46,7 +48,10 @@ named-again-requires : tie.Need-named-again-requires Inv-loop μ-loop
 named-again-requires c κs = let l = c .before .before .before .loop in
     let t = c .before .before .loop-test .taken in
     let z = c .before .before .before .before .part-size .result in
-    rw (← l .inv .0) (rw (length-take-le z (l .rest .now) (fits-more _ (l .left) _ t (l .inv .1 .0))) (omega arith), fits-turn z (l .left) (l .rest .now) t (l .inv .1 .0))
+    rw (← l .inv .0) (
+      rw (length-take-le z (l .rest .now) (fits-more _ (l .left) _ t (l .inv .1 .0))) (omega arith),
+      fits-turn z (l .left) (l .rest .now) t (l .inv .1 .0),
+    )
 
 loop-less : tie.Need-loop-less Inv-loop μ-loop
 loop-less c = omega (arith, c .before .before .before .loop-test .taken)
@@ -56,12 +61,19 @@ loop-again c = let l = c .before .before .before .before .loop in
     let t = c .before .before .before .loop-test .taken in
     let o = c .before .before .before .before .before .before .before in
     let z = c .before .before .before .before .before .part-size .result in
-    let p = c .named-again in
-    (l .inv .0, (fits-turn z (l .left) (l .rest .now) t (l .inv .1 .0), repeats-turn z (l .left) (l .rest .now) t (samePart (partOf (o .args .share))) (l .found) (p .result) _ (rw (← l .inv .0) at (p .ensures)) (l .inv .1 .1)))
+    let p = c .named-again in (
+      l .inv .0,
+      (
+        fits-turn z (l .left) (l .rest .now) t (l .inv .1 .0),
+        repeats-turn z (l .left) (l .rest .now) t
+            (samePart (partOf (o .args .share))) (l .found) (p .result) _ (rw (← l .inv .0) at (p .ensures)) (l .inv .1 .1),
+      ),
+    )
 
 returns : tie.Need-returns Inv-loop μ-loop
 returns c = let l = c .before .loop in
-    rw (← l .inv .0) (repeats-end _ (l .left) (l .rest .now) (omega (arith, c .loop-test .left)) _ (l .found) _ (l .inv .1 .1))
+    rw (← l .inv .0) (repeats-end _ (l .left) (l .rest .now) (omega (arith, c .loop-test .left)) _ (l .found) _
+    (l .inv .1 .1))
 
 pub parts-repeat-spec : {M : Type 1} → statement M
 parts-repeat-spec =

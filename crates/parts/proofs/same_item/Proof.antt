@@ -16,7 +16,12 @@ u16-at-requires-2 : tie.Need-u16-at-requires-2
 u16-at-requires-2 c κs = search needs
 
 returns : tie.Need-returns
-returns c = rw (c .before .before .before .u8-at .ensures .0, c .before .before .u8-at2 .ensures .0, c .before .u16-at .ensures .0, c .u16-at2 .ensures .0)
+returns c = rw (
+  c .before .before .before .u8-at .ensures .0,
+  c .before .before .u8-at2 .ensures .0,
+  c .before .u16-at .ensures .0,
+  c .u16-at2 .ensures .0,
+)
 
 pub same-item-spec : {M : Type 1} → statement M
 same-item-spec =

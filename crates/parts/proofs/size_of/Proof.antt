@@ -13,7 +13,10 @@ returns-2 : tie.Need-returns-2
 returns-2 c = search needs
 
 returns-3 : tie.Need-returns-3
-returns-3 c = let e = six-bytes (c .before .args .test) (c .match .rest .0 .1) (c .match .rest .1) in (sym e, (omega arith, omega arith))
+returns-3 c = let e = six-bytes (c .before .args .test) (c .match .rest .0 .1) (c .match .rest .1) in (
+  sym e,
+  (omega arith, omega arith),
+)
 
 pub size-of-spec : {M : Type 1} → statement M
 size-of-spec = tie.close (tie.spec returns returns-2 returns-3)

@@ -16,8 +16,10 @@ cast-result : tie.Need-cast-result
 cast-result c = omega (arith, trailing-le 64 (18446744073709551615 - c .args .living))
 
 returns : tie.Need-returns
-returns c = (λ ps h. ap (λ n. trailingZeros 64 (18446744073709551615 - n)) (h .digits) ∙ rw (h .places) at (first-free ps),
-    trailing-le 64 (18446744073709551615 - c .args .living))
+returns c = (
+  λ ps h. ap (λ n. trailingZeros 64 (18446744073709551615 - n)) (h .digits) ∙ rw (h .places) at (first-free ps),
+  trailing-le 64 (18446744073709551615 - c .args .living),
+)
 
 pub free-place-spec : {M : Type 1} → statement M
 free-place-spec = tie.close (tie.spec sub-result cast-result returns)

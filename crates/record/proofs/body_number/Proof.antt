@@ -42,13 +42,17 @@ returns-2 : tie.Need-returns-2
 unfolding columnOf
 returns-2 c = let r = rowOf (c .before .before .before .before .before .before .before .args .kind) in
     let bs = c .before .before .before .before .before .before .before .args .bs .now in
-    let h : r .head ≤ length bs = rw (c .before .before .before .before .before .entry .ensures) at (c .before .before .before .before .if1 .left) in
-    let s : sized (r .tail) (drop (r .head) bs) ≡ false = sym (tail-is sized r bs _ _ (c .before .before .before .before .before .entry .ensures) (c .before .before .before .entry2 .ensures)) ∙ sym (c .before .tail-sized .ensures) ∙ not-true _ (c .if2 .taken) in
+    let h : r .head ≤ length bs = rw (c .before .before .before .before .before .entry .ensures) at
+    (c .before .before .before .before .if1 .left) in
+    let s : sized (r .tail) (drop (r .head) bs) ≡ false = sym (tail-is sized r bs _ _
+    (c .before .before .before .before .before .entry .ensures) (c .before .before .before .entry2 .ensures)) ∙ sym
+    (c .before .tail-sized .ensures) ∙ not-true _ (c .if2 .taken) in
     sym (body-is r bs ∙ rw (le-leb _ _ h, s))
 
 in-set-requires : tie.Need-in-set-requires
 unfolding columnOf
-in-set-requires c κs = rw (c .before .before .before .before .before .entry .ensures) at (c .before .before .before .before .if1 .left)
+in-set-requires c κs = rw (c .before .before .before .before .before .entry .ensures) at
+    (c .before .before .before .before .if1 .left)
 
 tail-valid-requires : tie.Need-tail-valid-requires
 tail-valid-requires c κs = sym (c .before .before .tail-sized .ensures) ∙ not-false _ (c .before .if2 .left)
@@ -60,36 +64,77 @@ returns-3 c = let r = rowOf (c .before .before .before .before .before .before .
     let i = c .before .before .before .before .before .before .before .before .entry .ensures in
     let j = c .before .before .before .before .before .before .entry2 .ensures in
     let h : r .head ≤ length bs = rw i at (c .before .before .before .before .before .before .before .if1 .left) in
-    let s : sized (r .tail) (drop (r .head) bs) ≡ true = sym (tail-is sized r bs _ _ i j) ∙ sym (c .before .before .before .before .tail-sized .ensures) ∙ not-false _ (c .before .before .before .if2 .left) in
+    let s : sized (r .tail) (drop (r .head) bs) ≡ true = sym (tail-is sized r bs _ _ i j) ∙ sym
+    (c .before .before .before .before .tail-sized .ensures) ∙ not-false _ (c .before .before .before .if2 .left) in
     let v = tail-is valid r bs _ _ i j in
-    sym (body-is r bs ∙ rw (le-leb _ _ h, s, ← v, ← c .before .before .in-set .ensures, ← c .before .tail-valid .ensures, not-true (c .before .before .in-set .result && c .before .tail-valid .result) (c .if3 .taken)))
+    sym (body-is r bs ∙ rw (
+      le-leb _ _ h,
+      s,
+      ← v,
+      ← c .before .before .in-set .ensures,
+      ← c .before .tail-valid .ensures,
+      not-true (c .before .before .in-set .result && c .before .tail-valid .result) (c .if3 .taken),
+    ))
 
 tail-twice-requires : tie.Need-tail-twice-requires
-tail-twice-requires c κs = sym (c .before .before .before .before .tail-sized .ensures) ∙ not-false _ (c .before .before .before .if2 .left)
+tail-twice-requires c κs = sym (c .before .before .before .before .tail-sized .ensures) ∙ not-false _
+    (c .before .before .before .if2 .left)
 
 returns-4 : tie.Need-returns-4
 unfolding columnOf
-returns-4 c = let r = rowOf (c .before .before .before .before .before .before .before .before .before .before .before .before .args .kind) in
-    let bs = c .before .before .before .before .before .before .before .before .before .before .before .before .args .bs .now in
+returns-4 c = let r = rowOf (c .before .before .before .before .before .before .before .before .before .before .before
+    .before .args .kind) in
+    let bs = c .before .before .before .before .before .before .before .before .before .before .before .before .args .bs
+    .now in
     let i = c .before .before .before .before .before .before .before .before .before .before .entry .ensures in
     let j = c .before .before .before .before .before .before .before .before .entry2 .ensures in
-    let h : r .head ≤ length bs = rw i at (c .before .before .before .before .before .before .before .before .before .if1 .left) in
-    let s : sized (r .tail) (drop (r .head) bs) ≡ true = sym (tail-is sized r bs _ _ i j) ∙ sym (c .before .before .before .before .before .before .tail-sized .ensures) ∙ not-false _ (c .before .before .before .before .before .if2 .left) in
+    let h : r .head ≤ length bs = rw i at (c .before .before .before .before .before .before .before .before .before .if1
+    .left) in
+    let s : sized (r .tail) (drop (r .head) bs) ≡ true = sym (tail-is sized r bs _ _ i j) ∙ sym
+    (c .before .before .before .before .before .before .tail-sized .ensures) ∙ not-false _
+    (c .before .before .before .before .before .if2 .left) in
     let v = tail-is valid r bs _ _ i j in
     let t = tail-is twice r bs _ _ i j in
-    sym (body-is r bs ∙ rw (le-leb _ _ h, s, ← v, ← t, ← c .before .before .before .before .in-set .ensures, ← c .before .before .before .tail-valid .ensures, not-false (c .before .before .before .before .in-set .result && c .before .before .before .tail-valid .result) (c .before .before .if3 .left), ← c .before .tail-twice .ensures, c .if4 .taken))
+    sym (body-is r bs ∙ rw (
+      le-leb _ _ h,
+      s,
+      ← v,
+      ← t,
+      ← c .before .before .before .before .in-set .ensures,
+      ← c .before .before .before .tail-valid .ensures,
+      not-false (c .before .before .before .before .in-set .result &&
+          c .before .before .before .tail-valid .result) (c .before .before .if3 .left),
+      ← c .before .tail-twice .ensures,
+      c .if4 .taken,
+    ))
 
 returns-5 : tie.Need-returns-5
 unfolding columnOf
-returns-5 c = let r = rowOf (c .before .before .before .before .before .before .before .before .before .before .before .before .args .kind) in
-    let bs = c .before .before .before .before .before .before .before .before .before .before .before .before .args .bs .now in
+returns-5 c = let r = rowOf (c .before .before .before .before .before .before .before .before .before .before .before
+    .before .args .kind) in
+    let bs = c .before .before .before .before .before .before .before .before .before .before .before .before .args .bs
+    .now in
     let i = c .before .before .before .before .before .before .before .before .before .before .entry .ensures in
     let j = c .before .before .before .before .before .before .before .before .entry2 .ensures in
-    let h : r .head ≤ length bs = rw i at (c .before .before .before .before .before .before .before .before .before .if1 .left) in
-    let s : sized (r .tail) (drop (r .head) bs) ≡ true = sym (tail-is sized r bs _ _ i j) ∙ sym (c .before .before .before .before .before .before .tail-sized .ensures) ∙ not-false _ (c .before .before .before .before .before .if2 .left) in
+    let h : r .head ≤ length bs = rw i at (c .before .before .before .before .before .before .before .before .before .if1
+    .left) in
+    let s : sized (r .tail) (drop (r .head) bs) ≡ true = sym (tail-is sized r bs _ _ i j) ∙ sym
+    (c .before .before .before .before .before .before .tail-sized .ensures) ∙ not-false _
+    (c .before .before .before .before .before .if2 .left) in
     let v = tail-is valid r bs _ _ i j in
     let t = tail-is twice r bs _ _ i j in
-    sym (body-is r bs ∙ rw (le-leb _ _ h, s, ← v, ← t, ← c .before .before .before .before .in-set .ensures, ← c .before .before .before .tail-valid .ensures, not-false (c .before .before .before .before .in-set .result && c .before .before .before .tail-valid .result) (c .before .before .if3 .left), ← c .before .tail-twice .ensures, c .if4 .left))
+    sym (body-is r bs ∙ rw (
+      le-leb _ _ h,
+      s,
+      ← v,
+      ← t,
+      ← c .before .before .before .before .in-set .ensures,
+      ← c .before .before .before .tail-valid .ensures,
+      not-false (c .before .before .before .before .in-set .result &&
+          c .before .before .before .tail-valid .result) (c .before .before .if3 .left),
+      ← c .before .tail-twice .ensures,
+      c .if4 .left,
+    ))
 
 pub body-number-spec : {M : Type 1} → statement M
 body-number-spec =

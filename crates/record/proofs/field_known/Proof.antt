@@ -18,7 +18,8 @@ cast-of c = search needs
 returns : tie.Need-returns
 unfolding columnOf
 returns c = let k = c .before .before .before .args .kind in
-    known-none (c .before .before .before .args .t1) (c .before .before .before .args .bs .now) (rowOf k .naming) (naming-proper k) (sym (c .before .entry .ensures) ∙ c .if1 .taken)
+    known-none (c .before .before .before .args .t1) (c .before .before .before .args .bs .now) (rowOf k .naming)
+    (naming-proper k) (sym (c .before .entry .ensures) ∙ c .if1 .taken)
 
 entry-requires-2 : tie.Need-entry-requires-2
 entry-requires-2 c κs = search needs
@@ -37,7 +38,10 @@ u16-at-requires c κs = let k = c .before .before .before .before .args .kind in
 returns-2 : tie.Need-returns-2
 unfolding columnOf
 returns-2 c = let k = c .before .before .before .before .before .before .args .kind in
-    rw (c .before .u16-at .ensures .0, c .before .before .entry2 .ensures) (known-local (c .before .before .before .before .before .before .args .t1) (c .before .before .before .before .before .before .args .bs .now) (rowOf k .naming) (naming-proper k) (sym (c .before .before .before .before .entry .ensures) ∙ c .if2 .taken))
+    rw (c .before .u16-at .ensures .0, c .before .before .entry2 .ensures) (known-local
+    (c .before .before .before .before .before .before .args .t1) (c .before .before .before .before .before .before
+    .args .bs .now) (rowOf k .naming) (naming-proper k) (sym (c .before .before .before .before .entry .ensures) ∙ c
+    .if2 .taken))
 
 mul-result : tie.Need-mul-result
 mul-result c = search needs
@@ -45,14 +49,18 @@ mul-result c = search needs
 array-read-result : tie.Need-array-read-result
 unfolding columnOf
 array-read-result c = let k = c .before .before .before .before .before .before .args .kind in
-    let g : c .before .before .before .before .entry .result ≡ namingOf (rowOf k .naming) = c .before .before .before .before .entry .ensures in
+    let g : c .before .before .before .before .entry .result ≡ namingOf
+    (rowOf k .naming) = c .before .before .before .before .entry .ensures in
     omega (arith, g, naming-small k, c .if2 .left)
 
 returns-3 : tie.Need-returns-3
 unfolding columnOf
 returns-3 c = let k = c .before .before .before .before .before .before .args .kind in
-    let g : c .before .before .before .before .entry .result ≡ namingOf (rowOf k .naming) = c .before .before .before .before .entry .ensures in
-    rw (c .before .u16-at .ensures .0, c .before .before .entry2 .ensures, g) (known-group (c .before .before .before .before .before .before .args .t1) (c .before .before .before .before .before .before .args .bs .now) (rowOf k .naming) (λ e. c .before .before .before .if1 .left (g ∙ e)) (λ e. c .if2 .left (g ∙ e)))
+    let g : c .before .before .before .before .entry .result ≡ namingOf
+    (rowOf k .naming) = c .before .before .before .before .entry .ensures in
+    rw (c .before .u16-at .ensures .0, c .before .before .entry2 .ensures, g) (known-group
+    (c .before .before .before .before .before .before .args .t1) (c .before .before .before .before .before .before
+    .args .bs .now) (rowOf k .naming) (λ e. c .before .before .before .if1 .left (g ∙ e)) (λ e. c .if2 .left (g ∙ e)))
 
 pub field-known-spec : {M : Type 1} → statement M
 field-known-spec =

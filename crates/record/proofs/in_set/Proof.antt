@@ -27,13 +27,21 @@ entry-requires-4 c κs = search needs
 number-at-requires : tie.Need-number-at-requires
 unfolding columnOf
 number-at-requires c κs = let k = c .before .before .before .before .before .args .kind in
-    let z : c .before .before .before .entry .result ≡ fieldSize (rowOf k .field) = c .before .before .before .entry .ensures in
+    let z : c .before .before .before .entry .result ≡ fieldSize (rowOf k .field) = c .before .before .before .entry
+    .ensures in
     let a : c .before .before .entry2 .result ≡ fieldAt (rowOf k .field) = c .before .before .entry2 .ensures in
     omega (arith, z, a, field-in k, c .before .before .before .before .before .pre)
 
 returns : tie.Need-returns
 unfolding columnOf
-returns c = rw (in-set-is, ← c .before .before .before .before .entry .ensures, ← c .before .before .before .entry2 .ensures, ← c .before .before .entry3 .ensures, ← c .before .entry4 .ensures, ← c .number-at .ensures)
+returns c = rw (
+  in-set-is,
+  ← c .before .before .before .before .entry .ensures,
+  ← c .before .before .before .entry2 .ensures,
+  ← c .before .before .entry3 .ensures,
+  ← c .before .entry4 .ensures,
+  ← c .number-at .ensures,
+)
 
 pub in-set-spec : {M : Type 1} → statement M
 in-set-spec =

@@ -39,13 +39,22 @@ part-tail-known-end c = search needs
 tail-known-requires : tie.Need-tail-known-requires
 unfolding columnOf
 tail-known-requires c κs = let r = rowOf (c .before .before .before .before .before .args .kind) in
-    tail-is sized r (c .before .before .before .before .before .args .bs .now) _ _ (c .before .before .before .entry .ensures) (c .before .before .entry2 .ensures) ∙ c .before .before .before .before .before .pre .tail-sized
+    tail-is sized r (c .before .before .before .before .before .args .bs .now) _ _
+    (c .before .before .before .entry .ensures) (c .before .before .entry2 .ensures) ∙ c .before .before .before
+    .before .before .pre .tail-sized
 
 returns : tie.Need-returns
 unfolding columnOf
 returns c = let o = c .before .before .before .before .before .before .before .args in
-    let t = tail-is (tailKnown (o .n)) (rowOf (o .kind)) (o .bs .now) _ _ (c .before .before .before .before .before .entry .ensures) (c .before .before .before .before .entry2 .ensures) in
-    sym (named-is (o .n) (o .own) (o .kind) (o .bs .now) ∙ rw (← t, ← c .before .before .before .field-known .ensures, ← c .before .tail-known .ensures, not-true (c .before .before .before .field-known .result && c .before .tail-known .result) (c .if1 .taken)))
+    let t = tail-is (tailKnown (o .n)) (rowOf (o .kind)) (o .bs .now) _ _
+    (c .before .before .before .before .before .entry .ensures) (c .before .before .before .before .entry2 .ensures) in
+    sym (named-is (o .n) (o .own) (o .kind) (o .bs .now) ∙ rw (
+      ← t,
+      ← c .before .before .before .field-known .ensures,
+      ← c .before .tail-known .ensures,
+      not-true (c .before .before .before .field-known .result && c .before
+          .tail-known .result) (c .if1 .taken),
+    ))
 
 later-requires : tie.Need-later-requires
 later-requires c κs = c .before .before .before .before .before .before .before .pre
@@ -53,14 +62,38 @@ later-requires c κs = c .before .before .before .before .before .before .before
 returns-2 : tie.Need-returns-2
 unfolding columnOf
 returns-2 c = let o = c .before .before .before .before .before .before .before .before .before .args in
-    let t = tail-is (tailKnown (o .n)) (rowOf (o .kind)) (o .bs .now) _ _ (c .before .before .before .before .before .before .before .entry .ensures) (c .before .before .before .before .before .before .entry2 .ensures) in
-    sym (named-is (o .n) (o .own) (o .kind) (o .bs .now) ∙ rw (← t, ← c .before .before .before .before .before .field-known .ensures, ← c .before .before .before .tail-known .ensures, not-false (c .before .before .before .before .before .field-known .result && c .before .before .before .tail-known .result) (c .before .before .if1 .left), ← c .before .later .ensures, not-true (c .before .later .result) (c .if2 .taken)))
+    let t = tail-is (tailKnown (o .n)) (rowOf (o .kind)) (o .bs .now) _ _
+    (c .before .before .before .before .before .before .before .entry .ensures)
+    (c .before .before .before .before .before .before .entry2 .ensures) in
+    sym (named-is (o .n) (o .own) (o .kind) (o .bs .now) ∙ rw (
+      ← t,
+      ← c .before .before .before .before .before
+          .field-known .ensures,
+      ← c .before .before .before .tail-known .ensures,
+      not-false
+          (c .before .before .before .before .before .field-known .result && c .before .before .before .tail-known .result)
+          (c .before .before .if1 .left),
+      ← c .before .later .ensures,
+      not-true (c .before .later .result) (c .if2 .taken),
+    ))
 
 returns-3 : tie.Need-returns-3
 unfolding columnOf
 returns-3 c = let o = c .before .before .before .before .before .before .before .before .before .args in
-    let t = tail-is (tailKnown (o .n)) (rowOf (o .kind)) (o .bs .now) _ _ (c .before .before .before .before .before .before .before .entry .ensures) (c .before .before .before .before .before .before .entry2 .ensures) in
-    sym (named-is (o .n) (o .own) (o .kind) (o .bs .now) ∙ rw (← t, ← c .before .before .before .before .before .field-known .ensures, ← c .before .before .before .tail-known .ensures, not-false (c .before .before .before .before .before .field-known .result && c .before .before .before .tail-known .result) (c .before .before .if1 .left), ← c .before .later .ensures, not-false (c .before .later .result) (c .if2 .left)))
+    let t = tail-is (tailKnown (o .n)) (rowOf (o .kind)) (o .bs .now) _ _
+    (c .before .before .before .before .before .before .before .entry .ensures)
+    (c .before .before .before .before .before .before .entry2 .ensures) in
+    sym (named-is (o .n) (o .own) (o .kind) (o .bs .now) ∙ rw (
+      ← t,
+      ← c .before .before .before .before .before
+          .field-known .ensures,
+      ← c .before .before .before .tail-known .ensures,
+      not-false
+          (c .before .before .before .before .before .field-known .result && c .before .before .before .tail-known .result)
+          (c .before .before .if1 .left),
+      ← c .before .later .ensures,
+      not-false (c .before .later .result) (c .if2 .left),
+    ))
 
 pub name-spec : {M : Type 1} → statement M
 name-spec =

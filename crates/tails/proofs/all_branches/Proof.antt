@@ -26,7 +26,11 @@ branches-pass-requires c κs = let bs = c .before .before .before .args .bs .now
     rw (rest-of 2 bs, c .before .u16-at .ensures .0) (and-right (leb 2 (length bs)) _ (c .before .before .before .pre))
 
 returns : tie.Need-returns
-returns c = rw (c .branches-pass .ensures, rest-of 2 (c .before .before .before .before .args .bs .now), c .before .before .u16-at .ensures .0)
+returns c = rw (
+  c .branches-pass .ensures,
+  rest-of 2 (c .before .before .before .before .args .bs .now),
+  c .before .before .u16-at .ensures .0,
+)
 
 pub all-branches-spec : {M : Type 1} → statement M
 all-branches-spec =

@@ -36,15 +36,31 @@ list-known-requires c κs = let o = c .before .before .before .before in claim-f
 
 returns : tie.Need-returns
 unfolding branchPasses
-returns c = rw (c .before .match .keys1, c .list-valid .ensures, rest-of 2 (c .before .before .before .before .before .args .b .now))
+returns c = rw (
+  c .before .match .keys1,
+  c .list-valid .ensures,
+  rest-of 2
+      (c .before .before .before .before .before .args .b .now),
+)
 
 returns-2 : tie.Need-returns-2
 unfolding branchPasses
-returns-2 c = rw (c .before .match .keys2, c .list-twice .ensures, rest-of 2 (c .before .before .before .before .before .args .b .now))
+returns-2 c = rw (
+  c .before .match .keys2,
+  c .list-twice .ensures,
+  rest-of 2
+      (c .before .before .before .before .before .args .b .now),
+)
 
 returns-3 : tie.Need-returns-3
 unfolding branchPasses
-returns-3 c = rw (c .before .match .keys3, c .list-known .ensures, rest-of 2 (c .before .before .before .before .before .args .b .now), c .before .before .u16-at .ensures .0)
+returns-3 c = rw (
+  c .before .match .keys3,
+  c .list-known .ensures,
+  rest-of 2
+      (c .before .before .before .before .before .args .b .now),
+  c .before .before .u16-at .ensures .0,
+)
 
 returns-4 : tie.Need-returns-4
 returns-4 c = let o = c .before .before .before .before in

@@ -31,7 +31,8 @@ branch-size-requires c κs = c .if1 .left
 returns-2 : tie.Need-returns-2 Inv-loop μ-loop
 returns-2 c = let l = c .before .before .before .before .loop in
     let z : length (l .rest .now) < branchSize (l .rest .now) = rw (c .before .branch-size .ensures .0) at (c .if2 .taken) in
-    sym (rw (le-leb _ _ (c .before .before .if1 .left), lt-leb _ _ z) at (fit-cons (l .left) (l .rest .now) (c .before .before .before .loop-test .taken))) ∙ l .inv
+    sym (rw (le-leb _ _ (c .before .before .if1 .left), lt-leb _ _ z) at (fit-cons (l .left) (l .rest .now)
+    (c .before .before .before .loop-test .taken))) ∙ l .inv
 
 sub-rest : tie.Need-sub-rest Inv-loop μ-loop
 sub-rest c = c .if2 .left
@@ -52,7 +53,10 @@ loop-again : tie.Need-loop-again Inv-loop μ-loop
 loop-again c = let l = c .before .before .before .before .before .loop in
     let s = c .before .before .branch-size in
     let z : branchSize (l .rest .now) ≤ length (l .rest .now) = rw (s .ensures .0) at (c .before .if2 .left) in
-    rw (rest-of (s .result) (l .rest .now), s .ensures .0) (sym (rw (le-leb _ _ (c .before .before .before .if1 .left), le-leb _ _ z) at (fit-cons (l .left) (l .rest .now) (c .before .before .before .before .loop-test .taken))) ∙ l .inv)
+    rw (rest-of (s .result) (l .rest .now), s .ensures .0) (sym (rw (
+      le-leb _ _ (c .before .before .before .if1 .left),
+      le-leb _ _ z,
+    ) at (fit-cons (l .left) (l .rest .now) (c .before .before .before .before .loop-test .taken))) ∙ l .inv)
 
 returns-3 : tie.Need-returns-3 Inv-loop μ-loop
 returns-3 c = let l = c .before .loop in

@@ -1,5 +1,5 @@
--- `tails::branches_pass` meets its contract. The loop's invariant: the rest fits, and what is found so far and what the rest passes is
--- the whole answer. Assumes nothing.
+-- `tails::branches_pass` meets its contract. The loop's invariant: the rest fits, and what is found so far and what the rest
+-- passes is the whole answer. Assumes nothing.
 use borrow.Author.Needs.{needs}
 use lib.Seq.{length-take-le}
 use mathlib.Core.Bool.{true, _&&_}
@@ -13,7 +13,8 @@ use Rattle.tails.proofs.branches_pass.Tie as tie
 use Rattle.tails.specs.Tails.{branchPasses}
 
 abbrev Inv-loop : tie.InvT-loop
-Inv-loop test n own count bs ok₀ rest₀ left₀ ok rest left = (branchesFit left rest ≡ true) × ((ok && all (branchPasses test n own) (branchesFrom left rest)) ≡ all (branchPasses test n own) (branchesFrom count bs))
+Inv-loop test n own count bs ok₀ rest₀ left₀ ok rest left = (branchesFit left rest ≡ true) × ((ok && all
+    (branchPasses test n own) (branchesFrom left rest)) ≡ all (branchPasses test n own) (branchesFrom count bs))
 
 abbrev μ-loop : tie.MeasureT-loop
 μ-loop test n own count bs ok₀ rest₀ left₀ ok rest left = left
@@ -27,21 +28,25 @@ branch-size-requires c κs = let l = c .before .loop in fit-four (l .left) (l .r
 slice-aggregate-branch-passes : tie.Need-slice-aggregate-branch-passes Inv-loop μ-loop
 slice-aggregate-branch-passes c = let l = c .before .before .before .loop in
     let z = c .before .branch-size in
-    sym (length-take-le (z .result) (l .rest .now) (rw (z .ensures .0) (fit-size (l .left) (l .rest .now) (c .before .before .loop-test .taken) (l .inv .0))))
+    sym (length-take-le (z .result) (l .rest .now) (rw (z .ensures .0) (fit-size (l .left) (l .rest .now)
+    (c .before .before .loop-test .taken) (l .inv .0))))
 
 branch-passes-requires : tie.Need-branch-passes-requires Inv-loop μ-loop
 branch-passes-requires c κs = let l = c .before .before .before .loop in
     let t = c .before .before .loop-test .taken in
     let z = c .before .branch-size in
-    branch-fits (l .left) (l .rest .now) t (z .result) (z .ensures .0) (z .ensures .1 .0) (rw (z .ensures .0) (fit-size (l .left) (l .rest .now) t (l .inv .0)))
+    branch-fits (l .left) (l .rest .now) t (z .result) (z .ensures .0) (z .ensures .1 .0) (rw (z .ensures .0) (fit-size
+    (l .left) (l .rest .now) t (l .inv .0)))
 
 sub-rest : tie.Need-sub-rest Inv-loop μ-loop
 sub-rest c = let l = c .before .before .before .before .loop in
-    rw (c .before .before .branch-size .ensures .0) (fit-size (l .left) (l .rest .now) (c .before .before .before .loop-test .taken) (l .inv .0))
+    rw (c .before .before .branch-size .ensures .0) (fit-size (l .left) (l .rest .now)
+    (c .before .before .before .loop-test .taken) (l .inv .0))
 
 part-rest-start : tie.Need-part-rest-start Inv-loop μ-loop
 part-rest-start c = let l = c .before .before .before .before .loop in
-    rw (c .before .before .branch-size .ensures .0) (fit-size (l .left) (l .rest .now) (c .before .before .before .loop-test .taken) (l .inv .0))
+    rw (c .before .before .branch-size .ensures .0) (fit-size (l .left) (l .rest .now)
+    (c .before .before .before .loop-test .taken) (l .inv .0))
 
 part-rest-end : tie.Need-part-rest-end Inv-loop μ-loop
 part-rest-end c = search needs
@@ -56,9 +61,10 @@ loop-again : tie.Need-loop-again Inv-loop μ-loop
 loop-again c = let l = c .before .before .before .before .before .loop in
     let t = c .before .before .before .before .loop-test .taken in
     let z = c .before .before .before .branch-size in
-    let p = c .before .branch-passes in
-    (fit-turn (l .left) (l .rest .now) t (l .inv .0) (z .result) (z .ensures .0),
-    all-branch (l .left) (l .rest .now) t (z .result) (z .ensures .0) _ (l .ok) (p .result) _ (p .ensures) (l .inv .1))
+    let p = c .before .branch-passes in (
+      fit-turn (l .left) (l .rest .now) t (l .inv .0) (z .result) (z .ensures .0),
+      all-branch (l .left) (l .rest .now) t (z .result) (z .ensures .0) _ (l .ok) (p .result) _ (p .ensures) (l .inv .1),
+    )
 
 returns : tie.Need-returns Inv-loop μ-loop
 returns c = let l = c .before .loop in

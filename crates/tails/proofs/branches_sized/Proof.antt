@@ -24,7 +24,13 @@ branches-fit-requires : tie.Need-branches-fit-requires
 branches-fit-requires c κs = search needs
 
 returns-2 : tie.Need-returns-2
-returns-2 c = rw (le-leb _ _ (c .before .before .before .if1 .left), c .branches-fit .ensures, rest-of 2 (c .before .before .before .before .before .args .bs .now), c .before .before .u16-at .ensures .0)
+returns-2 c = rw (
+  le-leb _ _ (c .before .before .before .if1 .left),
+  c .branches-fit .ensures,
+  rest-of 2
+      (c .before .before .before .before .before .args .bs .now),
+  c .before .before .u16-at .ensures .0,
+)
 
 pub branches-sized-spec : {M : Type 1} → statement M
 branches-sized-spec =

@@ -21,7 +21,14 @@ height-requires c κs = search needs
 
 returns-4 : tie.Need-returns-4
 returns-4 c = let bs = c .before .before .before .before .before .args .bs .now in
-    rw (eq-eqb _ _ (c .before .before .before .if1 .left), le-leb _ _ (c .before .before .if2 .left), le-leb _ _ (c .before .if3 .left), tree-height (pile (nodes bs)), ← (c .height .ensures))
+    rw (
+      eq-eqb _ _ (c .before .before .before .if1 .left),
+      le-leb _ _ (c .before .before .if2 .left),
+      le-leb _ _
+          (c .before .if3 .left),
+      tree-height (pile (nodes bs)),
+      ← (c .height .ensures),
+    )
 
 pub expression-sized-spec : {M : Type 1} → statement M
 expression-sized-spec = tie.close (tie.spec returns returns-2 returns-3 height-requires returns-4)

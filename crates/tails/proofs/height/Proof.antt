@@ -42,8 +42,18 @@ loop-less c = omega arith
 loop-again : tie.Need-loop-again Inv-loop μ-loop
 loop-again c = let o = c .before .before .before .before .before .before in
     let l = c .before .before .before .before .loop in
-    let t = c .before .before .before .loop-test .taken in
-    (omega arith, (omega (arith, c .grown .ensures .1), c .grown .ensures .0 ∙ rw (c .before .taken-off .ensures .0, c .before .before .u16-at .ensures .0, l .inv .1 .1) (sym (height-turn (o .args .n) (l .k) (o .args .bs .now) t (l .inv .0)))))
+    let t = c .before .before .before .loop-test .taken in (
+      omega arith,
+      (
+        omega (arith, c .grown .ensures .1),
+        c .grown .ensures .0 ∙ rw (
+          c .before .taken-off .ensures .0,
+          c .before .before .u16-at .ensures .0,
+          l .inv .1 .1,
+        ) (sym (height-turn (o .args .n) (l .k) (o .args .bs .now) t
+            (l .inv .0))),
+      ),
+    )
 
 returns : tie.Need-returns Inv-loop μ-loop
 returns c = let o = c .before .before .before in

@@ -30,7 +30,12 @@ parts-pass-requires c κs = let o = c .before .before .before .before in
 returns : tie.Need-returns
 unfolding listValid
 returns c = let o = c .before .before .before .before .before in
-    rw (c .parts-pass .ensures, rest-of 2 (o .args .bs .now), c .before .before .before .u16-at .ensures .0, c .before .before .if1 .taken)
+    rw (
+      c .parts-pass .ensures,
+      rest-of 2 (o .args .bs .now),
+      c .before .before .before .u16-at .ensures .0,
+      c .before .before .if1 .taken,
+    )
 
 sub-parts-pass-2 : tie.Need-sub-parts-pass-2
 sub-parts-pass-2 c = search needs
@@ -49,7 +54,12 @@ parts-pass-requires-2 c κs = let o = c .before .before .before .before in
 returns-2 : tie.Need-returns-2
 unfolding listValid
 returns-2 c = let o = c .before .before .before .before .before in
-    rw (c .parts-pass2 .ensures, rest-of 2 (o .args .bs .now), c .before .before .before .u16-at .ensures .0, c .before .before .if1 .left)
+    rw (
+      c .parts-pass2 .ensures,
+      rest-of 2 (o .args .bs .now),
+      c .before .before .before .u16-at .ensures .0,
+      c .before .before .if1 .left,
+    )
 
 pub list-valid-spec : {M : Type 1} → statement M
 list-valid-spec =

@@ -13,7 +13,8 @@ use Rattle.tails.specs.Tails.{tailOf, branchPasses}
 
 cast-parts-pass : tie.Need-cast-parts-pass
 unfolding tailOf
-cast-parts-pass c = let h : sized expression (c .before .before .args .bs .now) ≡ true = rw (c .match .keys1) at (c .before .before .pre) in
+cast-parts-pass c = let h : sized expression (c .before .before .args .bs .now) ≡ true = rw (c .match .keys1) at
+    (c .before .before .pre) in
     omega (arith, expression-few (c .before .before .args .bs .now) h)
 
 parts-pass-requires : tie.Need-parts-pass-requires
@@ -25,12 +26,14 @@ all-branches-requires c κs = rw (c .match .keys2) at (c .before .before .pre)
 
 list-known-requires : tie.Need-list-known-requires
 unfolding tailOf
-list-known-requires c κs = let h : listSized item (c .before .before .args .bs .now) ≡ true = rw (c .match .keys3) at (c .before .before .pre) in
+list-known-requires c κs = let h : listSized item (c .before .before .args .bs .now) ≡ true = rw (c .match .keys3) at
+    (c .before .before .pre) in
     list-room (c .before .before .args .bs .now) item h
 
 list-known-requires-2 : tie.Need-list-known-requires-2
 unfolding tailOf
-list-known-requires-2 c κs = let h : listSized share (c .before .before .args .bs .now) ≡ true = rw (c .match .keys4) at (c .before .before .pre) in
+list-known-requires-2 c κs = let h : listSized share (c .before .before .args .bs .now) ≡ true = rw (c .match .keys4) at
+    (c .before .before .pre) in
     list-room (c .before .before .args .bs .now) share h
 
 returns : tie.Need-returns

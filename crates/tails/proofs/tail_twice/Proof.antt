@@ -13,17 +13,20 @@ all-branches-requires c κs = rw (c .match .keys1) at (c .before .before .pre)
 
 list-twice-requires : tie.Need-list-twice-requires
 unfolding tailOf
-list-twice-requires c κs = let h : listSized item (c .before .before .args .bs .now) ≡ true = rw (c .match .keys2) at (c .before .before .pre) in
+list-twice-requires c κs = let h : listSized item (c .before .before .args .bs .now) ≡ true = rw (c .match .keys2) at
+    (c .before .before .pre) in
     list-room (c .before .before .args .bs .now) item h
 
 list-twice-requires-2 : tie.Need-list-twice-requires-2
 unfolding tailOf
-list-twice-requires-2 c κs = let h : listSized share (c .before .before .args .bs .now) ≡ true = rw (c .match .keys3) at (c .before .before .pre) in
+list-twice-requires-2 c κs = let h : listSized share (c .before .before .args .bs .now) ≡ true = rw (c .match .keys3) at
+    (c .before .before .pre) in
     list-room (c .before .before .args .bs .now) share h
 
 returns : tie.Need-returns
 unfolding tailOf
-returns c = rw (c .before .match .keys1) (ap not (c .all-branches .ensures) ∙ twice-is _ _ (c .before .before .before .args .bs .now))
+returns c = rw (c .before .match .keys1) (ap not (c .all-branches .ensures) ∙ twice-is _ _
+    (c .before .before .before .args .bs .now))
 
 returns-2 : tie.Need-returns-2
 unfolding tailOf

@@ -12,7 +12,8 @@ use Rattle.tails.specs.Tails.{tailOf}
 
 cast-parts-pass : tie.Need-cast-parts-pass
 unfolding tailOf
-cast-parts-pass c = let h : sized expression (c .before .before .args .bs .now) ≡ true = rw (c .match .keys1) at (c .before .before .pre) in
+cast-parts-pass c = let h : sized expression (c .before .before .args .bs .now) ≡ true = rw (c .match .keys1) at
+    (c .before .before .pre) in
     omega (arith, expression-few (c .before .before .args .bs .now) h)
 
 parts-pass-requires : tie.Need-parts-pass-requires
@@ -24,12 +25,14 @@ branches-valid-requires c κs = rw (c .match .keys2) at (c .before .before .pre)
 
 list-valid-requires : tie.Need-list-valid-requires
 unfolding tailOf
-list-valid-requires c κs = let h : listSized item (c .before .before .args .bs .now) ≡ true = rw (c .match .keys3) at (c .before .before .pre) in
+list-valid-requires c κs = let h : listSized item (c .before .before .args .bs .now) ≡ true = rw (c .match .keys3) at
+    (c .before .before .pre) in
     list-room (c .before .before .args .bs .now) item h
 
 list-valid-requires-2 : tie.Need-list-valid-requires-2
 unfolding tailOf
-list-valid-requires-2 c κs = let h : listSized share (c .before .before .args .bs .now) ≡ true = rw (c .match .keys4) at (c .before .before .pre) in
+list-valid-requires-2 c κs = let h : listSized share (c .before .before .args .bs .now) ≡ true = rw (c .match .keys4) at
+    (c .before .before .pre) in
     list-room (c .before .before .args .bs .now) share h
 
 returns : tie.Need-returns

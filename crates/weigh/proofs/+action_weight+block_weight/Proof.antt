@@ -48,9 +48,18 @@ abbrev block-below : ℕ → In 2 block-kinds.ps
 block-below t = and 2 block-kinds.ps (falls 2 block-kinds.ps _<_ μ-block t) block.Pre
 
 abbrev action-claims : ℕ → action-lts.Claims
-action-claims t =
-    (wide-reads.Asked, wide-reads.Learnt, block-below t, block.Post, larger-reads.Asked,
-    larger-reads.Learnt, long-reads.Asked, long-reads.Learnt, capped-reads.Asked, capped-reads.Learnt)
+action-claims t = (
+  wide-reads.Asked,
+  wide-reads.Learnt,
+  block-below t,
+  block.Post,
+  larger-reads.Asked,
+  larger-reads.Learnt,
+  long-reads.Asked,
+  long-reads.Learnt,
+  capped-reads.Asked,
+  capped-reads.Learnt,
+)
 
 abbrev action-Inv-loop : action-lts.InvT-loop
 action-Inv-loop first from goes own times blocks memo₀ b a top₀ k₀ end memo top k =
@@ -191,15 +200,25 @@ action-capped-requires t c κs = search needs
 action-returns : (t : ℕ) → action-lts.Need-returns (action-claims t) (action-at t) action.Post action-Inv-loop action-μ-loop
 action-returns t c = let o = c .before .before .before .before .before .before .before .before .before .before .before in
     let w = c .before .before .before .before .before .before .loop .inv in
-    let h = c .before .before .before .before .before .loop-test .left in
-    (w .known, (all-noted w h, c .capped .ensures
-    ∙ rw (c .before .long2 .ensures .0, c .before .before .before .long .ensures .0)
-    (action-ended (o .pre .1 .0) (o .pre .1 .1 .0) (o .args .own .now) (o .args .times .now) w h)))
+    let h = c .before .before .before .before .before .loop-test .left in (
+      w .known,
+      (
+        all-noted w h,
+        c .capped .ensures
+            ∙ rw (c .before .long2 .ensures .0, c .before .before .before .long .ensures .0)
+            (action-ended (o .pre .1 .0) (o .pre .1 .1 .0) (o .args .own .now) (o .args .times .now) w h),
+      ),
+    )
 
 abbrev block-claims : ℕ → block-lts.Claims
-block-claims t =
-    (wide-reads.Asked, wide-reads.Learnt, action-below t, action.Post, capped-reads.Asked,
-    capped-reads.Learnt)
+block-claims t = (
+  wide-reads.Asked,
+  wide-reads.Learnt,
+  action-below t,
+  action.Post,
+  capped-reads.Asked,
+  capped-reads.Learnt,
+)
 
 abbrev block-Inv-loop : block-lts.InvT-loop
 block-Inv-loop first from goes own times blocks memo₀ b known w₀ a₀ end memo w a =
@@ -216,9 +235,13 @@ block-element-copy-out-known : (t : ℕ) →
 block-element-copy-out-known t c = omega (arith, c .pre .1 .0 .laid .few, c .pre .1 .1 .0)
 
 block-returns : (t : ℕ) → block-lts.Need-returns (block-claims t) (block-at t) block.Post block-Inv-loop block-μ-loop
-block-returns t c = let p = c .before .before .pre .1 .1 in
-    (p .1, (sym (measured-known _ _ _ (c .before .before .args .b) _ (c .if1 .taken)),
-    p .1 .right (c .before .before .args .b) (p .0) (c .if1 .taken)))
+block-returns t c = let p = c .before .before .pre .1 .1 in (
+  p .1,
+  (
+    sym (measured-known _ _ _ (c .before .before .args .b) _ (c .if1 .taken)),
+    p .1 .right (c .before .before .args .b) (p .0) (c .if1 .taken),
+  ),
+)
 
 block-mul-wide : (t : ℕ) → block-lts.Need-mul-wide (block-claims t) (block-at t) block.Post block-Inv-loop block-μ-loop
 block-mul-wide t c = let p = c .before .before .pre .1 in omega (arith, p .0 .laid .few, p .1 .0)
@@ -253,9 +276,13 @@ block-action-weight-requires : (t : ℕ) →
     block-lts.Need-action-weight-requires (block-claims t) (block-at t) block.Post block-Inv-loop block-μ-loop
 block-action-weight-requires t c κs = let p = c .before .before .before .before .before .before .before .before .before .pre in
     let w = c .before .before .loop .inv in
-    let h = c .before .loop-test .taken in
-    (omega (arith, p .0), (p .1 .0,
-    (record { block = p .1 .1 .0; low = w .low; high = omega (arith, w .last, h) }, w .known)))
+    let h = c .before .loop-test .taken in (
+      omega (arith, p .0),
+      (
+        p .1 .0,
+        (record { block = p .1 .1 .0; low = w .low; high = omega (arith, w .last, h) }, w .known),
+      ),
+    )
 
 block-add-capped : (t : ℕ) → block-lts.Need-add-capped (block-claims t) (block-at t) block.Post block-Inv-loop block-μ-loop
 block-add-capped t c = omega (arith, c .before .before .before .loop .inv .small, c .action-weight .ensures .1 .1)
@@ -300,9 +327,10 @@ block-returns-2 t c = let o = c .before .before .before .before .before .before 
     let p = o .pre .1 in
     let w = c .before .loop .inv in
     let ahead = graph-ahead _ _ _ _ (p .0) (o .args .own .now) (o .args .times .now) in
-    let e = sum-ended w ahead (p .1 .0) (c .loop-test .left) in
-    (known-more _ _ _ (o .args .b) _ (omega (arith, p .0 .laid .few, p .1 .0)) (w .known) e,
-    (sum-noted w ahead (p .1 .0) (c .loop-test .left) (c .before .before .before .before .before .before .if1 .left), e))
+    let e = sum-ended w ahead (p .1 .0) (c .loop-test .left) in (
+      known-more _ _ _ (o .args .b) _ (omega (arith, p .0 .laid .few, p .1 .0)) (w .known) e,
+      (sum-noted w ahead (p .1 .0) (c .loop-test .left) (c .before .before .before .before .before .before .if1 .left), e),
+    )
 
 pub +action-weight+block-weight-spec : {M : Type 1} → statement M
 +action-weight+block-weight-spec =

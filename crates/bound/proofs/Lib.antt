@@ -1,0 +1,4 @@
+pub mod Arrays
+pub mod Entities
+pub mod Loop
+pub mod Answer

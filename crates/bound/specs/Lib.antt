@@ -1,0 +1,2 @@
+pub mod Endable
+pub mod Answer
