@@ -22,7 +22,7 @@ use Rattle.semantics.specs.Step.{lowest, ofReturns, isReturn}
 abbrev pub same : ℤ → ℤ → Bool
 same x y = leZ x y && leZ y x
 
--- Of each ofLiving process.
+-- Of each living process.
 abbrev pub ofLiving : (Process → Bool) → State → Bool
 ofLiving f s = all (λ q. isFree q || f q) (s .processes)
 
