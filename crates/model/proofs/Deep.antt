@@ -2,32 +2,30 @@
 use mathlib.Core.Path.{_≡_, refl, sym, _∙_, ap}
 use mathlib.Core.List.{List, [], _∷_}
 use mathlib.Core.Bool.{Bool, true, false, _&&_}
-use Prim.Native.Nat.{ℕ, zero, suc, _+_, _-_, _≤_, _<_}
-use native.Mathlib.Omega.{arith}
+use Prim.Native.Nat.{ℕ, _-_, _≤_, _<_}
 use borrow.Author.Tests.{ltb-true, eqb-true}
 use lib.Dec.{eqb, ltb}
-use lib.ListN.{length, getD, take, drop, replicate, length-append, length-replicate}
+use lib.ListN.{length, getD, take, drop, replicate}
 use Rattle.semantics.specs.Words.{if_then_else_, passed, collect}
 use Rattle.semantics.specs.Numbers as No
 use Rattle.semantics.specs.Model.{Action, Model, block}
 use Rattle.semantics.specs.Bytes.{Raw, raw, torn, u16, recordsFrom}
 use Rattle.semantics.specs.Record.{rowOf}
-use Rattle.semantics.specs.Decode.{Checked, refused, accepted, firstPass, saw, noneSeen, secondPass, inner, gather, depth}
+use Rattle.semantics.specs.Decode.{refused, accepted, firstPass, saw, noneSeen, secondPass, inner, gather, depth}
 use Rattle.semantics.specs.Decode.{opened, thirdPass}
-use Rattle.promises.specs.Laws.{AllOf, over}
+use Rattle.promises.specs.Laws.{AllOf}
 use Rattle.promises.specs.Fit.{Linked}
-use Rattle.promises.specs.Passes.{TwoPasses, not-accepted, first-on, second-on}
-use Rattle.promises.specs.Counted.{counts, counted}
+use Rattle.promises.specs.Passes.{not-accepted, first-on, second-on}
+use Rattle.promises.specs.Counted.{counted}
 use Rattle.promises.specs.Accepted.{links}
-use Rattle.index.specs.Index.{Readable, actsOf, indexOf, goesBy, graphOf}
-use Rattle.index.proofs.Limits.{few-goes}
+use Rattle.index.specs.Index.{Readable, indexOf, graphOf}
 use Rattle.index.specs.Ties.{goesOf, Ties, GraphTies}
 use Rattle.index.specs.declared.Graph as G
 use Rattle.index.specs.declared.Index as I
 use Rattle.index.proofs.Records.{left, left-all, left-none, On, on-all}
 use Rattle.index.proofs.Standing.{Accepted}
 use Rattle.index.proofs.Ties.{goes-inner, index-ties, graph-ties}
-use Rattle.deep.specs.Deep.{Laid, Graph, namesIn, depthOf}
+use Rattle.deep.specs.Deep.{Graph, namesIn, depthOf}
 use Rattle.deep.proofs.Model.{depth-is, all-collect}
 use Rattle.deep.specs.Deep.{Known}
 use Rattle.deep.proofs.Laws.{known-none}

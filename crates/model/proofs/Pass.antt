@@ -2,18 +2,17 @@
 use mathlib.Core.Path.{_≡_, refl, sym, _∙_, ap}
 use mathlib.Core.List.{List, [], _∷_}
 use mathlib.Core.Bool.{Bool, true, false, _&&_}
-use Prim.Native.Nat.{ℕ, zero, suc, _+_, _-_, _≤_, _<_}
+use Prim.Native.Nat.{ℕ, _+_, _-_, _≤_, _<_}
 use native.Mathlib.Omega.{arith}
 use borrow.Author.Tests.{leb-true, lt-leb}
 use lib.Dec.{leb}
 use lib.ListN.{length, getD, take, drop, length-drop}
 use Rattle.semantics.specs.Words.{if_then_else_, Outcome, ok, fails, Passed, passed, need, _>>_}
 use Rattle.semantics.specs.Numbers as No
-use Rattle.semantics.specs.Bytes.{Raw, raw, torn, whole, spans, u16}
+use Rattle.semantics.specs.Bytes.{raw, whole, spans, u16}
 use Rattle.semantics.specs.Record.{rowOf, bodyJudged}
-use Rattle.semantics.specs.Decode.{Checked, refused, accepted, judged, saw, firstPass, named, opened, secondPass}
+use Rattle.semantics.specs.Decode.{refused, accepted, judged, saw, firstPass, named, opened, secondPass}
 use Rattle.promises.specs.Laws.{and-true}
-use Rattle.promises.specs.Passes.{not-accepted}
 use Rattle.parts.proofs.Laws.{rest-of}
 use Rattle.record.specs.Rows.{numberOf, Judged}
 use Rattle.index.proofs.Records.{left, left-none, records-torn, records-whole, sized-by, passed-on, On, whole-is, span-fits}

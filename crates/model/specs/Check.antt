@@ -1,6 +1,5 @@
 -- The answers of the checks as structs: number 0 where all is well. Assumes nothing.
 use Prim.Native.Nat.{ℕ, _≤_}
-use mathlib.Core.Path.{_≡_}
 use mathlib.Core.List.{List}
 use lib.ListN.{length}
 use Rattle.semantics.specs.Words.{if_then_else_}

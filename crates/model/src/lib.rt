@@ -1,7 +1,7 @@
 // Checks 1 to 10 of a model file: from any bytes to the number and the place of a refusal, or accepted.
 ghost use mathlib.Core.Path.{_≡_};
-ghost use mathlib.Core.Bool.{Bool, true, _&&_};
-ghost use Prim.Native.Nat.{ℕ, _+_, _≤_, _<_};
+ghost use mathlib.Core.Bool.{_&&_};
+ghost use Prim.Native.Nat.{_+_, _≤_, _<_};
 ghost use lib.ListN.{length};
 ghost use Rattle.semantics.specs.Bytes.{u16, recordsFrom};
 ghost use Rattle.semantics.specs.Decode.{firstPass, noneSeen, opened as blocksAfter, secondPass};

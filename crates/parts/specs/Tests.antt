@@ -4,7 +4,7 @@ use Prim.Native.Nat.{ℕ}
 use mathlib.Core.List.{List, [], _∷_}
 use mathlib.Core.Bool.{Bool, true, false}
 use lib.ListN.{getD}
-use Rattle.semantics.specs.Record.{Part, item, share, partSize, partValid, nodeValid}
+use Rattle.semantics.specs.Record.{Part, item, share, partValid, nodeValid}
 use Rattle.semantics.specs.Decode.{partKnown, nodeKnown}
 
 -- 0 to 2 are check 6 on an item, a share, a node; 3 to 5 are check 8 on them.

@@ -1,12 +1,11 @@
 // Checks 6, 7 and 8 on the parts of one size that a record's body has: items of a claim, shares of a START, nodes.
 ghost use mathlib.Core.Path.{_≡_};
-ghost use mathlib.Core.Bool.{Bool, true, not, _&&_, _||_};
-ghost use Prim.Native.Nat.{ℕ, _+_, _*_, _≤_, _<_};
-ghost use lib.Dec.{leb, eqb, ltb};
+ghost use mathlib.Core.Bool.{true};
+ghost use Prim.Native.Nat.{_+_, _*_, _≤_, _<_};
 ghost use lib.ListN.{length, getD};
-ghost use Rattle.semantics.specs.Words.{all, any, within};
+ghost use Rattle.semantics.specs.Words.{all, any};
 ghost use Rattle.semantics.specs.Numbers as No;
-ghost use Rattle.semantics.specs.Bytes.{u8, u16, u32, parts};
+ghost use Rattle.semantics.specs.Bytes.{u8, u32, parts};
 ghost use Rattle.semantics.specs.Record.{item, share, partSize, partValid, samePart, repeats, nodeValid};
 ghost use Rattle.semantics.specs.Decode.{partKnown, nodeKnown};
 ghost use Rattle.parts.specs.Tests.{sizeOf, passes, partOf};

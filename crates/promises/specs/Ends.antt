@@ -1,22 +1,20 @@
 -- What has ended stays ended, and a journal that is not met changes nothing.
 -- Assumes nothing.
-use Prim.Native.Nat.{ℕ, zero, suc, _<_}
-use native.Mathlib.Omega.{arith}
-use mathlib.Core.Path.{_≡_, refl, sym, ap, _∙_}
-use mathlib.Core.List.{List, []}
+use Prim.Native.Nat.{ℕ, zero, suc}
+use mathlib.Core.Path.{_≡_, refl, sym, ap}
+use mathlib.Core.List.{List}
 use mathlib.Core.Bool.{Bool, true, false}
-use lib.Dec.{eqb}
 use Rattle.semantics.specs.Words.{Outcome, ok, fails}
 use Rattle.semantics.specs.Numbers as No
 use Rattle.semantics.specs.Model.{Model}
 use Rattle.semantics.specs.State.{State}
 use Rattle.semantics.specs.Walk.{Line, Next}
 use Rattle.semantics.specs.Step.{step}
-use Rattle.semantics.specs.Run.{Answer, CLOSED, IDLE, LIMIT, FAULT, Ran, stopped, further, Before, before, isClosed, isIdle}
+use Rattle.semantics.specs.Run.{Answer, CLOSED, IDLE, FAULT, Ran, stopped, further, Before, before, isClosed, isIdle}
 use Rattle.semantics.specs.Run.{goesOn}
 use Rattle.semantics.specs.Run.{Room, endless, fits, left, run, noEnd}
 use Rattle.promises.specs.Laws.{no-way}
-use Rattle.promises.specs.Answers.{run-keeps, run-why, Why, was-closed, was-idle, at-limit, at-fault, no-room}
+use Rattle.promises.specs.Answers.{run-why, Why, was-closed, was-idle, at-limit, at-fault, no-room}
 
 -- A run from t stops at once, whatever its limit and room.
 abbrev pub StopsAt : Model → State → Type 0

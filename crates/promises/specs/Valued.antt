@@ -19,7 +19,7 @@ use Rattle.semantics.specs.Record.{share, partSize, partValid, samePart, repeat
 use Rattle.semantics.specs.Record.{itemOf, claimIn, shareOf, sharesIn, branchesFrom, branchOf, branchesIn, Tail, expression}
 use Rattle.semantics.specs.Record.{branches, listOf, claim, shares, valid, twice, inSet, Entry, RES, BIN, SYNC, VAR, CLASS}
 use Rattle.semantics.specs.Record.{BLOCK, ENTITY, ACTION, Row, table, rowOf}
-use Rattle.semantics.specs.Decode.{nodeKnown, partKnown, tailKnown, fieldKnown, Gathered, depth}
+use Rattle.semantics.specs.Decode.{nodeKnown, partKnown, tailKnown, fieldKnown, Gathered}
 use Rattle.promises.specs.Laws.{no-way, and-true, or-false, or-true, if-has, _&_, AllOf, all-both, all-get, all-mapped}
 use Rattle.promises.specs.Laws.{all-hold, none-hold, Ordered}
 use Rattle.promises.specs.Fit.{I32, Within, ExprFit, ItemFit, Apart, ClaimFit, BranchFit, ShareFit, SharesApart, ActFit}

@@ -4,9 +4,8 @@
 use Prim.Native.Nat.{ℕ}
 use mathlib.Core.List.{List}
 use Rattle.semantics.specs.Words.{Passed, passed}
-use Rattle.semantics.specs.Model.{Model}
 use Rattle.semantics.specs.State.{fresh}
-use Rattle.semantics.specs.Decode.{Checked, refused, accepted, andThen, decode}
+use Rattle.semantics.specs.Decode.{Checked, accepted, andThen, decode}
 use Rattle.semantics.specs.Run.{Answer, Ran, run}
 use Rattle.semantics.specs.Bound.{Bounded, boundIs}
 use Rattle.semantics.specs.Journal.{roomIn, written}

@@ -1,16 +1,16 @@
 -- Tails and tests on branches by the numbers that the code gives them; and how long a tail of its size is. Assumes nothing.
-use mathlib.Core.Path.{_≡_, refl, sym, _∙_}
-use mathlib.Core.List.{List, [], _∷_}
-use mathlib.Core.Bool.{Bool, true, false, not, _&&_}
-use Prim.Native.Nat.{ℕ, zero, suc, _+_, _*_, _-_, _≤_, _<_, _/_, _%_}
+use mathlib.Core.Path.{_≡_, refl, sym}
+use mathlib.Core.List.{List}
+use mathlib.Core.Bool.{true, false, not}
+use Prim.Native.Nat.{ℕ, zero, suc, _+_, _*_, _≤_, _/_, _%_}
 use native.Mathlib.Omega.{arith}
 use borrow.Author.Tests.{leb-true, eqb-true}
 use lib.Dec.{leb, eqb}
 use lib.ListN.{length, drop}
 use Rattle.semantics.specs.Words.{all, within}
 use Rattle.semantics.specs.Bytes.{u16}
-use Rattle.semantics.specs.Record.{Part, nothing, expression, branches, sized, twice, partSize, listSized, oneTree, pile}
-use Rattle.semantics.specs.Record.{nodes, branchesFit, branchesFrom, listTwice, item}
+use Rattle.semantics.specs.Record.{Part, nothing, expression, branches, sized, twice, partSize, listSized}
+use Rattle.semantics.specs.Record.{branchesFrom, listTwice, item}
 use Rattle.tails.specs.Tails.{tailOf, branchPasses}
 use Rattle.tails.proofs.Branches.{and-left, and-right, any-not}
 

@@ -1,9 +1,8 @@
 // Checks 5 to 9 on what follows a record's fields: an expression, a claim, the shares of a START, the branches of a TRY.
 ghost use mathlib.Core.Path.{_≡_};
-ghost use mathlib.Core.Bool.{Bool, true, not, _&&_};
-ghost use Prim.Native.Nat.{ℕ, _+_, _*_, _≤_, _<_};
-ghost use lib.Dec.{leb, eqb};
-ghost use lib.ListN.{length, getD, drop};
+ghost use mathlib.Core.Bool.{true};
+ghost use Prim.Native.Nat.{_+_, _*_, _≤_, _<_};
+ghost use lib.ListN.{length, drop};
 ghost use Rattle.semantics.specs.Words.{all};
 ghost use Rattle.semantics.specs.Bytes.{u16, parts};
 ghost use Rattle.semantics.specs.Record.{partSize, partsOf, listSized, listValid, listTwice, pile, expression, branches};

@@ -1,13 +1,13 @@
 -- `model::first_pass` meets its contract. The loop's invariant: the pass over what is left, with what was seen, is the whole
 -- pass.
 -- Assumes nothing.
-use Prim.Native.Nat.{_≤_, _<_, _-_}
+use Prim.Native.Nat.{_≤_, _<_}
 use borrow.Author.Needs.{needs}
 use lib.ListN.{length, getD, length-set, length-drop}
 use mathlib.Core.Path.{_≡_, refl, sym, _∙_, ap}
 use native.Mathlib.Omega.{arith}
 use Rattle.index.proofs.Records.{left, left-all}
-use Rattle.model.proofs.Pass.{Spanned, spanned, first-torn, first-refused, first-goes, first-ends, passes-few}
+use Rattle.model.proofs.Pass.{spanned, first-torn, first-refused, first-goes, first-ends, passes-few}
 use Rattle.model.proofs.first_pass.Statement.{statement}
 use Rattle.model.proofs.first_pass.Tie as tie
 use Rattle.model.specs.Check.{firstOf}

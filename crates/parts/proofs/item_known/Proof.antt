@@ -1,5 +1,5 @@
 -- `parts::item_known` meets its contract. Assumes nothing.
-use Prim.Native.Nat.{ℕ, _+_}
+use Prim.Native.Nat.{_+_}
 use borrow.Author.Needs.{needs}
 use mathlib.Core.Path.{sym}
 use Rattle.parts.proofs.Laws.{past-counts}

@@ -1,6 +1,6 @@
 -- `record::in_set` meets its contract. Assumes nothing.
 use borrow.Author.Needs.{needs}
-use mathlib.Core.Path.{_≡_, sym}
+use mathlib.Core.Path.{_≡_}
 use native.Mathlib.Omega.{arith}
 use Rattle.record.proofs.Rules.{in-set-is}
 use Rattle.record.proofs.Table.{field-in}

@@ -1,11 +1,8 @@
 -- `record::name` meets its contract. Assumes nothing.
-use Prim.Native.Nat.{_≤_}
 use borrow.Author.Needs.{needs}
 use borrow.Author.Tests.{not-true, not-false}
-use lib.ListN.{length}
-use mathlib.Core.Bool.{true, _&&_}
-use mathlib.Core.Path.{_≡_, sym, _∙_}
-use native.Mathlib.Omega.{arith}
+use mathlib.Core.Bool.{_&&_}
+use mathlib.Core.Path.{sym, _∙_}
 use Rattle.record.proofs.Rules.{tail-is, named-is}
 use Rattle.record.proofs.name.Statement.{statement}
 use Rattle.record.proofs.name.Tie as tie

@@ -1,9 +1,6 @@
 -- `tails::branch_passes` meets its contract. Assumes nothing.
 use borrow.Author.Needs.{needs}
-use mathlib.Core.Bool.{not}
-use mathlib.Core.Path.{ap, _∙_}
 use Rattle.parts.proofs.Laws.{rest-of}
-use Rattle.semantics.specs.Record.{item, listTwice}
 use Rattle.tails.proofs.Branches.{claim-fits}
 use Rattle.tails.proofs.Numbered.{last-branch-test}
 use Rattle.tails.proofs.branch_passes.Statement.{statement}

@@ -1,7 +1,6 @@
 -- `tails::expression_sized` meets its contract. Assumes nothing.
 use borrow.Author.Needs.{needs}
 use borrow.Author.Tests.{le-leb, lt-leb, ne-eqb, eq-eqb}
-use mathlib.Core.Path.{sym}
 use Rattle.semantics.specs.Record.{pile, nodes}
 use Rattle.tails.proofs.Pile.{tree-height}
 use Rattle.tails.proofs.expression_sized.Statement.{statement}

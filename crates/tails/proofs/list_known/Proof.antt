@@ -6,7 +6,6 @@ use lib.ListN.{length}
 use native.Mathlib.Omega.{arith}
 use Rattle.parts.proofs.Laws.{rest-of}
 use Rattle.semantics.specs.Bytes.{u16}
-use Rattle.semantics.specs.Record.{partsOf}
 use Rattle.tails.proofs.list_known.Statement.{statement}
 use Rattle.tails.proofs.list_known.Tie as tie
 

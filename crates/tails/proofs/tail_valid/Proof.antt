@@ -3,7 +3,6 @@ use borrow.Author.Needs.{needs}
 use mathlib.Core.Bool.{true}
 use mathlib.Core.Path.{_≡_}
 use native.Mathlib.Omega.{arith}
-use Rattle.parts.specs.Tests.{partOf}
 use Rattle.semantics.specs.Record.{sized, expression, item, share, listSized}
 use Rattle.tails.proofs.Numbered.{no-tail, expression-few, list-room}
 use Rattle.tails.proofs.tail_valid.Statement.{statement}
