@@ -38,7 +38,7 @@ collect-inner : (m : Model) (xs : List Action) → collect (goesOf false m) xs �
 collect-inner m [] = refl
 collect-inner m (x ∷ xs) = rw (goes-inner m x, collect-inner m xs)
 
--- What has the first pass's file by the index and the graph without STARTs.
+-- The file bs, which passes 1 to 9, with its index and its graph without STARTs.
 module _ (bs : List ℕ) (n : Named bs) where
   abbrev rs : List Raw
   rs = recordsFrom 0 bs
