@@ -1,0 +1,9 @@
+//! All tests of the second program, through its library and through the program `plan`.
+
+mod bounds;
+mod build;
+mod faults;
+mod plans;
+mod random;
+mod refusals;
+mod steps;
