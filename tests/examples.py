@@ -1,0 +1,112 @@
+"""The example models of a post house: examples/NAME.model, what each is in examples/NAME.txt, what it prints in examples/NAME.plan.
+
+    python3 -B tests/examples.py            writes the models and the texts
+    python3 -B tests/examples.py PROGRAM    runs PROGRAM on each and compares what it prints with NAME.plan
+    python3 -B tests/examples.py --check    that the committed models and texts are those of this table
+"""
+import pathlib
+import subprocess
+import sys
+
+from records import *
+
+HERE = pathlib.Path(__file__).resolve().parent.parent / 'examples'
+
+
+def two_jobs():
+    """Two jobs and one suite. Both want the edit suite at once and keep it for three hours: the second waits, and gets
+    it when the first has given it back."""
+    return (RES(1) + CLASS(0) + ENTITY(0) + ENTITY(0)
+            + BLOCK() + REQ(getR(0)) + HOLD(literal(3)) + PUTR(0, 1))
+
+
+def grade():
+    """The grade that queued for a room. The theatre (resource 0) is taken by a screening until 4. The feature (process 2)
+    wants theatre and colour desk (1) together and waits. A wedding (3) that wants only the desk is barred, though
+    the desk is free: it would take a part of what the feature waits for. The trailer (4) has the higher priority, so
+    nobody in front of it bars it, and it gets the desk at once."""
+    return (RES(1) + RES(1) + CLASS(0) + CLASS(1) + CLASS(2) + CLASS(3)
+            + ENTITY(0, 0) + ENTITY(1, 1) + ENTITY(2, 2) + ENTITY(3, 3)
+            + BLOCK() + REQ(getR(0)) + HOLD(literal(4)) + PUTR(0, 1)
+            + BLOCK() + REQ(getR(0), getR(1)) + HOLD(literal(5)) + PUTR(1, 1) + PUTR(0, 1)
+            + BLOCK() + REQ(getR(1)) + HOLD(literal(2)) + PUTR(1, 1)
+            + BLOCK() + PRIO(literal(10)) + REQ(getR(1)) + HOLD(literal(2)) + PUTR(1, 1))
+
+
+def crowded_day():
+    """A crowded day. Ten jobs and three more over two suites (0), one theatre (1) and three decks (2): weddings take a
+    suite and a deck, trailers whichever comes first of theatre or suite, the feature both rooms, twice; each writes
+    when it is done (TRACE). Every fourth hour the desk starts another wedding."""
+    wedding = REQ(getR(0), getR(2)) + HOLD(literal(3)) + PUTR(0, 1) + PUTR(2, 1) + TRACE(CLOCK)
+    trailer = TRY(branch(5, getR(1)), branch(6, getR(0))) + TRACE(CLOCK)
+    feature = PRIO(literal(5)) + DO(2, 7) + TRACE(CLOCK)
+    return (RES(2) + RES(1) + RES(3) + CLASS(0) + CLASS(2) + CLASS(3) + CLASS(4)
+            + ENTITY(0, 0)
+            + b''.join(ENTITY(1, t) for t in (0, 0, 1, 1, 2))
+            + b''.join(ENTITY(2, t) for t in (0, 1, 2, 3))
+            + ENTITY(3, 1)
+            + BLOCK() + DO(3, 1)
+            + BLOCK() + HOLD(literal(4)) + START(1, 0)
+            + BLOCK() + wedding
+            + BLOCK() + trailer
+            + BLOCK() + feature
+            + BLOCK() + HOLD(literal(2)) + PUTR(1, 1)
+            + BLOCK() + HOLD(literal(4)) + PUTR(0, 1)
+            + BLOCK() + REQ(getR(0), getR(1)) + HOLD(literal(3)) + PUTR(0, 1) + PUTR(1, 1))
+
+
+def runners():
+    """Syncs as runners. Two runners report for work (BECOME) and wait; a session claims one (getS), sends it for tapes for
+    two hours and lets it go (PUTS), upon which the runner goes home. A second session has to wait for a second runner."""
+    return (SYNC() + CLASS(0) + CLASS(1)
+            + ENTITY(1, 0) + ENTITY(0, 1) + ENTITY(1, 2) + ENTITY(0, 3)
+            + BLOCK() + BECOME(0) + TRACE(CLOCK)
+            + BLOCK() + REQ(getS(0)) + HOLD(literal(2)) + PUTS(0, 1))
+
+
+def night_render():
+    """A render queue by night. Frames stand in a bin; a render takes ten at a time as long as there are that many and the
+    switch (variable 0) is on; at six the switch goes off, and whatever is left stays in the bin."""
+    return (RES(1) + BIN(45) + VAR(1) + CLASS(0) + CLASS(1)
+            + ENTITY(0, 0) + ENTITY(1, 6)
+            + BLOCK() + WHILE(2, getB(0, 10), condition(0, 3, 1)) + TRACE(CLOCK)
+            + BLOCK() + SET(0, literal(0))
+            + BLOCK() + REQ(getR(0)) + HOLD(literal(2)) + PUTR(0, 1))
+
+
+def one_deck_too_many():
+    """One that faults. The wedding claims one deck and gives back two: fault 24, and that step isn't made."""
+    return (RES(3) + CLASS(0) + ENTITY(0)
+            + BLOCK() + REQ(getR(0, 1)) + HOLD(literal(1)) + PUTR(0, 2))
+
+
+EXAMPLES = [two_jobs, grade, crowded_day, runners, night_render, one_deck_too_many]
+
+
+def files(example):
+    name = example.__name__.replace('_', '-')
+    text = '\n'.join(line.strip() for line in example.__doc__.split('\n')) + '\n'
+    return HERE / (name + '.model'), example(), HERE / (name + '.txt'), text, HERE / (name + '.plan')
+
+
+def main(argument):
+    failed = 0
+    for example in EXAMPLES:
+        model, data, about, text, plan = files(example)
+        if argument is None:
+            model.write_bytes(data)
+            about.write_text(text)
+        elif argument == '--check':
+            if model.read_bytes() != data or about.read_text() != text:
+                failed += 1
+                print('%s: the committed files are not those of the table' % model.name)
+        else:
+            told = subprocess.run([argument], input=data, capture_output=True, check=False).stdout
+            if told != plan.read_bytes():
+                failed += 1
+                print('%s: %s prints\n%s' % (model.name, argument, told.decode()))
+    return failed
+
+
+if __name__ == '__main__':
+    sys.exit(1 if main(sys.argv[1] if len(sys.argv) > 1 else None) else 0)
