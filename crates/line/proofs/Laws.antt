@@ -1,29 +1,24 @@
--- What a turn and the end of each loop over an array need. Assumes nothing.
+-- What a turn and the end of each loop over a row need. Assumes nothing.
 use mathlib.Core.Path.{_≡_, sym, _∙_, ap}
 use mathlib.Core.List.{List, [], _∷_, _++_, append-assoc}
 use mathlib.Core.Bool.{Bool, true, false}
 use Prim.Native.Nat.{ℕ, zero, suc, _+_, _-_, _≤_, _<_}
 use native.Mathlib.Numerals.{add-one, sub-one}
 use native.Mathlib.Omega.{arith}
-use lib.ListN.{length, take, drop, getD, set, replicate, length-append, length-take, length-replicate}
+use lib.ListN.{length, take, drop, getD, set, replicate, length-append}
 use lib.Seq.{take-suc-set, drop-set-lt, drop-cons, append-snoc, take-append-le, drop-append-le, take-at, drop-at, set-split}
 use lib.Seq.{take-set-le, take-suc, length-take-le, getD-take, drop-length}
 use Rattle.semantics.specs.Words.{keep}
-use Rattle.line.specs.Lines.{rowOf, Canon, inserted, removed, placeOf}
+use Rattle.line.specs.Lines.{pad, Canon, inserted, removed, placeOf}
 use Rattle.line.specs.Order.{inserted-length, removed-length}
 
--- AN ARRAY has 128 places, and its list has as many numbers as it says.
+-- A ROW and its list, which has as many numbers as it says.
 module _ (row : List ℕ) (n : ℕ) (c : Canon row n) where
-  pub wide : length row ≡ 128
-  unfolding rowOf
-  wide = ap length (c .zeros) ∙ simp (length-append, length-take, length-replicate) (omega (arith, c .room))
+  counted : length (take n row) ≡ n
+  counted = length-take-le n row (c .room)
 
-  pub counted : length (take n row) ≡ n
-  counted = length-take-le n row (omega (arith, wide, c .room))
-
-  pub spelled : row ≡ take n row ++ replicate (128 - n) 0
-  unfolding rowOf
-  spelled = c .zeros ∙ ap (λ m. take n row ++ replicate (128 - m) 0) counted
+  spelled : row ≡ take n row ++ replicate (length row - n) 0
+  spelled = c .zeros ∙ ap (λ m. take n row ++ replicate (length row - m) 0) counted
 
 -- A SEARCH of the first n, one turn, a stop, and the end.
 module _ (row : List ℕ) (n : ℕ) (c : Canon row n) where
@@ -65,7 +60,7 @@ module _ (row : List ℕ) (n : ℕ) (c : Canon row n) where
     pub counted-all : (k f : ℕ) → k ≡ n → f + length (keep q (drop k (take n row))) ≡ m → f ≡ m
     counted-all k f h p = let x : length (keep q (drop k (take n row))) ≡ 0 = rw (h, none-left) in omega arith
 
--- A SHIFT: the array without what stands at the place that moves stays the same.
+-- A SHIFT: the row without what stands at the place that moves stays the same.
 pub up : (row : List ℕ) (i : ℕ) → 0 < i → i < length row → removed (i - 1) (set row i (getD row (i - 1) 0)) ≡ removed i row
 up row zero p h = absurd (omega arith)
 up row (suc j) p h =
@@ -102,32 +97,31 @@ written row i x h =
     set-split row i x h ∙ rw (take-at (take i row) (drop (i + 1) row) i l, drop-at (take i row) (drop (i + 1) row) i l, add-one)
 
 -- The end of a shift: up, the new number goes to the place that came free; down, a zero.
-module _ (row₀ row : List ℕ) (n at : ℕ) (c : Canon row₀ n) (l : length row ≡ 128) where
-  pub put-end : (x : ℕ) → at ≤ n → n ≤ 127 → removed at row ≡ removed n row₀ → set row at x ≡ rowOf (inserted at x (take n row₀))
-  unfolding rowOf
+module _ (row₀ row : List ℕ) (n at : ℕ) (c : Canon row₀ n) (l : length row ≡ length row₀) where
+  pub put-end : (x : ℕ) → at ≤ n → n < length row₀ → removed at row ≡ removed n row₀
+      → set row at x ≡ pad (length row₀) (inserted at x (take n row₀))
   put-end x h b e =
       let xs : List ℕ = take n row₀ in
       let lx : length xs ≡ n = counted row₀ n c in
       let ln : length (inserted at x xs) ≡ n + 1 = omega (arith, inserted-length at x xs (omega arith)) in
-      let z : List ℕ = replicate (128 - (n + 1)) 0 in
-      let k : 128 - n ≡ suc (128 - (n + 1)) = omega arith in
+      let z : List ℕ = replicate (length row₀ - (n + 1)) 0 in
+      let k : length row₀ - n ≡ suc (length row₀ - (n + 1)) = omega arith in
       let w : removed at row ≡ xs ++ z =
       e ∙ ap (λ t. xs ++ drop (n + 1) t) (spelled row₀ n c ∙ ap (λ m. xs ++ replicate m 0) k ∙ sym (append-snoc xs 0 z))
       ∙ ap (λ t. xs ++ t) (drop-at (xs ++ 0 ∷ []) z (n + 1) (simp length-append (omega arith))) in
       written row at x (omega arith)
       ∙ rw (w, take-append-le at xs z (omega arith), drop-append-le at xs z (omega arith), append-assoc, ln)
 
-  pub cut-end : at < n → removed (n - 1) row ≡ removed at row₀ → set row (n - 1) 0 ≡ rowOf (removed at (take n row₀))
-  unfolding rowOf
+  pub cut-end : at < n → removed (n - 1) row ≡ removed at row₀ → set row (n - 1) 0 ≡ pad (length row₀) (removed at (take n row₀))
   cut-end h e =
       let xs : List ℕ = take n row₀ in
       let lx : length xs ≡ n = counted row₀ n c in
       let ys : List ℕ = removed at xs in
       let ly : length ys ≡ n - 1 = omega (arith, removed-length at xs (omega arith)) in
-      let z : List ℕ = replicate (128 - n) 0 in
+      let z : List ℕ = replicate (length row₀ - n) 0 in
       let w : removed (n - 1) row ≡ ys ++ z =
       e ∙ ap (removed at) (spelled row₀ n c)
       ∙ rw (take-append-le at xs z (omega arith), drop-append-le (at + 1) xs z (omega arith), append-assoc) in
-      let k : 128 - (n - 1) ≡ suc (128 - n) = omega (arith, c .room) in
+      let k : length row₀ - (n - 1) ≡ suc (length row₀ - n) = omega (arith, c .room) in
       written row (n - 1) 0 (omega (arith, c .room))
       ∙ rw (w, take-at ys z (n - 1) ly, drop-at ys z (n - 1) ly, ly, k)

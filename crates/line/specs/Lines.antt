@@ -1,23 +1,22 @@
--- An ordered list as arrays of numbers: the array that a list makes, a list with one more or one less, the key by which an entry
+-- An ordered list as rows of numbers: the row that a list makes, a list with one more or one less, the key by which an entry
 -- stands, and its data in one word. Assumes nothing.
 use mathlib.Core.Path.{_≡_}
 use mathlib.Core.List.{List, [], _∷_, _++_}
-use mathlib.Core.Bool.{Bool, _&&_}
+use mathlib.Core.Bool.{Bool}
 use Prim.Native.Nat.{ℕ, zero, suc, _+_, _-_, _*_, _/_, _%_, _≤_}
-use lib.Dec.{leb, ltb}
 use lib.ListN.{length, take, drop, replicate}
 use Rattle.semantics.specs.Words.{if_then_else_}
 use Rattle.semantics.specs.State.{Event, Waiter, Notice, wakes, returnsR, returnsB}
-use Rattle.line.specs.Code.{code}
+use Rattle.number.specs.Code.{code}
 
--- LISTS. The array of a list: zeros past its end.
-unfoldable pub rowOf : List ℕ → List ℕ
-rowOf xs = xs ++ replicate (128 - length xs) 0
+-- LISTS. The row of n numbers that a list makes: zeros past its end.
+abbrev pub pad : ℕ → List ℕ → List ℕ
+pad n xs = xs ++ replicate (n - length xs) 0
 
--- An array whose first n numbers are its list: zeros stand past them.
+-- A row whose first n numbers are its list: zeros stand past them.
 pub record Canon (row : List ℕ) (n : ℕ) : Type 0 where
-  pub room : n ≤ 128
-  pub zeros : row ≡ rowOf (take n row)
+  pub room : n ≤ length row
+  pub zeros : row ≡ pad (length row) (take n row)
 
 -- A list with x put in at a place; without what stands at a place.
 abbrev pub inserted : {A : Type 0} → ℕ → A → List A → List A
@@ -31,9 +30,6 @@ unfoldable pub placeOf : {A : Type 0} → (A → Bool) → List A → ℕ
 placeOf q [] = zero
 placeOf q (x ∷ xs) = if q x then suc (placeOf q xs) else zero
 
-abbrev pub between : ℕ → ℕ → ℕ → Bool
-between low high k = leb low k && ltb k high
-
 -- KEYS. The least key stands first: by time, and then the higher priority.
 abbrev pub keyOf : ℕ → ℕ → ℕ
 keyOf time rank = time * 4_294_967_296 + (4_294_967_295 - rank)
@@ -43,6 +39,10 @@ eventKey e = keyOf (e .time) (code (e .priority))
 
 abbrev pub waiterKey : Waiter → ℕ
 waiterKey w = 4_294_967_295 - code (w .priority)
+
+-- One that waits, in one word: in the order of the keys, whatever the places.
+abbrev pub waiterWord : Waiter → ℕ
+waiterWord w = 64 * waiterKey w + w .place
 
 -- DATA. A word: its kind, the number of a place, a resource or a bin, an amount, and the giver's number.
 abbrev pub packed : ℕ → ℕ → ℕ → ℕ → ℕ
@@ -65,3 +65,6 @@ abbrev pub dataOf : Notice → ℕ
 dataOf (wakes p) = packed 0 p 0 0
 dataOf (returnsR i n g) = packed 1 i n g
 dataOf (returnsB i n g) = packed 2 i n g
+
+abbrev pub eventWord : Event → ℕ
+eventWord e = dataOf (e .notice)

@@ -1,23 +1,23 @@
-// An ordered list of at most 128 entries: an array of keys and an array of data, each lent by itself, and how many entries there
-// are. What is not used is 0. The data of an entry are packed into one word.
+// An ordered list as rows of numbers, each lent by itself, and how many entries there are: a row of keys and a row of data, or a
+// row of words that hold both. What is not used is 0. The data of an entry are packed into one word.
 ghost use mathlib.Core.Path.{_≡_};
 ghost use Prim.Native.Nat.{_≤_, _<_};
-ghost use lib.Dec.{leb};
+ghost use lib.Dec.{ltb};
 ghost use lib.ListN.{length, take};
 ghost use Rattle.semantics.specs.Words.{keep};
-ghost use Rattle.line.specs.Lines.{rowOf, Canon, inserted, removed, placeOf, between};
+ghost use Rattle.line.specs.Lines.{pad, Canon, inserted, removed, placeOf};
 ghost use Rattle.line.specs.Lines.{packed, kindOf, numberOf, amountOf, giverOf};
 
-// ---- one array
+// ---- one row
 
-// How many at the front have a key of at most `key`: in an ordered list, the place behind its equals.
-pub fn place_behind(keys: &[u64; 128], len: usize, key: u64) -> usize
-    requires { ⌜ Canon (now keys) len ⌝ }
-    ensures { λ r. ⌜ (r ≡ placeOf (λ k. leb k key) (take len (now (keys .entry)))) × (r ≤ len) ⌝ }
+// How many at the front are below `limit`: with a limit just above a key, the place behind the key's equals.
+pub fn place_below(row: &[u64], len: usize, limit: u64) -> usize
+    requires { ⌜ Canon (now row) len ⌝ }
+    ensures { λ r. ⌜ (r ≡ placeOf (λ k. ltb k limit) (take len (now (row .entry)))) × (r ≤ len) ⌝ }
 {
     let mut i = 0;
     while i < len {
-        if key < keys[i] {
+        if limit <= row[i] {
             return i;
         }
         i += 1;
@@ -26,10 +26,10 @@ pub fn place_behind(keys: &[u64; 128], len: usize, key: u64) -> usize
 }
 
 // `x` put in at a place; what stands from there on moves up.
-pub fn put_in(row: &mut [u64; 128], len: usize, at: usize, x: u64)
+pub fn put_in(row: &mut [u64], len: usize, at: usize, x: u64)
     requires { ⌜ Canon (now row) len ⌝ }
-    requires { ⌜ (at ≤ len) × (len ≤ 127) ⌝ }
-    ensures { λ _. ⌜ now (row .exit) ≡ rowOf (inserted at x (take len (now (row .entry)))) ⌝ }
+    requires { ⌜ (at ≤ len) × (len < length (now row)) ⌝ }
+    ensures { λ _. ⌜ now (row .exit) ≡ pad (length (now (row .entry))) (inserted at x (take len (now (row .entry)))) ⌝ }
 {
     let mut i = len;
     while at < i {
@@ -40,10 +40,10 @@ pub fn put_in(row: &mut [u64; 128], len: usize, at: usize, x: u64)
 }
 
 // What stands at a place is gone; what stands behind it moves down, and the last place becomes 0.
-pub fn take_out(row: &mut [u64; 128], len: usize, at: usize)
+pub fn take_out(row: &mut [u64], len: usize, at: usize)
     requires { ⌜ Canon (now row) len ⌝ }
     requires { ⌜ at < len ⌝ }
-    ensures { λ _. ⌜ now (row .exit) ≡ rowOf (removed at (take len (now (row .entry)))) ⌝ }
+    ensures { λ _. ⌜ now (row .exit) ≡ pad (length (now (row .entry))) (removed at (take len (now (row .entry)))) ⌝ }
 {
     let last = len - 1;
     let mut i = at;
@@ -54,16 +54,15 @@ pub fn take_out(row: &mut [u64; 128], len: usize, at: usize)
     row[last] = 0;
 }
 
-// How many keys lie from `low` to below `high`.
-pub fn count_between(keys: &[u64; 128], len: usize, low: u64, high: u64) -> usize
-    requires { ⌜ Canon (now keys) len ⌝ }
-    ensures { λ r. ⌜ (r ≡ length (keep (between low high) (take len (now (keys .entry))))) × (r ≤ len) ⌝ }
+// How many words are of a return: of a kind above 0.
+pub fn count_returns(words: &[u64], len: usize) -> usize
+    requires { ⌜ Canon (now words) len ⌝ }
+    ensures { λ r. ⌜ (r ≡ length (keep (λ d. ltb 0 (kindOf d)) (take len (now (words .entry))))) × (r ≤ len) ⌝ }
 {
     let mut found = 0;
     let mut i = 0;
     while i < len {
-        let key = keys[i];
-        if (low <= key) & (key < high) {
+        if 0 < kind_of(words[i]) {
             found += 1;
         }
         i += 1;

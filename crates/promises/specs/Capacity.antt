@@ -1,4 +1,4 @@
--- How long the lists of a sound run are: what the engine's arrays must hold.
+-- How long the lists of a sound run are, also in the middle of a step: what the engine's arrays must hold.
 -- Assumes nothing.
 use Prim.Native.Nat.{ℕ, _+_, _≤_, _<_}
 use native.Mathlib.Omega.{arith}
@@ -6,11 +6,11 @@ use mathlib.Core.Path.{_≡_, refl, ap}
 use mathlib.Core.List.{List, [], _∷_}
 use lib.ListN.{length, getD, set}
 use Rattle.semantics.specs.Model.{Model}
-use Rattle.semantics.specs.State.{State, Process, Event, Notice, wakes, returnsR, returnsB, nobody}
+use Rattle.semantics.specs.State.{State, Process, Event, Notice, wakes, returnsR, returnsB, nobody, empty, with-floor}
 use Rattle.semantics.specs.Sound.{woken, listed}
 use Rattle.promises.specs.Laws.{over, over-set, over-same, over-most, over-length, only, once, only-none, once-self}
 use Rattle.promises.specs.Laws.{over-at}
-use Rattle.promises.specs.Sound.{al, owes, returning, Sound}
+use Rattle.promises.specs.Sound.{al, owes, returning, Held}
 use Rattle.promises.specs.Keep.{al-one, alive-in, livingIn}
 use Rattle.promises.specs.Decides.{over-listed, in-listed}
 
@@ -55,10 +55,12 @@ events-length (e ∷ es) = let ih = events-length es in let a = one (e .notice) 
     one (returnsR i a g) = refl
     one (returnsB i a g) = refl
 
-pub lists-fit : (m : Model) (s : State) → Sound m s → Fitting s
+-- What is in hand, on the floor or being moved, only leaves less for the lists: so they are taken with an empty floor.
+pub lists-fit : (m : Model) (s : State) {z y : ℕ → ℕ} → Held m s (s .blocked) z y → Fitting s
 lists-fit m s h =
-    let r = room (listed s) (s .processes) (λ k. let a = in-listed s k in let b = h .in-one k in omega arith) in
-    let l = over-listed (λ p. 1) s in
+    let t : State = with-floor s empty in
+    let r = room (listed t) (s .processes) (λ k. let a = in-listed t k in let b = h .in-one k in omega arith) in
+    let l = over-listed (λ p. 1) t in
     let v = over-most (λ q. al (q .frames)) (λ q. 1) (λ q. al-one (q .frames)) (s .processes) in
     let c = over-length (s .processes) in
     let n = h .places-64 in

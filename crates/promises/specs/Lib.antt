@@ -14,6 +14,7 @@ pub mod Stays
 pub mod FreshSound
 pub mod Decides
 pub mod Capacity
+pub mod Lines
 pub mod Nests
 pub mod Safe
 pub mod Answers

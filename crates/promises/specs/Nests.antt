@@ -95,8 +95,8 @@ module _ (m : Model) (n : Nested m) where
           let v = within d (largest (map (depthIn m d) (collect inner (block m b)))) (omega arith) in
           omega arith
 
-  -- The depth of the innermost block and the number of those around it are at most 8 together.
-  chain-depth : (f : Frame) (fs : List Frame) → chained m (f ∷ fs) ≡ true
+  -- The depth of the innermost block and the number of those around it are at most 8 together, and there is such a block.
+  pub chain-depth : (f : Frame) (fs : List Frame) → chained m (f ∷ fs) ≡ true
       → (depth m (f .block) + length fs ≤ 8) × (f .block < length (m .blocks))
   chain-depth f [] c =
       let a = and-true (leb (f .at) (length (block m (f .block)))) _ c .1 in

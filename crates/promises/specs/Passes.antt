@@ -35,11 +35,11 @@ then-is : {A B : Type 0} (c : Checked A) (f : A → Checked B) (b : B) → andTh
 then-is (refused n p) f b e = not-accepted e
 then-is (accepted a) f b e = (a, refl, e)
 
--- What holds of every model whose records pass holds of an accepted one.
-pub of-accepted : (P : Model → Type 0) → ((rs : List Raw) → Passes rs → P (gather rs .model))
-    → (bs : List ℕ) (m : Model) → decode bs ≡ accepted m → P m
+-- The records of an accepted file pass, and they make its model.
+pub accepted-by : (bs : List ℕ) (m : Model) → decode bs ≡ accepted m
+    → Passes (recordsFrom 0 bs) × (gather (recordsFrom 0 bs) .model ≡ m)
 unfolding decode
-of-accepted P h bs m e = go (leb (length bs) 65_535) e
+accepted-by bs m e = go (leb (length bs) 65_535) e
   where
     rs : List Raw
     rs = recordsFrom 0 bs
@@ -54,20 +54,25 @@ of-accepted P h bs m e = go (leb (length bs) 65_535) e
     secondly n = andThen (secondPass n 0 rs) thirdly
 
     done : (n : List ℕ) (p q : Passed) → firstPass noneSeen rs ≡ accepted n → secondPass n 0 rs ≡ accepted p
-        → thirdPass x rs ≡ accepted q → P x
-    done n passed passed a b c = h rs (record { two = record { seen = n; first = a; second = b }; third = c })
+        → thirdPass x rs ≡ accepted q → Passes rs
+    done n passed passed a b c = record { two = record { seen = n; first = a; second = b }; third = c }
 
     go : (b : Bool)
         → _≡_ {A = Checked Model} (elim b [ false ↦ refused No.MANY 0 | true ↦ andThen (firstPass noneSeen rs) secondly ])
         (accepted m)
-        → P m
+        → Passes rs × (x ≡ m)
     go false k = not-accepted k
     go true k =
         let a = then-is (firstPass noneSeen rs) secondly m k in
         let b = then-is (secondPass (a .0) 0 rs) thirdly m (a .2) in
         let c = then-is (thirdPass x rs) (λ q. accepted x) m (b .2) in
         let s : x ≡ m = cc (c .2) in
-        subst P s (done (a .0) (b .0) (c .0) (a .1) (b .1) (c .1))
+        (done (a .0) (b .0) (c .0) (a .1) (b .1) (c .1), s)
+
+-- What holds of every model whose records pass holds of an accepted one.
+pub of-accepted : (P : Model → Type 0) → ((rs : List Raw) → Passes rs → P (gather rs .model))
+    → (bs : List ℕ) (m : Model) → decode bs ≡ accepted m → P m
+of-accepted P h bs m e = let a = accepted-by bs m e in subst P (a .1) (h (recordsFrom 0 bs) (a .0))
 
 -- ONE RECORD by its row r: what 2 to 7 say of it, and what 8 and 9 say.
 pub record Judged (seen : List ℕ) (r : Row) (bs : List ℕ) : Type 0 where

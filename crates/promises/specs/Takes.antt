@@ -36,14 +36,14 @@ pub record Still (s t : State) : Type 0 where
   pub same-blocked : t .blocked ≡ s .blocked
 
 module _ (p : ℕ) where
-  still-item : (i : Item) (s : State) → Still s (takeItem p i s)
+  pub still-item : (i : Item) (s : State) → Still s (takeItem p i s)
   unfolding takeItem
   still-item (get resource i n) s = search
   still-item (get bin i n) s = search
   still-item (get sync i n) s = search
   still-item (condition i r v) s = search
 
-  still-all : (c : Claim) (s : State) → Still s (takeAll p c s)
+  pub still-all : (c : Claim) (s : State) → Still s (takeAll p c s)
   unfolding takeAll
   still-all [] s = search
   still-all (i ∷ is) s =
@@ -75,7 +75,7 @@ module _ (p : ℕ) where
   there-apart sync bin i n j s e = refl
   there-apart sync sync i n j s e = ap length (set-away (s .waiting) i j _ [] (once-apart i j (eqb-false i j e)))
 
-  still-met : (x y : Item) (s : State) → Apart x y → itemMet s y ≡ true → itemMet (takeItem p x s) y ≡ true
+  pub still-met : (x y : Item) (s : State) → Apart x y → itemMet s y ≡ true → itemMet (takeItem p x s) y ≡ true
   unfolding takeItem
   still-met (get k i n) (get l j o) s a h = rw (there-apart k l i n j s a) h
   still-met (condition i r v) (get l j o) s a h = h
@@ -100,7 +100,7 @@ slaves-of n i [] h = tt
 slaves-of n i (w ∷ ws) h = (h, slaves-of n i ws h)
 
 -- What follows an offer is what the action names.
-abbrev ThenOk : Action → Then → Type 0
+abbrev pub ThenOk : Action → Then → Type 0
 ThenOk a pass = Unit {0}
 ThenOk a (enterBlock b) = enters a b 1 ≡ true
 
@@ -124,7 +124,7 @@ module _ (m : Model) (s : State) {l : List Waiter} {z : ℕ → ℕ} (h : Held m
       alter h p (with-frames (process s p) fs) one (fine-frames (hand-fine h p one) fs c) a refl (λ k. refl) (λ j. refl)
 
   -- goes on as an offer says, and
-  follow-held :
+  pub follow-held :
       (a : Action) (t : Then) → standsIn m (process s p .frames) ≡ some a → ThenOk a t
       → Held m (put p (follow t (process s p)) s) l z (λ j. 0)
   unfolding into
@@ -133,7 +133,7 @@ module _ (m : Model) (s : State) {l : List Waiter} {z : ℕ → ℕ} (h : Held m
       goes-into _ (chain-into m (process s p .frames) a b 1 (hand-fine h p one .frames-ok) e k) refl
 
   -- takes an item.
-  take-item : (i : Item) → ItemFit m i → itemMet s i ≡ true → Held m (takeItem p i s) l z (λ j. 0)
+  pub take-item : (i : Item) → ItemFit m i → itemMet s i ≡ true → Held m (takeItem p i s) l z (λ j. 0)
   unfolding takeItem
   take-item (get resource i n) k e =
       let q : Process = process s p in
@@ -168,7 +168,7 @@ module _ (m : Model) (s : State) {l : List Waiter} {z : ℕ → ℕ} (h : Held m
 
 -- It takes a claim that is met, and goes on.
 module _ (m : Model) (p : ℕ) (l : List Waiter) (z : ℕ → ℕ) (one : 1 ≤ z p) where
-  take-all :
+  pub take-all :
       (c : Claim) (s : State) → Held m s l z (λ j. 0) → AllOf (ItemFit m) c → Ordered Apart c → AllOf (λ i. itemMet s i ≡ true) c
       → Held m (takeAll p c s) l z (λ j. 0)
   unfolding takeAll
@@ -178,7 +178,7 @@ module _ (m : Model) (p : ℕ) (l : List Waiter) (z : ℕ → ℕ) (one : 1 ≤ 
       (all-map (λ x. Apart i x × (itemMet s x ≡ true)) _ (λ x b. still-met p i x s (b .0) (b .1)) is
       (all-both (Apart i) (λ x. itemMet s x ≡ true) is (a .0) (e .1)))
 
-  grant-held :
+  pub grant-held :
       (a : Action) (o : Offer) (s : State) → Held m s l z (λ j. 0) → standsIn m (process s p .frames) ≡ some a
       → ClaimFit m (o .claim) → ThenOk a (o .andThen) → met s (o .claim) ≡ true → Held m (grant p o s) l z (λ j. 0)
   unfolding grant
@@ -234,7 +234,7 @@ choice-has P waits f g = f refl
 choice-has P (goes i o) f g = g i o refl
 
 -- What an action offers fits.
-abbrev OfferOk : Model → Action → Offer → Type 0
+abbrev pub OfferOk : Model → Action → Offer → Type 0
 OfferOk m a o = ClaimFit m (o .claim) × ThenOk a (o .andThen)
 
 abbrev Enters : ℕ → List Branch → Type 0
@@ -249,7 +249,7 @@ branches-ok m us (b ∷ bs) h f =
     let e = true-and (any (λ x. eqb (x .block) k) us) _ (f k (or-left (eqb k k) _ (eq-eqb k k refl))) refl in
     ((h .0 .1, e), branches-ok m us bs (h .1) (λ j g. f j (or-right (eqb k j) _ g)))
 
-offers-ok : (m : Model) (a : Action) → ActFit m a → AllOf (OfferOk m a) (offers a)
+pub offers-ok : (m : Model) (a : Action) → ActFit m a → AllOf (OfferOk m a) (offers a)
 offers-ok m (HOLD e) h = tt
 offers-ok m (PRIO e) h = tt
 offers-ok m (TRACE e) h = tt

@@ -44,7 +44,7 @@ signed-fits n =
     if-has I32 (ltb n 2_147_483_648) (λ e. ltb-true n 2_147_483_648 e)
     (λ e. let h = ltb-false n 2_147_483_648 e in omega arith)
 
-parts-many : (k n : ℕ) (bs : List ℕ) → length (parts k n bs) ≡ n
+pub parts-many : (k n : ℕ) (bs : List ℕ) → length (parts k n bs) ≡ n
 unfolding parts
 parts-many k zero bs = refl
 parts-many k (suc n) bs = ap suc (parts-many k n (drop k bs))

@@ -16,6 +16,7 @@ use Rattle.semantics.specs.Bytes.{u16, u32, signed, parts}
 use Rattle.semantics.specs.Record.{Node, leaf, unary, binary, nodeOf, onto, pile, nodes, oneTree, theTree}
 use Rattle.promises.specs.Laws.{no-way, AllOf}
 use Rattle.promises.specs.Fit.{ExprFit}
+use Rattle.promises.specs.Valued.{parts-many}
 use Rattle.tails.specs.Tails.{arity}
 use Rattle.tails.proofs.Pile.{arity-small}
 use Rattle.value.specs.Reading.{theRest}
@@ -160,13 +161,8 @@ part-at (suc n) (suc k) bs h =
     let e : 6 + 6 * k ≡ 6 * suc k = omega arith in
     part-at n k (drop 6 bs) (omega arith) ∙ rw (drop-drop (6 * k) 6 bs, e)
 
-parts-many : (n : ℕ) (bs : List ℕ) → length (parts 6 n bs) ≡ n
-unfolding parts
-parts-many zero bs = refl
-parts-many (suc n) bs = ap suc (parts-many n (drop 6 bs))
-
 pub nodes-many : (bs : List ℕ) → length (nodes bs) ≡ length bs / 6
-nodes-many bs = parts-many (length bs / 6) bs
+nodes-many bs = parts-many 6 (length bs / 6) bs
 
 -- As the code cuts it out.
 pub cut-node : (bs : List ℕ) (k : ℕ) → k < length bs / 6 → take (6 * k + 6 - 6 * k) (drop (6 * k) bs) ≡ getD (nodes bs) k []

@@ -22,7 +22,7 @@ use Rattle.number.specs.Code.{valueOf, aValue, valueIn}
 use Rattle.value.specs.declared.Node as D
 use Rattle.value.specs.declared.Tree.{Tree}
 use Rattle.value.specs.Parts.{evalIn}
-use Rattle.value.specs.Reading.{Readable, Stands, Read, leafCode, ofTwo, given, theRest}
+use Rattle.value.specs.Reading.{Readable, Stands, Read, HasCode, leafCode, ofTwo, given, theRest}
 use Rattle.value.proofs.Prefix.{leafOf, twoOf, nodeBy, nodeIn, over, pile-at, Full, full-inside, Piled, over-leaf}
 use Rattle.value.proofs.Prefix.{over-unary, over-binary, piled-from, tree-fits, one-piled, nodes-many}
 use Rattle.value.proofs.Values.{leaf-value, leaf-inside, negated-value, joined-value}
@@ -81,7 +81,7 @@ module _ {bs gl lo : List ℕ} {t : ℕ} (w : Readable bs gl lo t) where
       leaf-fits : ExprFit (w .model) (leafOf (d .op) (d .operand))
       leaf-fits = rw (begins-leaf .0) at (first-fits k)
 
-      pub leaf-indexed : (d .op ≡ 1 → d .operand < 32) × (d .op ≡ 2 → d .operand < 8)
+      pub leaf-indexed : (d .op ≡ 1 → HasCode gl (d .operand)) × (d .op ≡ 2 → HasCode lo (d .operand))
       leaf-indexed = leaf-inside w (d .op) (d .operand) leaf-fits
 
       pub leaf-read : (x : ℕ) → x ≡ leafCode gl lo t (d .op) (d .operand) →

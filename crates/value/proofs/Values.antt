@@ -4,24 +4,35 @@ use mathlib.Core.List.{List, [], _∷_, _++_, map}
 use mathlib.Core.Bool.{_&&_}
 use Prim.Native.Nat.{ℕ, zero, suc, _+_, _-_, _≤_, _<_}
 use native.Mathlib.Omega.{arith}
-use lib.ListN.{length, getD}
+use lib.ListN.{length, getD, replicate, length-append, length-map}
 use lib.IntN.{ℤ, pos, negℤ}
 use Rattle.semantics.specs.Words.{Outcome, ok, fails, _>>=_}
 use Rattle.semantics.specs.Model.{Expr, negate}
 use Rattle.semantics.specs.Value.{inRange}
-use Rattle.promises.specs.Fit.{ExprFit}
+use Rattle.promises.specs.Laws.{AllOf, all-get}
+use Rattle.promises.specs.Fit.{I32, ExprFit}
 use Rattle.number.specs.declared.Value.{Value}
 use Rattle.number.specs.Code.{code, valueOf, aValue, valueIn, Ranged, larger}
-use Rattle.number.specs.Laws.{valueOf-code}
+use Rattle.number.specs.Laws.{valueOf-code, code-fits}
 use Rattle.value.specs.Parts.{evalIn, evalIn-ranged}
-use Rattle.value.specs.Reading.{Readable, leafCode, twoBy, ofTwo, given}
+use Rattle.value.specs.Reading.{Readable, pad, HasCode, leafCode, twoBy, ofTwo, given}
 use Rattle.value.proofs.Prefix.{leafOf, twoOf}
 
--- An array shows each value of the list.
+-- A row shows each value of the list, by its code.
 shown : (vs : List ℤ) (ys : List ℕ) (i : ℕ) → i < length vs → code (getD vs i (pos 0)) ≡ getD (map code vs ++ ys) i 0
 shown [] ys i h = absurd (omega arith)
 shown (v ∷ vs) ys zero h = refl
 shown (v ∷ vs) ys (suc i) h = shown vs ys i (omega arith)
+
+has-code : {row : List ℕ} (n : ℕ) (vs : List ℤ) (i : ℕ) → row ≡ pad n 0 (map code vs) → AllOf I32 vs → i < length vs →
+    HasCode row i
+has-code n vs i e g h =
+    let ys : List ℕ = replicate (n - length (map code vs)) 0 in
+    let c = all-get I32 vs i (pos 0) g (omega arith) in
+    rw e record {
+      there = omega (arith, length-append (map code vs) ys, length-map vs code);
+      is-code = omega (arith, shown vs ys i h, code-fits (getD vs i (pos 0)) c);
+    }
 
 -- Past the literals, variables and locals a leaf is the clock.
 pub clock-code : (gl lo : List ℕ) (t op v : ℕ) → (op ≡ 0 → ⊥) → (op ≡ 1 → ⊥) → (op ≡ 2 → ⊥) →
@@ -80,11 +91,17 @@ module _ {bs gl lo : List ℕ} {t : ℕ} (w : Readable bs gl lo t) where
       (ap (λ (xs : List ℕ). getD xs v 0) (w .shows-locals) ∙ sym (shown (w .ls) _ v (omega (arith, w .locals-many))))
   leaf-value (suc (suc (suc op))) v h = refl
 
-  -- Its index stands in the array.
-  pub leaf-inside : (op v : ℕ) → ExprFit (w .model) (leafOf op v) → (op ≡ 1 → v < 32) × (op ≡ 2 → v < 8)
+  -- Its code stands in the row.
+  pub leaf-inside : (op v : ℕ) → ExprFit (w .model) (leafOf op v) → (op ≡ 1 → HasCode gl v) × (op ≡ 2 → HasCode lo v)
   leaf-inside zero v h = ((λ e. absurd (omega arith)), (λ e. absurd (omega arith)))
-  leaf-inside (suc zero) v h = ((λ e. omega (arith, w .few-vars)), (λ e. absurd (omega arith)))
-  leaf-inside (suc (suc zero)) v h = ((λ e. absurd (omega arith)), (λ e. h))
+  leaf-inside (suc zero) v h = (
+    (λ e. has-code 32 (w .gs) v (w .shows-globals) (w .globals-ok) (omega (arith, w .vars-many))),
+    (λ e. absurd (omega arith)),
+  )
+  leaf-inside (suc (suc zero)) v h = (
+    (λ e. absurd (omega arith)),
+    (λ e. has-code 8 (w .ls) v (w .shows-locals) (w .locals-ok) (omega (arith, w .locals-many))),
+  )
   leaf-inside (suc (suc (suc op))) v h = ((λ e. absurd (omega arith)), (λ e. absurd (omega arith)))
 
   pub negated-value : (x : Value) (e : Expr) → ExprFit (w .model) e → x ≡ valueIn (value e) →

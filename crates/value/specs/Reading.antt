@@ -22,11 +22,11 @@ use Rattle.value.specs.Parts.{evalIn, evalIn-ranged}
 use Rattle.value.specs.declared.Node.{Node}
 use Rattle.value.specs.declared.Tree.{Tree}
 
--- A list in an array of n places: what is not used is a.
+-- A list in a row of n places: what is not used is a.
 abbrev pub pad : {A : Type 0} → ℕ → A → List A → List A
 pad n a xs = xs ++ replicate (n - length xs) a
 
--- The bytes bs are an expression of the model, the arrays show its variables gs and a process's locals ls by their codes, and
+-- The bytes bs are an expression of the model, the rows show its variables gs and a process's locals ls by their codes, and
 -- t is the clock. (That the ops are known and the operands right is not needed to read the nodes one after the other, but may be
 -- where it is done in another way.)
 pub record Readable (bs globals locals : List ℕ) (t : ℕ) : Type 0 where
@@ -44,6 +44,11 @@ pub record Readable (bs globals locals : List ℕ) (t : ℕ) : Type 0 where
   pub clock-ok : t ≤ No.latest
   pub shows-globals : globals ≡ pad 32 0 (map code gs)
   pub shows-locals : locals ≡ pad 8 0 (map code ls)
+
+-- The number at i of a row is there, and is a code.
+pub record HasCode (row : List ℕ) (i : ℕ) : Type 0 where
+  pub there : i < length row
+  pub is-code : getD row i 0 < 4_294_967_296
 
 -- The code of a leaf's value, by its op and operand.
 unfoldable pub leafCode : List ℕ → List ℕ → ℕ → ℕ → ℕ → ℕ

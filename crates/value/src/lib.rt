@@ -1,7 +1,7 @@
 // The value of an expression, from the bytes of its nodes, by recursion over them.
 ghost use mathlib.Core.Path.{_≡_};
 ghost use Prim.Native.Nat.{_≤_, _<_, _/_};
-ghost use lib.ListN.{length};
+ghost use lib.ListN.{length, getD};
 ghost use lib.IntN.{negℤ};
 ghost use Rattle.semantics.specs.Numbers as No;
 ghost use Rattle.semantics.specs.Record.{nodes, expressionIn};
@@ -9,7 +9,7 @@ ghost use Rattle.semantics.specs.Value.{inRange};
 ghost use Rattle.tails.specs.Tails.{arity};
 ghost use Rattle.number.specs.Code.{valueOf, valueIn};
 ghost use Rattle.value.specs.Parts.{evalIn};
-ghost use Rattle.value.specs.Reading.{Readable, Stands, Read, leafCode, ofTwo, given};
+ghost use Rattle.value.specs.Reading.{Readable, Stands, Read, HasCode, leafCode, ofTwo, given};
 use number::Value;
 
 // How many operands each op takes.
@@ -49,15 +49,23 @@ fn operands(op: u32) -> u32
     0
 }
 
+// The code that stands in a row of numbers.
+fn code_at(row: &[u64], i: u32) -> u32
+    requires { ⌜ HasCode (now row) i ⌝ }
+    ensures { λ r. ⌜ r ≡ getD (now (row .entry)) i 0 ⌝ }
+{
+    row[i as usize] as u32
+}
+
 // The code of a leaf's value.
-fn leaf<'a>(globals: &'a [u32; 32], locals: &'a [u32; 8], clock: u32, op: u32, operand: u32) -> u32
-    requires { ⌜ (clock ≤ No.latest) × ((op ≡ 1 → operand < 32) × (op ≡ 2 → operand < 8)) ⌝ }
+fn leaf<'a>(globals: &'a [u64], locals: &'a [u64], clock: u32, op: u32, operand: u32) -> u32
+    requires { ⌜ (clock ≤ No.latest) × ((op ≡ 1 → HasCode (now globals) operand) × (op ≡ 2 → HasCode (now locals) operand)) ⌝ }
     ensures { λ r. ⌜ r ≡ leafCode (now (globals .entry)) (now (locals .entry)) clock op operand ⌝ }
 {
     match op {
         0 => number::from_twos(operand),
-        1 => globals[operand as usize],
-        2 => locals[operand as usize],
+        1 => code_at(globals, operand),
+        2 => code_at(locals, operand),
         _ => 2147483648 + clock,
     }
 }
@@ -96,13 +104,7 @@ fn negated(has: bool, x: u32) -> Value
 }
 
 // The tree that begins at the k-th node.
-fn tree_at<'a>(
-    bs: &'a [u8],
-    globals: &'a [u32; 32],
-    locals: &'a [u32; 8],
-    clock: u32,
-    k: usize,
-) -> Tree
+fn tree_at<'a>(bs: &'a [u8], globals: &'a [u64], locals: &'a [u64], clock: u32, k: usize) -> Tree
     requires { ⌜ Readable (now bs) (now globals) (now locals) clock × (k < length (now bs) / 6) ⌝ }
     ensures { λ r. ⌜ ((w : Readable (now (bs .entry)) (now (globals .entry)) (now (locals .entry)) clock) →
         Read (w .gs) (w .ls) clock (nodes (now (bs .entry))) k r) ⌝ }
@@ -134,7 +136,7 @@ fn tree_at<'a>(
 }
 
 // The value of the expression that stands in bs.
-pub fn evaluate<'a>(bs: &'a [u8], globals: &'a [u32; 32], locals: &'a [u32; 8], clock: u32) -> Value
+pub fn evaluate<'a>(bs: &'a [u8], globals: &'a [u64], locals: &'a [u64], clock: u32) -> Value
     requires { ⌜ Readable (now bs) (now globals) (now locals) clock ⌝ }
     ensures { λ r. ⌜ ((w : Readable (now (bs .entry)) (now (globals .entry)) (now (locals .entry)) clock) →
         r ≡ valueIn (evalIn (w .gs) (w .ls) clock (expressionIn (now (bs .entry))))) ⌝ }

@@ -1,22 +1,22 @@
--- `line::put_in` meets its contract. The loop's invariant: without the place that comes free, the array is what it was without
--- its first unused place. Assumes nothing.
+-- `line::put_in` meets its contract. The loop's invariant: without the place that comes free, the row is what it was without its
+-- first unused place. Assumes nothing.
 use Prim.Native.Nat.{_≤_}
 use lib.ListN.{length, length-set}
 use mathlib.Core.Path.{_≡_, refl, _∙_}
 use native.Mathlib.Omega.{arith}
-use Rattle.line.proofs.Laws.{wide, up, put-end}
+use Rattle.line.proofs.Laws.{up, put-end}
 use Rattle.line.proofs.put_in.Statement.{statement}
 use Rattle.line.proofs.put_in.Tie as tie
 use Rattle.line.specs.Lines.{removed}
 
 abbrev Inv-loop : tie.InvT-loop
-Inv-loop row₀ len at x i₀ row i = (at ≤ i) × (i ≤ len) × (length row ≡ 128) × (removed i row ≡ removed len row₀)
+Inv-loop row₀ len at x i₀ row i = (at ≤ i) × (i ≤ len) × (length row ≡ length row₀) × (removed i row ≡ removed len row₀)
 
 abbrev μ-loop : tie.MeasureT-loop
 μ-loop row₀ len at x i₀ row i = i
 
 loop-holds : tie.Need-loop-holds Inv-loop μ-loop
-loop-holds c = (omega arith, omega arith, wide _ _ (c .pre .0), refl)
+loop-holds c = (omega arith, omega arith, refl, refl)
 
 sub-row : tie.Need-sub-row Inv-loop μ-loop
 sub-row c = omega arith
@@ -24,14 +24,14 @@ sub-row c = omega arith
 mul-row : tie.Need-mul-row Inv-loop μ-loop
 mul-row c = omega arith
 
-element-copy-out-row : tie.Need-element-copy-out-row Inv-loop μ-loop
-element-copy-out-row c = omega arith
+slice-read-row : tie.Need-slice-read-row Inv-loop μ-loop
+slice-read-row c = omega arith
 
 mul-row-2 : tie.Need-mul-row-2 Inv-loop μ-loop
 mul-row-2 c = omega arith
 
-element-write-row : tie.Need-element-write-row Inv-loop μ-loop
-element-write-row c = omega arith
+slice-write-row : tie.Need-slice-write-row Inv-loop μ-loop
+slice-write-row c = omega arith
 
 sub-i : tie.Need-sub-i Inv-loop μ-loop
 sub-i c = omega arith
@@ -46,8 +46,11 @@ loop-again c = let l = c .before .before .loop in
 mul-row-3 : tie.Need-mul-row-3 Inv-loop μ-loop
 mul-row-3 c = omega arith
 
-element-write-row-2 : tie.Need-element-write-row-2 Inv-loop μ-loop
-element-write-row-2 c = omega arith
+slice-write-row-2 : tie.Need-slice-write-row-2 Inv-loop μ-loop
+slice-write-row-2 c = omega arith
+
+same-length : tie.Need-same-length Inv-loop μ-loop
+same-length c = simp length-set (c .before .loop .inv .2)
 
 returns : tie.Need-returns Inv-loop μ-loop
 returns c = let l = c .before .loop in
@@ -65,12 +68,13 @@ put-in-spec =
     loop-holds
     sub-row
     mul-row
-    element-copy-out-row
+    slice-read-row
     mul-row-2
-    element-write-row
+    slice-write-row
     sub-i
     loop-less
     loop-again
     mul-row-3
-    element-write-row-2
+    slice-write-row-2
+    same-length
     returns)

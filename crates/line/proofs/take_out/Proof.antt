@@ -1,16 +1,16 @@
--- `line::take_out` meets its contract. The loop's invariant: without the place that comes free, the array is what it was without
+-- `line::take_out` meets its contract. The loop's invariant: without the place that comes free, the row is what it was without
 -- the place that is taken out. Assumes nothing.
 use Prim.Native.Nat.{_≤_, _-_}
 use lib.ListN.{length, length-set}
 use mathlib.Core.Path.{_≡_, refl, _∙_}
 use native.Mathlib.Omega.{arith}
-use Rattle.line.proofs.Laws.{wide, down, cut-end}
+use Rattle.line.proofs.Laws.{down, cut-end}
 use Rattle.line.proofs.take_out.Statement.{statement}
 use Rattle.line.proofs.take_out.Tie as tie
 use Rattle.line.specs.Lines.{removed}
 
 abbrev Inv-loop : tie.InvT-loop
-Inv-loop row₀ len at last i₀ row i = (at ≤ i) × (i ≤ last) × (length row ≡ 128) × (removed i row ≡ removed at row₀)
+Inv-loop row₀ len at last i₀ row i = (at ≤ i) × (i ≤ last) × (length row ≡ length row₀) × (removed i row ≡ removed at row₀)
 
 abbrev μ-loop : tie.MeasureT-loop
 μ-loop row₀ len at last i₀ row i = last - i
@@ -19,7 +19,7 @@ sub-last : tie.Need-sub-last Inv-loop μ-loop
 sub-last c = omega arith
 
 loop-holds : tie.Need-loop-holds Inv-loop μ-loop
-loop-holds c = (omega arith, omega arith, wide _ _ (c .pre .0), refl)
+loop-holds c = (omega arith, omega arith, refl, refl)
 
 add-row : tie.Need-add-row Inv-loop μ-loop
 add-row c = omega arith
@@ -27,14 +27,14 @@ add-row c = omega arith
 mul-row : tie.Need-mul-row Inv-loop μ-loop
 mul-row c = omega arith
 
-element-copy-out-row : tie.Need-element-copy-out-row Inv-loop μ-loop
-element-copy-out-row c = omega arith
+slice-read-row : tie.Need-slice-read-row Inv-loop μ-loop
+slice-read-row c = omega arith
 
 mul-row-2 : tie.Need-mul-row-2 Inv-loop μ-loop
 mul-row-2 c = omega arith
 
-element-write-row : tie.Need-element-write-row Inv-loop μ-loop
-element-write-row c = omega arith
+slice-write-row : tie.Need-slice-write-row Inv-loop μ-loop
+slice-write-row c = omega arith
 
 add-i : tie.Need-add-i Inv-loop μ-loop
 add-i c = omega arith
@@ -49,8 +49,11 @@ loop-again c = let l = c .before .before .loop in
 mul-row-3 : tie.Need-mul-row-3 Inv-loop μ-loop
 mul-row-3 c = omega arith
 
-element-write-row-2 : tie.Need-element-write-row-2 Inv-loop μ-loop
-element-write-row-2 c = omega arith
+slice-write-row-2 : tie.Need-slice-write-row-2 Inv-loop μ-loop
+slice-write-row-2 c = omega arith
+
+same-length : tie.Need-same-length Inv-loop μ-loop
+same-length c = simp length-set (c .before .loop .inv .2)
 
 returns : tie.Need-returns Inv-loop μ-loop
 returns c = let l = c .before .loop in
@@ -68,12 +71,13 @@ take-out-spec =
     loop-holds
     add-row
     mul-row
-    element-copy-out-row
+    slice-read-row
     mul-row-2
-    element-write-row
+    slice-write-row
     add-i
     loop-less
     loop-again
     mul-row-3
-    element-write-row-2
+    slice-write-row-2
+    same-length
     returns)

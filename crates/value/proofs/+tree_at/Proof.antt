@@ -47,31 +47,31 @@ tree-at-claims t = (
 )
 
 tree-at-node-at-requires : (t : ℕ) → tree-at-lts.Need-node-at-requires (tree-at-claims t) (tree-at-at t) tree-at.Post
-tree-at-node-at-requires t c κs = c .before .pre .1 .1
+tree-at-node-at-requires t c κs = c .before .before .before .pre .1 .1
 
 tree-at-operands-requires : (t : ℕ) → tree-at-lts.Need-operands-requires (tree-at-claims t) (tree-at-at t) tree-at.Post
 tree-at-operands-requires t c κs = search needs
 
 tree-at-leaf-requires : (t : ℕ) → tree-at-lts.Need-leaf-requires (tree-at-claims t) (tree-at-at t) tree-at.Post
-tree-at-leaf-requires t c κs = let o = c .before .before .before .before in
+tree-at-leaf-requires t c κs = let o = c .before .before .before .before .before .before in
     let d = c .before .before .node-at in
     let e = sym (c .before .operands .ensures) ∙ c .if1 .taken in
     (o .pre .1 .0 .clock-ok, leaf-indexed (o .pre .1 .0) (o .args .k) (o .pre .1 .1) (d .result) (d .ensures) e)
 
 tree-at-add-t16 : (t : ℕ) → tree-at-lts.Need-add-t16 (tree-at-claims t) (tree-at-at t) tree-at.Post
-tree-at-add-t16 t c = omega (arith, c .before .before .before .before .before .pre .1 .1)
+tree-at-add-t16 t c = omega (arith, c .before .before .before .before .before .before .before .pre .1 .1)
 
 tree-at-returns : (t : ℕ) → tree-at-lts.Need-returns (tree-at-claims t) (tree-at-at t) tree-at.Post
-tree-at-returns t c = let o = c .before .before .before .before .before in
+tree-at-returns t c = let o = c .before .before .before .before .before .before .before in
     let d = c .before .before .before .node-at in
     let e = sym (c .before .before .operands .ensures) ∙ c .before .if1 .taken in
     λ w. leaf-read w (o .args .k) (o .pre .1 .1) (d .result) (d .ensures) e (c .leaf .result) (c .leaf .ensures)
 
 tree-at-add-tree-at : (t : ℕ) → tree-at-lts.Need-add-tree-at (tree-at-claims t) (tree-at-at t) tree-at.Post
-tree-at-add-tree-at t c = omega (arith, c .before .before .before .before .pre .1 .1)
+tree-at-add-tree-at t c = omega (arith, c .before .before .before .before .before .before .pre .1 .1)
 
 tree-at-tree-at-requires : (t : ℕ) → tree-at-lts.Need-tree-at-requires (tree-at-claims t) (tree-at-at t) tree-at.Post
-tree-at-tree-at-requires t c κs = let o = c .before .before .before .before in
+tree-at-tree-at-requires t c κs = let o = c .before .before .before .before .before .before in
     let p = o .pre .1 in
     let d = c .before .before .node-at in
     let n = c .before .operands .ensures in
@@ -82,7 +82,7 @@ tree-at-negated-requires : (t : ℕ) → tree-at-lts.Need-negated-requires (tree
 tree-at-negated-requires t c κs = search needs
 
 tree-at-returns-2 : (t : ℕ) → tree-at-lts.Need-returns-2 (tree-at-claims t) (tree-at-at t) tree-at.Post
-tree-at-returns-2 t c = let o = c .before .before .before .before .before .before .before in
+tree-at-returns-2 t c = let o = c .before .before .before .before .before .before .before .before .before in
     let d = c .before .before .before .before .before .node-at in
     let r = c .before .before .tree-at in
     let e = sym (c .before .before .before .before .operands .ensures) ∙ c .before .if2 .taken in
@@ -90,7 +90,7 @@ tree-at-returns-2 t c = let o = c .before .before .before .before .before .befor
     (c .negated .result) (c .negated .ensures)
 
 tree-at-tree-at-requires-2 : (t : ℕ) → tree-at-lts.Need-tree-at-requires-2 (tree-at-claims t) (tree-at-at t) tree-at.Post
-tree-at-tree-at-requires-2 t c κs = let o = c .before .before .before .before .before .before in
+tree-at-tree-at-requires-2 t c κs = let o = c .before .before .before .before .before .before .before .before in
     let p = o .pre .1 in
     let d = c .before .before .before .before .node-at in
     let r = c .before .tree-at in
@@ -106,14 +106,15 @@ tree-at-of-two-requires t c κs = let d = c .before .before .before .before .bef
     (takes-two (d .result .op) _ n (c .before .before .before .before .before .if1 .left) (c .before .before .before .if2 .left))
 
 tree-at-returns-3 : (t : ℕ) → tree-at-lts.Need-returns-3 (tree-at-claims t) (tree-at-at t) tree-at.Post
-tree-at-returns-3 t c = let o = c .before .before .before .before .before .before .before .before .before .before in
-    let d = c .before .before .before .before .before .before .before .before .node-at in
-    let r = c .before .before .before .before .before .tree-at in
-    let r′ = c .before .before .before .tree-at2 in
-    let n = c .before .before .before .before .before .before .before .operands .ensures in
-    let e =
-    takes-two (d .result .op) _ n (c .before .before .before .before .before .before .if1 .left)
-    (c .before .before .before .before .if2 .left) in
+tree-at-returns-3 t c = let second = c .before .before .before in
+    let first = second .before .before in
+    let node = first .before .before .before in
+    let o = node .before .before .before .before in
+    let d = node .node-at in
+    let r = first .tree-at in
+    let r′ = second .tree-at2 in
+    let n = first .before .before .operands .ensures in
+    let e = takes-two (d .result .op) _ n (first .before .if1 .left) (second .before .if2 .left) in
     λ w. two-read w (o .args .k) (o .pre .1 .1) (d .result) (d .ensures) (r .result) (r .ensures w) e
     (r′ .result) (r′ .ensures w) (c .of-two .result) (c .of-two .ensures)
 

@@ -5,7 +5,7 @@ use Rattle.value.proofs.evaluate.Statement.{statement}
 use Rattle.value.proofs.evaluate.Tie as tie
 
 tree-at-requires : tie.Need-tree-at-requires
-tree-at-requires c κs = (c .before .pre, begins (c .before .pre))
+tree-at-requires c κs = (c .before .before .before .pre, begins (c .before .before .before .pre))
 
 returns : tie.Need-returns
 unfolding expressionIn

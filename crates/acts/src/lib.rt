@@ -1,0 +1,1 @@
+// What the record of each action says is in specs/; this crate has no code.

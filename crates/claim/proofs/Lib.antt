@@ -1,0 +1,4 @@
+pub mod Relations
+pub mod Items
+pub mod Claims
+pub mod Branches

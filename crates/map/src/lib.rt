@@ -1,0 +1,1 @@
+// The map of a model, by which the engine reads it.

@@ -1,0 +1,4 @@
+pub mod Zeros
+pub mod Standing
+pub mod Holding
+pub mod Blocks

@@ -1,0 +1,3 @@
+pub mod Process
+pub mod Rows
+pub mod Put

@@ -1,0 +1,10 @@
+pub mod Laid
+pub mod Work
+pub mod Shown
+pub mod Inside
+pub mod Head
+pub mod Codes
+pub mod Events
+pub mod Blocked
+pub mod Waiting
+pub mod Sized
