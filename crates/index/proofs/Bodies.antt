@@ -2,16 +2,18 @@
 use mathlib.Core.Path.{_≡_, refl, _∙_, ap}
 use mathlib.Core.List.{List, [], _∷_}
 use mathlib.Core.Bool.{Bool, true, false}
-use Prim.Native.Nat.{ℕ, zero, suc, _≤_}
+use Prim.Native.Nat.{ℕ, zero, suc, _+_, _≤_}
 use native.Mathlib.Omega.{arith}
 use borrow.Author.Tests.{leb-true, leb-false, eqb-true, ne-eqb}
 use lib.Dec.{eqb, leb}
 use lib.ListN.{length, getD, drop, length-map}
 use Rattle.semantics.specs.Words.{within}
 use Rattle.semantics.specs.Bytes.{u16}
-use Rattle.semantics.specs.Record.{rowOf, branches, branchesFrom, branchesFit, sized, valid}
+use Rattle.semantics.specs.Record.{item, listSized, listValid, branchesFrom, branchesFit, Tail, branches, claim, sized, valid}
+use Rattle.semantics.specs.Record.{rowOf}
 use Rattle.promises.specs.Laws.{and-true, if-has}
 use Rattle.index.specs.Index.{Judged, given, acts, branchBlocks, goesIn}
+use Rattle.index.specs.Branches.{Offered, offered, offeredAt, offeredTry, offeredIn}
 use Rattle.index.proofs.Records.{sized-by}
 use Rattle.index.proofs.Filled.{given-few}
 
@@ -32,13 +34,25 @@ head-28 : rowOf 28 .head ≡ 6
 unfolding rowOf
 head-28 = refl
 
+head-25 : rowOf 25 .head ≡ 0
+unfolding rowOf
+head-25 = refl
+
 head-26 : rowOf 26 .head ≡ 0
 unfolding rowOf
 head-26 = refl
 
+tail-25 : rowOf 25 .tail ≡ claim
+unfolding rowOf
+tail-25 = refl
+
 tail-26 : rowOf 26 .tail ≡ branches
 unfolding rowOf
 tail-26 = refl
+
+tail-27 : rowOf 27 .tail ≡ claim
+unfolding rowOf
+tail-27 = refl
 
 module _ {k : ℕ} {bs : List ℕ} (g : Judged k bs) where
   head-at : {j h : ℕ} → rowOf j .head ≡ h → k ≡ j → h ≤ length bs
@@ -56,12 +70,22 @@ module _ {k : ℕ} {bs : List ℕ} (g : Judged k bs) where
   pub start-head : k ≡ 28 → 6 ≤ length bs
   start-head = head-at head-28
 
-  try-sized : k ≡ 26 → (sized branches bs ≡ true) × (valid branches bs ≡ true)
-  try-sized e =
+  tail-at : {j h : ℕ} {t : Tail} → rowOf j .head ≡ h → rowOf j .tail ≡ t → k ≡ j →
+      (sized t (drop h bs) ≡ true) × (valid t (drop h bs) ≡ true)
+  tail-at i j e =
       let s = sized-by (rowOf k) bs (g .body-judged) in
-      let t = ap (λ x. rowOf x .tail) e ∙ tail-26 in
-      let h = ap (λ x. rowOf x .head) e ∙ head-26 in
-      (rw (t, h) at (s .tail-sized), rw (t, h) at (s .tail-valid))
+      let x = ap (λ x. rowOf x .head) e ∙ i in
+      let y = ap (λ x. rowOf x .tail) e ∙ j in
+      (rw (x, y) at (s .tail-sized), rw (x, y) at (s .tail-valid))
+
+  pub req-sized : k ≡ 25 → (listSized item bs ≡ true) × (listValid item bs ≡ true)
+  req-sized = tail-at head-25 tail-25
+
+  pub try-sized : k ≡ 26 → (sized branches bs ≡ true) × (valid branches bs ≡ true)
+  try-sized = tail-at head-26 tail-26
+
+  pub while-sized : k ≡ 27 → (listSized item (drop 2 bs) ≡ true) × (listValid item (drop 2 bs) ≡ true)
+  while-sized = tail-at head-27 tail-27
 
   -- the branches are counted, at most 4, and end with the body
   pub try-fits : k ≡ 26 → (2 ≤ length bs) × ((u16 bs 0 ≤ 4) × (branchesFit (u16 bs 0) (drop 2 bs) ≡ true))
@@ -92,6 +116,25 @@ goes-few start bodies k bs g =
     (λ i. if-has (λ (l : List ℕ). length l ≤ 4) (eqb k 28)
     (λ j. omega (arith, given-few start (getD bodies (u16 bs 0) 0))) (λ j. omega arith))))
 
+-- BRANCHES: at most 4.
+offered-many : (at : ℕ) (bs : List (List ℕ)) → length (offeredAt at bs) ≡ length bs
+unfolding offeredAt
+offered-many at [] = refl
+offered-many at (b ∷ bs) = ap suc (offered-many (at + length b) bs)
+
+pub try-many : (at : ℕ) (bs : List ℕ) → length (offeredTry at bs) ≡ u16 bs 0
+unfolding offeredTry
+try-many at bs =
+    offered-many (at + 2) (branchesFrom (u16 bs 0) (drop 2 bs)) ∙ branches-many (u16 bs 0) (drop 2 bs)
+
+pub offered-few : (at k : ℕ) (bs : List ℕ) → Judged k bs → length (offeredIn at k bs) ≤ 4
+unfolding offeredIn
+offered-few at k bs g =
+    if-has (λ (l : List Offered). length l ≤ 4) (eqb k 25) (λ e. omega arith)
+    (λ e. if-has (λ (l : List Offered). length l ≤ 4) (eqb k 26)
+    (λ f. omega (arith, try-many at bs, try-fits g (eqb-true k 26 f) .1 .0))
+    (λ f. if-has (λ (l : List Offered). length l ≤ 4) (eqb k 27) (λ i. omega arith) (λ i. omega arith)))
+
 -- NAMES, kind by kind.
 module _ (start : Bool) (bodies : List ℕ) (k : ℕ) (bs : List ℕ) where
   pub goes-do : k ≡ 20 → goesIn start bodies k bs ≡ u16 bs 2 ∷ []
@@ -118,3 +161,25 @@ module _ (start : Bool) (bodies : List ℕ) (k : ℕ) (bs : List ℕ) where
   goes-none e =
       let h = leb-false 16 k e in
       goes-other (λ f. omega arith) (λ f. omega arith) (λ f. omega arith) (λ f. omega arith)
+
+-- BRANCHES, kind by kind.
+module _ (at k : ℕ) (bs : List ℕ) where
+  pub offered-req : k ≡ 25 → offeredIn at k bs ≡ offered at bs ∷ []
+  unfolding offeredIn
+  offered-req e = rw e
+
+  pub offered-try : k ≡ 26 → offeredIn at k bs ≡ offeredTry at bs
+  unfolding offeredIn
+  offered-try e = rw e
+
+  pub offered-while : k ≡ 27 → offeredIn at k bs ≡ offered (at + 2) (drop 2 bs) ∷ []
+  unfolding offeredIn
+  offered-while e = rw e
+
+  pub offered-other : (k ≡ 25 → ⊥) → (k ≡ 26 → ⊥) → (k ≡ 27 → ⊥) → offeredIn at k bs ≡ []
+  unfolding offeredIn
+  offered-other e f g = rw (ne-eqb k 25 e, ne-eqb k 26 f, ne-eqb k 27 g)
+
+  pub offered-none : acts k ≡ false → offeredIn at k bs ≡ []
+  offered-none e =
+      let h = leb-false 16 k e in offered-other (λ f. omega arith) (λ f. omega arith) (λ f. omega arith)

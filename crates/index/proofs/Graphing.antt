@@ -13,7 +13,8 @@ use Rattle.index.proofs.Records.{On, left, on-all, left-all, left-none,
 use Rattle.index.proofs.Filled.{Fills, Next, fills-length, next-room, next-filled, zeros, zeros-length, zeros-none}
 use Rattle.index.proofs.Filled.{zeros-filled, given-count, given-if}
 use Rattle.index.proofs.Limits.{few-acts, few-goes, runs-count}
-use Rattle.index.proofs.Turns.{acts-turn, goes-turn, from-turn}
+use Rattle.index.proofs.Bodies.{goes-none}
+use Rattle.index.proofs.Turns.{acts-turn, lists-turn, from-turn}
 
 -- The tables of the records rs.
 abbrev ownsOf : List Raw → List ℕ
@@ -94,11 +95,22 @@ module _ {s : List ℕ} {start : Bool} {bodies own times from goes : List ℕ} {
     froms-on : Next (zeros 1_025) 0 (fromsOf start bodies 0 (recordsFrom 0 s)) from actions (given (acts k) ends)
         (fromsOf start bodies (ends + length (goesIn start bodies k bs)) next)
     froms-on =
-        record { fills = rw (here h (x .on) e i, from-turn at k bs next start bodies ends) at (x .froms) }
+        record {
+          fills = rw (
+            here h (x .on) e i,
+            from-turn at k bs next (goesBy start bodies) (goes-none start bodies k bs) ends,
+          ) at (x .froms);
+        }
 
     names-on : Next (zeros 4_096) 0 (namesOf start bodies (recordsFrom 0 s)) goes ends (goesIn start bodies k bs)
         (namesOf start bodies next)
-    names-on = record { fills = rw (here h (x .on) e i, goes-turn at k bs next start bodies) at (x .names) }
+    names-on =
+        record {
+          fills = rw (
+            here h (x .on) e i,
+            lists-turn at k bs next (goesBy start bodies) (goes-none start bodies k bs),
+          ) at (x .names);
+        }
 
     pub from-room : actions + length (given (acts k) ends) ≤ length from
     from-room = next-room froms-on

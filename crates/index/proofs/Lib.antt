@@ -3,10 +3,15 @@ pub mod Filled
 pub mod Bodies
 pub mod Limits
 pub mod Turns
-pub mod Branches
+pub mod Tries
+pub mod Claims
+pub mod Rows
 pub mod Indexing
 pub mod Graphing
+pub mod Branching
 pub mod Runs
 pub mod Gathered
 pub mod Standing
+pub mod Offers
 pub mod Ties
+pub mod BranchTies

@@ -13,9 +13,10 @@ use Rattle.semantics.specs.Decode.{accepted, saw, firstPass, noneSeen}
 use Rattle.promises.specs.Laws.{if-has, AllOf, once, once-self, once-same}
 use Rattle.promises.specs.Passes.{not-accepted, its-row}
 use Rattle.promises.specs.Counted.{limits}
-use Rattle.index.specs.Index.{Act, Readable, given, acts, actsOf, firstsOf, bodiesOf, goesIn, goesBy, runs}
+use Rattle.index.specs.Index.{Act, Readable, Judged, given, acts, actsOf, firstsOf, bodiesOf, goesBy, runs}
+use Rattle.index.specs.Branches.{offeredBy}
 use Rattle.index.proofs.Records.{Fine, fine-all, passed-on}
-use Rattle.index.proofs.Bodies.{goes-few}
+use Rattle.index.proofs.Bodies.{goes-few, offered-few}
 
 -- How many records of a group there are, and how many there may be.
 countIn : ℕ → List Raw → ℕ
@@ -121,18 +122,18 @@ acts-count (raw at k bs ∷ rs) f =
     let t = tells 16 acts rows-act k (f .0 .grouped) 0 in
     omega (arith, if-more (acts k) (record { place = at; kind = k; body = bs }) (actsOf rs), acts-count rs (f .1))
 
-goes-count : (start : Bool) (bodies : List ℕ) (rs : List Raw) → Fine rs →
-    length (collect (goesBy start bodies) (actsOf rs)) ≤ 4 * length (actsOf rs)
+-- the lists that f gives of the actions, if none is longer than 4
+lists-count : {B : Type 0} (f : Act → List B) →
+    ((at k : ℕ) (bs : List ℕ) → Judged k bs → length (f (record { place = at; kind = k; body = bs })) ≤ 4) →
+    (rs : List Raw) → Fine rs → length (collect f (actsOf rs)) ≤ 4 * length (actsOf rs)
 unfolding actsOf
-goes-count start bodies [] f = omega arith
-goes-count start bodies (torn at ∷ rs) f = absurd f
-goes-count start bodies (raw at k bs ∷ rs) f =
-    if-has (λ (l : List Act). length (collect (goesBy start bodies) l) ≤ 4 * length l) (acts k)
-    (λ e.
-    let g : List ℕ = goesIn start bodies k bs in
-    let more : List ℕ = collect (goesBy start bodies) (actsOf rs) in
-    omega (arith, goes-few start bodies k bs (f .0), length-append g more, goes-count start bodies rs (f .1)))
-    (λ e. goes-count start bodies rs (f .1))
+lists-count f h [] g = omega arith
+lists-count f h (torn at ∷ rs) g = absurd g
+lists-count f h (raw at k bs ∷ rs) g =
+    let a : Act = record { place = at; kind = k; body = bs } in
+    if-has (λ (l : List Act). length (collect f l) ≤ 4 * length l) (acts k)
+    (λ e. omega (arith, h at k bs (g .0), length-append (f a) (collect f (actsOf rs)), lists-count f h rs (g .1)))
+    (λ e. lists-count f h rs (g .1))
 
 pub runs-count : {A : Type 0} (f : A → ℕ) (n : ℕ) (xs : List A) → length (runs f n xs) ≡ length xs + 1
 unfolding runs
@@ -156,6 +157,14 @@ module _ (s : List ℕ) (r : Readable s) where
   pub few-acts : length (actsOf (recordsFrom 0 s)) ≤ 1_024
   few-acts = omega (arith, few 16 refl, acts-count (recordsFrom 0 s) fine)
 
+  few-lists : {B : Type 0} (f : Act → List B) →
+      ((at k : ℕ) (bs : List ℕ) → Judged k bs → length (f (record { place = at; kind = k; body = bs })) ≤ 4) →
+      length (collect f (actsOf (recordsFrom 0 s))) ≤ 4_096
+  few-lists f h = omega (arith, lists-count f h (recordsFrom 0 s) fine, few-acts)
+
   pub few-goes : (start : Bool) (bodies : List ℕ) →
       length (collect (goesBy start bodies) (actsOf (recordsFrom 0 s))) ≤ 4_096
-  few-goes start bodies = omega (arith, goes-count start bodies (recordsFrom 0 s) fine, few-acts)
+  few-goes start bodies = few-lists (goesBy start bodies) (λ at k bs j. goes-few start bodies k bs j)
+
+  pub few-offered : length (collect offeredBy (actsOf (recordsFrom 0 s))) ≤ 4_096
+  few-offered = few-lists offeredBy (λ at k bs j. offered-few (at + 4) k bs j)

@@ -101,13 +101,13 @@ module _ (bs : List ℕ) (m : Model) (e : Accepted bs m) where
   loose : gather rs .loose ≡ []
   loose = none-loose noneSeen rs (readable .accepts .0) refl (readable .accepts .1)
 
-  stand : AllOf (Stands bs) (actsOf rs)
+  pub stand : AllOf (Stands bs) (actsOf rs)
   stand = acts-stand bs fine
 
   acts-flat : map entryOf (actsOf rs) ≡ map ACTION xs
   acts-flat = acts-are rs fine ∙ rw (loose, is)
 
-  acts-count : length (actsOf rs) ≡ over length (m .blocks)
+  pub acts-count : length (actsOf rs) ≡ over length (m .blocks)
   acts-count =
       sym (length-map (actsOf rs) entryOf) ∙ ap length acts-flat ∙ length-map xs ACTION ∙ collect-length (λ b. b) (m .blocks)
 
@@ -143,15 +143,16 @@ module _ (bs : List ℕ) (m : Model) (e : Accepted bs m) where
       ∙ ap (over length) (take-all (length (m .blocks)) (m .blocks) (omega arith))
 
   -- action i of block b is one of all the actions
-  flat-at : (b i : ℕ) (x : Action) → getElem? (block m b) i ≡ some x → getElem? xs (getD (indexOf rs .first) b 0 + i) ≡ some x
+  pub flat-at : (b i : ℕ) (x : Action) → getElem? (block m b) i ≡ some x →
+      getElem? xs (getD (indexOf rs .first) b 0 + i) ≡ some x
   flat-at b i x q =
       let h = some-in-some (m .blocks) b i x q in
       rw (first-over b (omega arith)) (collect-some (λ l. l) [] refl (m .blocks) b i x q)
 
-  abbrev Found : ℕ → Action → Type 0
+  abbrev pub Found : ℕ → Action → Type 0
   Found n x = (a : Act) × (getElem? (actsOf rs) n ≡ some a) × (entryOf a ≡ ACTION x)
 
-  act-at : (n : ℕ) (x : Action) → getElem? xs n ≡ some x → Found n x
+  pub act-at : (n : ℕ) (x : Action) → getElem? xs n ≡ some x → Found n x
   act-at n x q = map-some entryOf (actsOf rs) n (ACTION x) (ap (λ l. getElem? l n) acts-flat ∙ some-map ACTION xs n x q)
 
   place-at : (n : ℕ) (a : Act) → getElem? (actsOf rs) n ≡ some a → getD (indexOf rs .place) n 0 ≡ a .place
@@ -196,6 +197,21 @@ module _ (bs : List ℕ) (m : Model) (e : Accepted bs m) where
             (stands-at bs (f .0) x (all-at (Stands bs) (actsOf rs) _ (f .0) stand (f .1)) (f .2));
       }
 
+  -- LISTS that f gives of the actions: how many numbers stand before those of each.
+  module _ {B : Type 0} (f : Act → List B) where
+    lists-count : length (map f (actsOf rs)) ≡ over length (m .blocks)
+    lists-count = length-map (actsOf rs) f ∙ acts-count
+
+    froms-at : (a : ℕ) →
+        getD (pad 1_025 (runs (λ x. length (f x)) 0 (actsOf rs))) a 0 ≡ getD (runs length 0 (map f (actsOf rs))) a 0
+    froms-at a =
+        pad-at 1_025 (runs (λ x. length (f x)) 0 (actsOf rs)) a ∙ ap (λ l. getD l a 0) (runs-map length f 0 (actsOf rs))
+
+    pub froms-over : (a : ℕ) → a ≤ over length (m .blocks) →
+        getD (pad 1_025 (runs (λ x. length (f x)) 0 (actsOf rs))) a 0 ≡ over length (take a (map f (actsOf rs)))
+    froms-over a h =
+        omega (arith, froms-at a, runs-over length 0 (map f (actsOf rs)) a (omega (arith, lists-count)))
+
   -- THE GRAPH, by the classes' bodies that the index has.
   module _ (start : Bool) where
     abbrev bodies : List ℕ
@@ -219,12 +235,11 @@ module _ (bs : List ℕ) (m : Model) (e : Accepted bs m) where
 
     from-at : (a : ℕ) → getD (graph .from) a 0 ≡ getD (runs length 0 names) a 0
     unfolding graphOf
-    from-at a =
-        let f = runs-map length (goesBy start bodies) 0 (actsOf rs) ∙ ap (runs length 0) same-names in
-        pad-at 1_025 (runs (λ a. length (goesBy start bodies a)) 0 (actsOf rs)) a ∙ ap (λ l. getD l a 0) f
+    from-at a = froms-at (goesBy start bodies) a ∙ ap (λ l. getD (runs length 0 l) a 0) same-names
 
     from-over : (a : ℕ) → a ≤ over length (m .blocks) → getD (graph .from) a 0 ≡ over length (take a names)
-    from-over a h = omega (arith, from-at a, runs-over length 0 names a (omega (arith, names-count)))
+    unfolding graphOf
+    from-over a h = froms-over (goesBy start bodies) a h ∙ ap (λ l. over length (take a l)) same-names
 
     same-goes : collect (goesBy start bodies) (actsOf rs) ≡ collect (λ l. l) names
     same-goes = collect-map (goesBy start bodies) (actsOf rs) ∙ ap (collect (λ l. l)) same-names

@@ -11,8 +11,7 @@ use Rattle.semantics.specs.Bytes.{Raw, raw}
 use Rattle.semantics.specs.Decode.{opened}
 use Rattle.promises.specs.Laws.{if-has}
 use Rattle.parts.proofs.Laws.{or-false}
-use Rattle.index.specs.Index.{Act, given, acts, actsOf, goesIn, goesBy, runs, loopsAt, loopsFrom}
-use Rattle.index.proofs.Bodies.{goes-none}
+use Rattle.index.specs.Index.{Act, given, acts, actsOf, runs, loopsAt, loopsFrom}
 
 -- ACTIONS.
 module _ (at k : ℕ) (bs : List ℕ) (rs : List Raw) where
@@ -27,30 +26,26 @@ module _ (at k : ℕ) (bs : List ℕ) (rs : List Raw) where
       go true = refl
       go false = refl
 
-  module _ (start : Bool) (bodies : List ℕ) where
-    pub goes-turn : collect (goesBy start bodies) (actsOf (raw at k bs ∷ rs))
-        ≡ goesIn start bodies k bs ++ collect (goesBy start bodies) (actsOf rs)
+  -- The lists that f gives of the actions, one behind the other, and how many stand before each; of no other record f gives any.
+  module _ {B : Type 0} (f : Act → List B) (none : acts k ≡ false → f act ≡ []) where
+    pub lists-turn : collect f (actsOf (raw at k bs ∷ rs)) ≡ f act ++ collect f (actsOf rs)
     unfolding actsOf
-    goes-turn = go (acts k) (goes-none start bodies k bs)
+    lists-turn = go (acts k) none
       where
-        go : (b : Bool) → (b ≡ false → goesIn start bodies k bs ≡ []) →
-            collect (goesBy start bodies) (if b then act ∷ actsOf rs else actsOf rs)
-            ≡ goesIn start bodies k bs ++ collect (goesBy start bodies) (actsOf rs)
+        go : (b : Bool) → (b ≡ false → f act ≡ []) →
+            collect f (if b then act ∷ actsOf rs else actsOf rs) ≡ f act ++ collect f (actsOf rs)
         go true h = refl
         go false h = rw (h refl)
 
-    pub from-turn : (n : ℕ) → runs (λ a. length (goesBy start bodies a)) n (actsOf (raw at k bs ∷ rs))
-        ≡ given (acts k) n ++ runs (λ a. length (goesBy start bodies a)) (n + length (goesIn start bodies k bs)) (actsOf rs)
+    pub from-turn : (n : ℕ) → runs (λ a. length (f a)) n (actsOf (raw at k bs ∷ rs))
+        ≡ given (acts k) n ++ runs (λ a. length (f a)) (n + length (f act)) (actsOf rs)
     unfolding actsOf runs
-    from-turn n = go (acts k) (goes-none start bodies k bs)
+    from-turn n = go (acts k) none
       where
-        go : (b : Bool) → (b ≡ false → goesIn start bodies k bs ≡ []) →
-            runs (λ a. length (goesBy start bodies a)) n (if b then act ∷ actsOf rs else actsOf rs)
-            ≡ given b n ++ runs (λ a. length (goesBy start bodies a)) (n + length (goesIn start bodies k bs)) (actsOf rs)
+        go : (b : Bool) → (b ≡ false → f act ≡ []) → runs (λ a. length (f a)) n (if b then act ∷ actsOf rs else actsOf rs)
+            ≡ given b n ++ runs (λ a. length (f a)) (n + length (f act)) (actsOf rs)
         go true h = refl
-        go false h =
-            let e : n ≡ n + 0 = omega arith in
-            rw (h refl) (ap (λ m. runs (λ a. length (goesBy start bodies a)) m (actsOf rs)) e)
+        go false h = let e : n ≡ n + 0 = omega arith in rw (h refl) (ap (λ m. runs (λ a. length (f a)) m (actsOf rs)) e)
 
 -- LOOPS.
 pub opened-next : (own k : ℕ) → opened own k ≤ own + 1

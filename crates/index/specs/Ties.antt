@@ -1,22 +1,25 @@
--- What ties the index, the graph and the loops of an accepted file to its model.
+-- What ties the index, the graph, the loops and the branches of an accepted file to its model.
 -- Assumes nothing.
-use Prim.Native.Nat.{ℕ, _+_, _-_, _≤_, _<_}
+use Prim.Native.Nat.{ℕ, _+_, _-_, _*_, _≤_, _<_}
 use mathlib.Core.Path.{_≡_}
 use mathlib.Core.List.{List, [], _∷_, map}
-use mathlib.Core.Bool.{Bool}
+use mathlib.Core.Bool.{Bool, true}
 use mathlib.Core.Option.{some}
 use lib.ListN.{length, getD, take, drop, getElem?}
 use lib.Seq.{slice}
-use Rattle.semantics.specs.Words.{collect}
+use Rattle.semantics.specs.Words.{collect, all}
 use Rattle.semantics.specs.Model.{Action, HOLD, PRIO, TRACE, SET, LSET, DO, PUTR, PUTB, PUTS, BECOME, REQ, TRY, WHILE, START}
 use Rattle.semantics.specs.Model.{CLOSE, Model, block, body}
 use Rattle.semantics.specs.Bytes.{u16}
-use Rattle.semantics.specs.Record.{ACTION, rowOf}
+use Rattle.semantics.specs.Record.{item, partValid, partsOf, claimIn, ACTION, rowOf}
+use Rattle.semantics.specs.Claim.{enterBlock, Offer}
 use Rattle.semantics.specs.Bound.{ownWeight}
 use Rattle.promises.specs.Laws.{over}
 use Rattle.index.specs.Index.{Judged, given}
+use Rattle.index.specs.Branches.{namedIn}
 use Rattle.index.specs.declared.Index.{Index}
 use Rattle.index.specs.declared.Graph.{Graph}
+use Rattle.index.specs.declared.Branches.{Branches}
 
 -- How many times an action weighs what it names, and the blocks that it names: of a START the body of its class, if `start`.
 abbrev pub timesOf : Action → ℕ
@@ -94,3 +97,25 @@ pub record GraphTies (m : Model) (start : Bool) (first : List ℕ) (g : Graph) :
       ≡ collect (goesOf start m) (block m b)
   pub rising : (a : ℕ) → a < over length (m .blocks) → getD (g .from) a 0 ≤ getD (g .from) (a + 1) 0
   pub from-few : (a : ℕ) → getD (g .from) a 0 ≤ 4_096
+
+-- At byte p stands the claim of the offer o, whole and valid, with the block that it enters, if it enters one, right before it.
+pub record ClaimAt (bs : List ℕ) (p : ℕ) (o : Offer) : Type 0 where
+  pub behind : 2 ≤ p
+  pub inside : p + (2 + 8 * u16 bs p) ≤ length bs
+  pub items-few : u16 bs p ≤ 4
+  pub items-valid : all (partValid item) (partsOf item (drop p bs)) ≡ true
+  pub claim-is : claimIn (drop p bs) ≡ o .claim
+  pub enters : (b : ℕ) → o .andThen ≡ enterBlock b → u16 bs (p - 2) ≡ b
+
+-- The n-th of the branches r is the offer o.
+pub record BranchAt (bs : List ℕ) (r : Branches) (n : ℕ) (o : Offer) : Type 0 where
+  pub claim-at : ClaimAt bs (getD (r .claim) n 0) o
+  pub resources-are : getD (r .resources) n 0 ≡ namedIn 0 (drop (getD (r .claim) n 0) bs)
+  pub bins-are : getD (r .bins) n 0 ≡ namedIn 1 (drop (getD (r .claim) n 0) bs)
+  pub syncs-are : getD (r .syncs) n 0 ≡ namedIn 2 (drop (getD (r .claim) n 0) bs)
+
+-- The branches of action a are the offers os.
+pub record BranchesAt (bs : List ℕ) (r : Branches) (a : ℕ) (os : List Offer) : Type 0 where
+  pub from-few : getD (r .from) a 0 + length os ≤ 4_096
+  pub to-is : getD (r .from) (a + 1) 0 ≡ getD (r .from) a 0 + length os
+  pub each : (k : ℕ) (o : Offer) → getElem? os k ≡ some o → BranchAt bs r (getD (r .from) a 0 + k) o

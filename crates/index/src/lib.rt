@@ -1,6 +1,7 @@
 // What the rest of the engine reads an accepted model file by: where its blocks, classes and actions stand, which blocks each
-// action names, and whether it may loop.
+// action names, whether it may loop, and the branches of each REQ, TRY and WHILE.
 ghost use mathlib.Core.Path.{_≡_};
+ghost use mathlib.Core.List.{[], _∷_};
 ghost use Prim.Native.Nat.{_+_, _≤_, _<_};
 ghost use lib.Dec.{leb, eqb};
 ghost use lib.ListN.{length, getD};
@@ -9,6 +10,8 @@ ghost use Rattle.semantics.specs.Bytes.{u16, spans, recordsFrom};
 ghost use Rattle.semantics.specs.Decode.{opened};
 ghost use Rattle.index.specs.Index.{Readable, Judged, given, Wrote, indexOf, ownIn, timesIn, branchBlocks, Branched};
 ghost use Rattle.index.specs.Index.{goesIn, graphOf, loopsAt, loopsIn};
+ghost use Rattle.index.specs.Branches.{bitOf, namedIn, Claimed, offered, offeredTry, offeredIn, rows, Roomy, Noted};
+ghost use Rattle.index.specs.Branches.{Tried, branchesOf};
 
 // `first[b]` actions stand before block b, and `first[blocks]` is how many there are; the record of action a stands at byte
 // `place[a]`; the body block of class c is `body[c]`. What is not used is 0.
@@ -28,6 +31,17 @@ pub struct Graph {
     pub times: [u16; 1024],
     pub from: [u16; 1025],
     pub goes: [u16; 4096],
+}
+
+// `from[a]` branches stand before action a, and `from[actions]` is how many there are. The claim of branch n stands at byte
+// `claim[n]`; bit i of `resources[n]`, of `bins[n]` and of `syncs[n]` is set where it names resource, bin or sync i. What is
+// not used is 0.
+pub struct Branches {
+    pub from: [u16; 1025],
+    pub claim: [u16; 4096],
+    pub resources: [u32; 4096],
+    pub bins: [u32; 4096],
+    pub syncs: [u32; 4096],
 }
 
 // The own weights of the kinds 16 to 30.
@@ -204,6 +218,156 @@ pub fn graph_of(s: &[u8], start: bool, body: [u16; 64]) -> Graph
         times: times,
         from: from,
         goes: goes,
+    }
+}
+
+// ---- the branches
+
+// The bit of the thing that an item names, if it is of kind j: 0 a resource, 1 a bin, 2 a sync.
+fn bit(j: u32, s: &[u8]) -> u32
+    requires { ⌜ 8 ≤ length (now s) ⌝ }
+    ensures { λ r. ⌜ r ≡ bitOf j (now (s .entry)) ⌝ }
+{
+    let number = fields::u16_at(s, 2);
+    if (fields::u8_at(s, 0) == j) & (number < 32) {
+        return 1u32 << number;
+    }
+    0
+}
+
+// The bits of the things of kind j that a claim names.
+fn names(j: u32, s: &[u8]) -> u32
+    requires { ⌜ Claimed (now s) ⌝ }
+    ensures { λ r. ⌜ r ≡ namedIn j (now (s .entry)) ⌝ }
+{
+    let mut left = fields::u16_at(s, 0);
+    let mut rest = &s[2..];
+    let mut found = 0;
+    while 0 < left {
+        found = found | bit(j, rest);
+        rest = &rest[8..];
+        left = left - 1;
+    }
+    found
+}
+
+// A branch whose claim is s, at byte `at`, written at n of the rows; and where the next is written.
+fn branch_noted(
+    at: u16,
+    s: &[u8],
+    n: usize,
+    claim: &mut [u16],
+    resources: &mut [u32],
+    bins: &mut [u32],
+    syncs: &mut [u32],
+) -> usize
+    requires { ⌜ Claimed (now s) ⌝ }
+    requires { ⌜ Roomy (n + 1) (rows (now claim) (now resources) (now bins) (now syncs)) ⌝ }
+    ensures { λ r. ⌜ Noted n (offered at (now (s .entry)) ∷ [])
+        (rows (now (claim .entry)) (now (resources .entry)) (now (bins .entry)) (now (syncs .entry))) r
+        (rows (now (claim .exit)) (now (resources .exit)) (now (bins .exit)) (now (syncs .exit))) ⌝ }
+{
+    claim[n] = at;
+    resources[n] = names(0, s);
+    bins[n] = names(1, s);
+    syncs[n] = names(2, s);
+    n + 1
+}
+
+// The branches of a TRY, whose body bs begins at byte `at`, written at n of the rows; and where the next is written.
+fn try_noted(
+    at: usize,
+    bs: &[u8],
+    n: usize,
+    claim: &mut [u16],
+    resources: &mut [u32],
+    bins: &mut [u32],
+    syncs: &mut [u32],
+) -> usize
+    requires { ⌜ Tried at (now bs) n (rows (now claim) (now resources) (now bins) (now syncs)) ⌝ }
+    ensures { λ r. ⌜ Noted n (offeredTry at (now (bs .entry)))
+        (rows (now (claim .entry)) (now (resources .entry)) (now (bins .entry)) (now (syncs .entry))) r
+        (rows (now (claim .exit)) (now (resources .exit)) (now (bins .exit)) (now (syncs .exit))) ⌝ }
+{
+    let mut left = fields::u16_at(bs, 0);
+    let mut rest = &bs[2..];
+    let mut here = at + 2;
+    let mut next = n;
+    while 0 < left {
+        let size = 4 + 8 * (fields::u16_at(rest, 2) as usize);
+        let place = (here + 2) as u16;
+        next = branch_noted(place, &rest[2..size], next, claim, resources, bins, syncs);
+        here = here + size;
+        rest = &rest[size..];
+        left = left - 1;
+    }
+    next
+}
+
+// The branches of a record, whose body bs begins at byte `at`, written at n of the rows; and where the next is written.
+fn branches_noted(
+    kind: u32,
+    at: usize,
+    bs: &[u8],
+    n: usize,
+    claim: &mut [u16],
+    resources: &mut [u32],
+    bins: &mut [u32],
+    syncs: &mut [u32],
+) -> usize
+    requires { ⌜ Judged kind (now bs) ⌝ }
+    requires { ⌜ at + length (now bs) ≤ 65535 ⌝ }
+    requires { ⌜ Roomy (n + length (offeredIn at kind (now bs))) (rows (now claim) (now resources) (now bins) (now syncs)) ⌝ }
+    ensures { λ r. ⌜ Noted n (offeredIn at kind (now (bs .entry)))
+        (rows (now (claim .entry)) (now (resources .entry)) (now (bins .entry)) (now (syncs .entry))) r
+        (rows (now (claim .exit)) (now (resources .exit)) (now (bins .exit)) (now (syncs .exit))) ⌝ }
+{
+    match kind {
+        25 => branch_noted(at as u16, bs, n, claim, resources, bins, syncs),
+        26 => try_noted(at, bs, n, claim, resources, bins, syncs),
+        27 => branch_noted((at + 2) as u16, &bs[2..], n, claim, resources, bins, syncs),
+        _ => n,
+    }
+}
+
+// The branches of a file that the first pass accepts.
+pub fn branches_of(s: &[u8]) -> Branches
+    requires { ⌜ Readable (now s) ⌝ }
+    ensures { λ r. ⌜ r ≡ branchesOf (recordsFrom 0 (now (s .entry))) ⌝ }
+{
+    let mut from = [0u16; 1025];
+    let mut claim = [0u16; 4096];
+    let mut resources = [0u32; 4096];
+    let mut bins = [0u32; 4096];
+    let mut syncs = [0u32; 4096];
+    let mut actions = 0;
+    let mut ends = 0;
+    let mut rest = s;
+    while 0 < rest.len() {
+        let size = span(rest);
+        let kind = fields::u16_at(rest, 2);
+        let at = s.len() - rest.len() + 4;
+        let bs = &rest[4..size];
+        actions = noted(16 <= kind, ends as u16, actions, &mut from);
+        ends = branches_noted(
+            kind,
+            at,
+            bs,
+            ends,
+            &mut claim,
+            &mut resources,
+            &mut bins,
+            &mut syncs,
+        );
+        rest = &rest[size..];
+    }
+    from[actions] = ends as u16;
+    Branches {
+        from: from,
+        claim: claim,
+        resources: resources,
+        bins: bins,
+        syncs: syncs,
     }
 }
 

@@ -5,7 +5,7 @@ use borrow.Author.Needs.{needs}
 use mathlib.Core.Bool.{true}
 use mathlib.Core.Path.{_≡_, ap}
 use native.Mathlib.Omega.{arith}
-use Rattle.index.proofs.Branches.{blocksFrom, blocks-none, fit-four, fit-size, fit-turn, blocks-turn, turned}
+use Rattle.index.proofs.Tries.{blocksFrom, blocks-none, fit-four, fit-size, fit-turn, blocks-turn, turned}
 use Rattle.index.proofs.Filled.{Fills, fills-none, fills-length, next-room, next-filled, fills-end}
 use Rattle.index.proofs.branches_named.Statement.{statement}
 use Rattle.index.proofs.branches_named.Tie as tie

@@ -1,0 +1,4 @@
+pub mod Laying
+pub mod Rows
+pub mod Masks
+pub mod Mapped
