@@ -1,0 +1,3 @@
+pub mod Grant
+pub mod Standing
+pub mod Wants

@@ -1,0 +1,4 @@
+pub mod Words
+pub mod Row
+pub mod Standing
+pub mod Claiming
