@@ -1,0 +1,7 @@
+pub mod Reading
+pub mod Going
+pub mod Visiting
+pub mod Turns
+pub mod Returning
+pub mod Passing
+pub mod Becoming

@@ -1,0 +1,103 @@
+-- What is read of the work and of the map, and a line that is written. Assumes nothing.
+use Prim.Native.Nat.{ℕ, _+_, _*_, _≤_, _<_}
+use native.Mathlib.Omega.{arith}
+use mathlib.Core.Path.{_≡_, refl, sym, _∙_, ap}
+use mathlib.Core.List.{List, [], _∷_, map}
+use mathlib.Core.Bool.{not}
+use mathlib.Core.Option.{some}
+use lib.Dec.{eqb}
+use lib.ListN.{length, getD, getElem?}
+use lib.Seq.{sets}
+use lib.IntN.{pos}
+use Rattle.semantics.specs.Numbers as No
+use Rattle.semantics.specs.Model.{Branch, Action, HOLD, PRIO, TRACE, SET, LSET, DO, PUTR, PUTB, PUTS, BECOME, REQ, TRY, WHILE}
+use Rattle.semantics.specs.Model.{START, CLOSE}
+use Rattle.semantics.specs.Bytes.{u16}
+use Rattle.semantics.specs.State.{State}
+use Rattle.semantics.specs.Claim.{Offer, enterBlock, offers}
+use Rattle.semantics.specs.Walk.{line}
+use Rattle.semantics.specs.Journal.{lineBytes}
+use Rattle.promises.specs.Laws.{AllOf, all-get, all-at}
+use Rattle.number.specs.Code.{valueOf}
+use Rattle.number.specs.Laws.{code-stands, valueOf-code}
+use Rattle.journal.specs.Wrote.{wroteAt}
+use Rattle.acts.specs.Kinds.{kind-of}
+use Rattle.work.specs.Shown.{work-long, bins-at}
+use Rattle.work.specs.Head.{clock-at}
+use Rattle.work.specs.Blocked.{blocked-count}
+use Rattle.process.specs.Process.{Shown}
+use Rattle.grant.specs.Grant.{intoBlock}
+use Rattle.walk.specs.Walking.{AtAction, enteredBy}
+
+-- A WORK that shows a state.
+module _ {w : List ℕ} {P : State → Type 0} (v : Shown w P) where
+  pub is-long : length w ≡ 10_696
+  is-long = ap length (v .shows) ∙ work-long (v .is) (v .sized)
+
+  pub clock-is : getD w 0 0 ≡ v .is .clock
+  clock-is = ap (λ l. getD l 0 0) (v .shows) ∙ clock-at (v .is)
+
+  pub clock-low : getD w 0 0 ≤ No.latest
+  clock-low = rw clock-is (v .sized .clock-low)
+
+  pub count-is : getD w 6 0 ≡ length (v .is .blocked)
+  count-is = ap (λ l. getD l 6 0) (v .shows) ∙ blocked-count (v .is)
+
+  pub count-low : getD w 6 0 ≤ 64
+  count-low = rw count-is (v .sized .blocked-ok .few)
+
+-- It has a bin i.
+module _ {w : List ℕ} {i : ℕ} (v : Shown w (λ s. i < length (s .bins))) where
+  pub bin-in : 40 + i < length w
+  bin-in = omega (arith, is-long v, v .given, v .sized .bins-few)
+
+  pub bin-is : getD w (40 + i) 0 ≡ getD (v .is .bins) i 0
+  bin-is = ap (λ l. getD l (40 + i) 0) (v .shows) ∙ bins-at (v .is) (v .sized) i (v .given)
+
+  pub bin-low : getD w (40 + i) 0 ≤ No.fullBin
+  bin-low = rw bin-is (all-get (λ x. x ≤ No.fullBin) (v .is .bins) i 0 (v .sized .bins-low) (omega arith))
+
+-- A LINE of it, whose value is a natural number.
+natural : (i : ℕ) → i < 2_147_483_648 → valueOf (2_147_483_648 + i) ≡ pos i
+natural i l = ap valueOf (sym (code-stands (pos i) (2_147_483_648 + i) refl)) ∙ valueOf-code (pos i) l
+
+pub noted : (at : ℕ) (out : List ℕ) (s : State) (c n k i : ℕ) → c ≡ s .clock → i < 2_147_483_648
+    → sets out (16 * at) (lineBytes (record { time = c; process = n; kind = k; value = valueOf (2_147_483_648 + i) }))
+    ≡ wroteAt at (line s n k (pos i) ∷ []) out
+unfolding wroteAt
+noted at out s c n k i e l =
+    ap
+    (λ t. sets out (16 * at) (lineBytes (record { time = t; process = n; kind = k; value = valueOf (2_147_483_648 + i) }))) e
+    ∙ ap (λ u. sets out (16 * at) (lineBytes (line s n k u))) (natural i l)
+
+-- AN ACTION of the map, by its kind;
+pub entered : {bs row : List ℕ} {a : ℕ} (v : AtAction bs row a) (place kind : ℕ) → place ≡ getD row (257 + a) 0
+    → kind ≡ u16 bs (place + 2) → not (eqb kind 25) ≡ enteredBy (v .action)
+entered {bs} v place kind e f = ap (λ n. not (eqb n 25)) (f ∙ ap (λ q. u16 bs (q + 2)) e ∙ kind-of (v .there))
+
+-- so each of its branches enters a block, or none does.
+branches-enter : (us bs : List Branch)
+    → AllOf (λ o. enteredBy (TRY us) ≡ intoBlock (o .andThen))
+    (map {B = Offer} (λ b. record { claim = b .claim; andThen = enterBlock (b .block) }) bs)
+branches-enter us [] = tt
+branches-enter us (b ∷ bs) = (refl, branches-enter us bs)
+
+offers-enter : (x : Action) → AllOf (λ o. enteredBy x ≡ intoBlock (o .andThen)) (offers x)
+offers-enter (HOLD e) = tt
+offers-enter (PRIO e) = tt
+offers-enter (TRACE e) = tt
+offers-enter (SET i e) = tt
+offers-enter (LSET i e) = tt
+offers-enter (DO n b) = tt
+offers-enter (PUTR i n) = tt
+offers-enter (PUTB i n) = tt
+offers-enter (PUTS i n) = tt
+offers-enter (BECOME i) = tt
+offers-enter (REQ c) = (refl, tt)
+offers-enter (TRY bs) = branches-enter bs bs
+offers-enter (WHILE b c) = (refl, tt)
+offers-enter (START c t h) = tt
+offers-enter CLOSE = tt
+
+pub offer-enters : (x : Action) (i : ℕ) (o : Offer) → getElem? (offers x) i ≡ some o → enteredBy x ≡ intoBlock (o .andThen)
+offer-enters x i o e = all-at (λ o. enteredBy x ≡ intoBlock (o .andThen)) (offers x) i o (offers-enter x) e
