@@ -55,7 +55,7 @@ unfolding rowOf
 tail-27 = refl
 
 module _ {k : ℕ} {bs : List ℕ} (g : Judged k bs) where
-  head-at : {j h : ℕ} → rowOf j .head ≡ h → k ≡ j → h ≤ length bs
+  pub head-at : {j h : ℕ} → rowOf j .head ≡ h → k ≡ j → h ≤ length bs
   head-at i e = omega (arith, sized-by (rowOf k) bs (g .body-judged) .head-there, i, ap (λ x. rowOf x .head) e)
 
   pub class-head : k ≡ 5 → 2 ≤ length bs

@@ -74,11 +74,11 @@ shows k bs j =
     (ap (λ x. eqb x 6) (r .1) ∙ r .0 .1 .0, ap (λ x. given (eqb x 5) (u16 bs 0)) (r .1) ∙ r .0 .1 .1))
 
 -- What the records make, one by one: opened by these two alone, since `gather` opens the whole table.
-gather-none : gather [] ≡ record { model = noModel; loose = [] }
+pub gather-none : gather [] ≡ record { model = noModel; loose = [] }
 unfolding gather
 gather-none = refl
 
-gather-more : (at k : ℕ) (bs : List ℕ) (rs : List Raw) → gather (raw at k bs ∷ rs) ≡ adds (gather rs) (rowOf k .says bs)
+pub gather-more : (at k : ℕ) (bs : List ℕ) (rs : List Raw) → gather (raw at k bs ∷ rs) ≡ adds (gather rs) (rowOf k .says bs)
 unfolding gather
 gather-more at k bs rs = refl
 

@@ -21,7 +21,7 @@ module _ (m : Model) (t : Fit m) where
   abbrev Dead : Process → Type 0
   Dead q = al (q .frames) ≡ 0
 
-  bare-sound : Sound m (bare m)
+  pub bare-sound : Sound m (bare m)
   bare-sound =
       record {
         places-64 = length-replicate No.places nobody;
@@ -57,7 +57,7 @@ module _ (m : Model) (t : Fit m) where
       }
 
   -- The entities that are left are no more than the numbers and the places that are left.
-  begin-all-sound :
+  pub begin-all-sound :
       (es : List Entity) (s : State) → AllOf (EntityFit m) es → s .clock ≡ 0 → s .last + length es ≤ No.places
       → livingIn (s .processes) + length es ≤ No.places → Sound m s → Sound m (beginAll m es s)
   unfolding beginAll begin wake

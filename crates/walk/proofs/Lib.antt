@@ -5,3 +5,4 @@ pub mod Turns
 pub mod Returning
 pub mod Passing
 pub mod Becoming
+pub mod Setting

@@ -8,7 +8,7 @@ use lib.Dec.{eqb}
 use lib.ListN.{length, getD, getElem?, take}
 use lib.IntN.{pos}
 use Rattle.semantics.specs.Numbers as No
-use Rattle.semantics.specs.Model.{Action, Model}
+use Rattle.semantics.specs.Model.{Expr, Action, SET, Model}
 use Rattle.semantics.specs.State.{State, Notice, process, wake}
 use Rattle.semantics.specs.Claim.{Offer, asks, Choice, waits, goes, choice, grant}
 use Rattle.semantics.specs.Walk.{Next, Line, line, quiet, after}
@@ -18,12 +18,14 @@ use Rattle.promises.specs.Sound.{gives, NoticeOk, Held}
 use Rattle.journal.specs.Wrote.{wroteAt}
 use Rattle.index.specs.Ties.{ActionAt}
 use Rattle.acts.specs.Kinds.{kindOf}
+use Rattle.acts.specs.Bodies.{ReadsExpression}
 use Rattle.work.specs.Work.{workOf, FloorSized}
 use Rattle.work.specs.Sized.{Rounds}
 use Rattle.map.specs.Map.{OfferAt, Mapped}
 use Rattle.lists.specs.Lists.{unblocked}
 use Rattle.grant.specs.Grant.{intoBlock}
 use Rattle.grant.specs.Standing.{placeAt}
+use Rattle.acting.specs.Acting.{Acting}
 
 -- A run in the middle of a step that walks: w shows its state, and map and bs are its model's.
 pub record Walking (bs map w : List ℕ) : Type 0 where
@@ -106,3 +108,9 @@ visits m (suc n) k s =
       | waits ↦ visits m n (suc k) s
       | goes i o ↦ after (grantedLine s k i) (visits m n k (went k o s))
     ]
+
+-- The process in place p, on the floor, sets variable i to the value of the expression in `body`.
+pub record Setting (body bs map w : List ℕ) (p i : ℕ) : Type 0 where
+  pub expression : Expr
+  pub reads : ReadsExpression body expression
+  pub acting : Acting bs map w p (SET i expression)

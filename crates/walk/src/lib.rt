@@ -7,14 +7,14 @@ ghost use lib.IntN.{pos};
 ghost use Rattle.semantics.specs.Model.{BECOME};
 ghost use Rattle.semantics.specs.State.{process, returnsR, returnsB, empty, with-floor};
 ghost use Rattle.semantics.specs.Walk.{line, walk};
-ghost use Rattle.semantics.specs.Step.{become, occurs};
+ghost use Rattle.semantics.specs.Step.{setGlobal, become, occurs};
 ghost use Rattle.journal.specs.Wrote.{wroteAt};
 ghost use Rattle.work.specs.Work.{workOf, Doing, Done};
 ghost use Rattle.process.specs.Process.{Shown};
 ghost use Rattle.lists.specs.Lists.{Any};
 ghost use Rattle.acting.specs.Acting.{Acting, Roomy, Stepped};
 ghost use Rattle.walk.specs.Walking.{Walking, Returning, Walked, Visiting, chooses, went, Visited, Going};
-ghost use Rattle.walk.specs.Walking.{AtAction, enteredBy};
+ghost use Rattle.walk.specs.Walking.{AtAction, enteredBy, Setting};
 use acting::Went;
 
 // ---- what is read
@@ -272,5 +272,39 @@ pub fn become_slave<'a>(
     Went {
         fault: 0,
         lines: lines + 1,
+    }
+}
+
+// Variable i becomes the value of the expression in `body`.
+pub fn set_global<'a>(
+    body: &'a [u8],
+    i: usize,
+    s: &'a [u8],
+    map: &'a [u32],
+    w: &'a mut [u64],
+    out: &'a mut [u8],
+    at: usize,
+    p: usize,
+) -> Went
+    requires { ⌜ Setting (now body) (now s) (now map) (now w) p i ⌝ }
+    requires { ⌜ Roomy at (now out) ⌝ }
+    ensures { λ r. ⌜ ((v : Setting (now (body .entry)) (now (s .entry)) (now (map .entry)) (now (w .entry)) p i)
+        → Stepped (setGlobal (v .acting .running .model) (v .acting .running .is) p
+        (process (v .acting .running .is) p) i (v .expression)) (r .fault) (r .lines)
+        (now (w .entry)) (now (w .exit)) at (now (out .entry)) (now (out .exit))) ⌝ }
+{
+    let value = alone::value_in(body, w, p);
+    if !value.ok {
+        return Went {
+            fault: 21,
+            lines: 0,
+        };
+    }
+    process::past(w, p);
+    set_at(w, 72 + i, value.code as u64);
+    let lines = walk(s, map, w, out, at);
+    Went {
+        fault: 0,
+        lines: lines,
     }
 }

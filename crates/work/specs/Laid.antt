@@ -21,7 +21,7 @@ Wide [] (n ∷ ns) = ⊥
 Wide (x ∷ xs) [] = ⊥
 Wide (x ∷ xs) (n ∷ ns) = (length x ≡ n) × Wide xs ns
 
-set-append-add : {A : Type 0} (xs ys : List A) (n : ℕ) (a : A) → set (xs ++ ys) (length xs + n) a ≡ xs ++ set ys n a
+pub set-append-add : {A : Type 0} (xs ys : List A) (n : ℕ) (a : A) → set (xs ++ ys) (length xs + n) a ≡ xs ++ set ys n a
 set-append-add [] ys n a = let e : 0 + n ≡ n = omega arith in ap (λ j. set ys j a) e
 set-append-add (x ∷ xs) ys n a =
     let e : suc (length xs) + n ≡ suc (length xs + n) = omega arith in

@@ -7,4 +7,5 @@ pub mod Codes
 pub mod Events
 pub mod Blocked
 pub mod Waiting
+pub mod Places
 pub mod Sized

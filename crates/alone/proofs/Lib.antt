@@ -1,0 +1,6 @@
+pub mod Running
+pub mod Values
+pub mod Outcomes
+pub mod Between
+pub mod Steps
+pub mod Leaving

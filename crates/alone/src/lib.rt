@@ -1,0 +1,309 @@
+// The actions of a process that touch only itself and the event list.
+ghost use mathlib.Core.Path.{_≡_};
+ghost use mathlib.Core.List.{[], _∷_};
+ghost use Prim.Native.Nat.{_+_, _*_, _≤_, _<_};
+ghost use lib.ListN.{length, getD};
+ghost use Rattle.semantics.specs.Model.{HOLD, PRIO, TRACE, LSET, DO, PUTR, PUTB, CLOSE};
+ghost use Rattle.semantics.specs.State.{process, put, empty, with-floor, with-frames, now-closed};
+ghost use Rattle.semantics.specs.Value.{eval};
+ghost use Rattle.semantics.specs.Walk.{line};
+ghost use Rattle.semantics.specs.Step.{hold, prio, setLocal, doTimes, putr, putb, trace, close, comesBack, leave};
+ghost use Rattle.semantics.specs.Step.{ends, exhausted};
+ghost use Rattle.number.specs.Code.{valueOf, outcomeOf};
+ghost use Rattle.journal.specs.Wrote.{wroteAt};
+ghost use Rattle.work.specs.Work.{workOf, Doing, Done};
+ghost use Rattle.process.specs.Process.{Shown, changed};
+ghost use Rattle.lists.specs.Lists.{Any};
+ghost use Rattle.acting.specs.Acting.{Roomy, Stepped};
+ghost use Rattle.alone.specs.Alone.{On, made, runs, Valued, Told, Exhausted, Ends, Leaves, Back, SteppedQuietly};
+use acting::Went;
+use number::Value;
+
+// The code of 0, and that of the lowest priority.
+const ZERO: u32 = 2147483648;
+
+const LOWEST: u32 = 2147473648;
+
+// ---- what is read
+
+fn clock_of(w: &[u64]) -> u64
+    requires { ⌜ Shown (now w) Any ⌝ }
+    ensures { λ r. ⌜ ((v : Shown (now (w .entry)) Any) → r ≡ v .is .clock) × (r ≤ 2000000000) ⌝ }
+{
+    w[0]
+}
+
+// The value of the expression in `body`, for the process in place p.
+pub fn value_in<'a>(body: &'a [u8], w: &'a [u64], p: usize) -> Value
+    requires { ⌜ Valued (now body) (now w) p ⌝ }
+    ensures { λ r. ⌜ ((v : Valued (now (body .entry)) (now (w .entry)) p)
+        → outcomeOf r ≡ eval (v .running .is) (process (v .running .is) p) (v .expression)) ⌝ }
+{
+    let clock = clock_of(w) as u32;
+    let from = 2508 + 128 * p;
+    let to = from + 8;
+    value::evaluate(body, &w[72..104], &w[from..to], clock)
+}
+
+// ---- what is changed, or written
+
+// Nobody has the floor.
+fn leave_floor(w: &mut [u64])
+    requires { ⌜ Doing (now w) Any (λ s. with-floor s empty) ⌝ }
+    ensures { λ _. ⌜ Done (now (w .entry)) Any (λ s. with-floor s empty) (now (w .exit)) ⌝ }
+{
+    w[3] = 0;
+}
+
+fn set_closed(w: &mut [u64])
+    requires { ⌜ Doing (now w) Any now-closed ⌝ }
+    ensures { λ _. ⌜ Done (now (w .entry)) Any now-closed (now (w .exit)) ⌝ }
+{
+    w[1] = 1;
+}
+
+// A line of the process in place p.
+fn note<'a>(w: &'a [u64], p: usize, out: &'a mut [u8], at: usize, kind: u32, value: u32)
+    requires { ⌜ Shown (now w) (λ _. p < 64) × ((16 * at + 16 ≤ length (now out)) × (kind < 65536)) ⌝ }
+    ensures { λ _. ⌜ ((v : Shown (now (w .entry)) (λ _. p < 64)) → now (out .exit)
+        ≡ wroteAt at (line (v .is) (process (v .is) p .number) kind (valueOf value) ∷ []) (now (out .entry))) ⌝ }
+{
+    let clock = clock_of(w) as u32;
+    let number = process::number_of(w, p) as u32;
+    journal::write_line(out, at, kind, clock, number, value);
+}
+
+// ---- actions
+
+pub fn hold<'a>(body: &'a [u8], w: &'a mut [u64], p: usize) -> Went
+    requires { ⌜ Told (now body) (now w) p HOLD ⌝ }
+    ensures { λ r. ⌜ ((v : Told (now (body .entry)) (now (w .entry)) p HOLD)
+        → SteppedQuietly (made (v .on .running) p (λ m s q. hold m s p q (v .expression)))
+        (r .fault) (r .lines) (now (w .entry)) (now (w .exit))) ⌝ }
+{
+    let value = value_in(body, w, p);
+    if !value.ok {
+        return Went {
+            fault: 21,
+            lines: 0,
+        };
+    }
+    if value.code < ZERO {
+        return Went {
+            fault: 22,
+            lines: 0,
+        };
+    }
+    let time = clock_of(w) + (value.code - ZERO) as u64;
+    if 2000000000 < time {
+        return Went {
+            fault: 23,
+            lines: 0,
+        };
+    }
+    process::past(w, p);
+    leave_floor(w);
+    lists::wake(w, time, p);
+    Went { fault: 0, lines: 0 }
+}
+
+pub fn prio<'a>(body: &'a [u8], w: &'a mut [u64], p: usize) -> Went
+    requires { ⌜ Told (now body) (now w) p PRIO ⌝ }
+    ensures { λ r. ⌜ ((v : Told (now (body .entry)) (now (w .entry)) p PRIO)
+        → SteppedQuietly (made (v .on .running) p (λ m s q. prio m s p q (v .expression)))
+        (r .fault) (r .lines) (now (w .entry)) (now (w .exit))) ⌝ }
+{
+    let value = value_in(body, w, p);
+    if !value.ok {
+        return Went {
+            fault: 21,
+            lines: 0,
+        };
+    }
+    let code = number::greater(LOWEST, value.code);
+    process::past(w, p);
+    process::set_priority(w, p, code as u64);
+    Went { fault: 0, lines: 0 }
+}
+
+pub fn set_local<'a>(body: &'a [u8], i: usize, w: &'a mut [u64], p: usize) -> Went
+    requires { ⌜ Told (now body) (now w) p (LSET i) ⌝ }
+    ensures { λ r. ⌜ ((v : Told (now (body .entry)) (now (w .entry)) p (LSET i))
+        → SteppedQuietly (made (v .on .running) p (λ m s q. setLocal m s p q i (v .expression)))
+        (r .fault) (r .lines) (now (w .entry)) (now (w .exit))) ⌝ }
+{
+    let value = value_in(body, w, p);
+    if !value.ok {
+        return Went {
+            fault: 21,
+            lines: 0,
+        };
+    }
+    process::past(w, p);
+    process::set_local(w, p, i, value.code as u64);
+    Went { fault: 0, lines: 0 }
+}
+
+pub fn do_times(n: u64, b: u64, w: &mut [u64], p: usize) -> Went
+    requires { ⌜ On (now w) p (DO n b) ⌝ }
+    ensures { λ r. ⌜ ((v : On (now (w .entry)) p (DO n b)) → SteppedQuietly (made (v .running) p (λ m s q. doTimes m s p q n b))
+        (r .fault) (r .lines) (now (w .entry)) (now (w .exit))) ⌝ }
+{
+    if n == 0 {
+        process::past(w, p);
+        return Went { fault: 0, lines: 0 };
+    }
+    process::into(w, p, n, b);
+    Went { fault: 0, lines: 0 }
+}
+
+pub fn trace<'a>(body: &'a [u8], w: &'a mut [u64], out: &'a mut [u8], at: usize, p: usize) -> Went
+    requires { ⌜ Told (now body) (now w) p TRACE ⌝ }
+    requires { ⌜ Roomy at (now out) ⌝ }
+    ensures { λ r. ⌜ ((v : Told (now (body .entry)) (now (w .entry)) p TRACE)
+        → Stepped (made (v .on .running) p (λ m s q. trace m s p q (v .expression)))
+        (r .fault) (r .lines) (now (w .entry)) (now (w .exit)) at (now (out .entry)) (now (out .exit))) ⌝ }
+{
+    let value = value_in(body, w, p);
+    if !value.ok {
+        return Went {
+            fault: 21,
+            lines: 0,
+        };
+    }
+    note(w, p, out, at, 9, value.code);
+    process::past(w, p);
+    Went { fault: 0, lines: 1 }
+}
+
+pub fn close<'a>(w: &'a mut [u64], out: &'a mut [u8], at: usize, p: usize) -> Went
+    requires { ⌜ On (now w) p CLOSE ⌝ }
+    requires { ⌜ Roomy at (now out) ⌝ }
+    ensures { λ r. ⌜ ((v : On (now (w .entry)) p CLOSE) → Stepped (made (v .running) p (λ m s q. close m s p q))
+        (r .fault) (r .lines) (now (w .entry)) (now (w .exit)) at (now (out .entry)) (now (out .exit))) ⌝ }
+{
+    note(w, p, out, at, 10, ZERO);
+    process::past(w, p);
+    set_closed(w);
+    Went { fault: 0, lines: 1 }
+}
+
+pub fn putr(i: usize, n: u64, w: &mut [u64], p: usize) -> Went
+    requires { ⌜ On (now w) p (PUTR i n) ⌝ }
+    ensures { λ r. ⌜ ((v : On (now (w .entry)) p (PUTR i n)) → SteppedQuietly (made (v .running) p (λ m s q. putr m s p q i n))
+        (r .fault) (r .lines) (now (w .entry)) (now (w .exit))) ⌝ }
+{
+    if process::held_of(w, p, i) < n {
+        return Went {
+            fault: 24,
+            lines: 0,
+        };
+    }
+    if 64 <= lists::returns(w) {
+        return Went {
+            fault: 29,
+            lines: 0,
+        };
+    }
+    let giver = process::number_of(w, p);
+    process::past(w, p);
+    process::give_back(w, p, i, n);
+    lists::return_resource(w, i as u64, n, giver);
+    Went { fault: 0, lines: 0 }
+}
+
+pub fn putb(i: usize, n: u64, w: &mut [u64], p: usize) -> Went
+    requires { ⌜ On (now w) p (PUTB i n) ⌝ }
+    ensures { λ r. ⌜ ((v : On (now (w .entry)) p (PUTB i n)) → SteppedQuietly (made (v .running) p (λ m s q. putb m s p q i n))
+        (r .fault) (r .lines) (now (w .entry)) (now (w .exit))) ⌝ }
+{
+    if 64 <= lists::returns(w) {
+        return Went {
+            fault: 29,
+            lines: 0,
+        };
+    }
+    let giver = process::number_of(w, p);
+    process::past(w, p);
+    lists::return_bin(w, i as u64, n, giver);
+    Went { fault: 0, lines: 0 }
+}
+
+// ---- the end of a block
+
+// The class body is left.
+fn ends<'a>(w: &'a mut [u64], out: &'a mut [u8], at: usize, p: usize) -> Went
+    requires { ⌜ Ends (now w) p ⌝ }
+    requires { ⌜ Roomy at (now out) ⌝ }
+    ensures { λ r. ⌜ ((v : Ends (now (w .entry)) p) → Stepped (made (v .running) p (λ m s q. ends m s p q))
+        (r .fault) (r .lines) (now (w .entry)) (now (w .exit)) at (now (out .entry)) (now (out .exit))) ⌝ }
+{
+    if !process::holds_nothing(w, p) {
+        return Went {
+            fault: 26,
+            lines: 0,
+        };
+    }
+    note(w, p, out, at, 2, ZERO);
+    begins::end(w, p);
+    leave_floor(w);
+    Went { fault: 0, lines: 1 }
+}
+
+// A number of the map.
+fn number_at(map: &[u32], i: usize) -> usize
+    requires { ⌜ i < length (now map) ⌝ }
+    ensures { λ r. ⌜ r ≡ getD (now (map .entry)) i 0 ⌝ }
+{
+    map[i] as usize
+}
+
+// The action where the process stands is a WHILE.
+fn at_while<'a>(s: &'a [u8], map: &'a [u32], w: &'a [u64], p: usize) -> bool
+    requires { ⌜ Back (now s) (now map) (now w) p ⌝ }
+    ensures { λ r. ⌜ ((v : Back (now (s .entry)) (now (map .entry)) (now (w .entry)) p) → r ≡ comesBack (v .action)) ⌝ }
+{
+    let first = number_at(map, process::block_at(w, p));
+    let action = first + process::standing_at(w, p);
+    let place = number_at(map, 257 + action);
+    fields::u16_at(s, place + 2) == 27
+}
+
+// The innermost block is left, back to the action that named it; then past that, unless it is met again.
+fn leave<'a>(s: &'a [u8], map: &'a [u32], w: &'a mut [u64], p: usize)
+    requires { ⌜ Leaves (now s) (now map) (now w) p ⌝ }
+    ensures { λ _. ⌜ ((v : Leaves (now (s .entry)) (now (map .entry)) (now (w .entry)) p)
+        → now (w .exit) ≡ workOf (changed p (λ q. with-frames q (leave (v .running .model) (v .around))) (v .running .is))) ⌝ }
+{
+    process::leave_block(w, p, true);
+    if at_while(s, map, w, p) {
+        return;
+    }
+    process::past(w, p);
+}
+
+// One round less, and round again; or the block is left.
+pub fn exhausted<'a>(
+    s: &'a [u8],
+    map: &'a [u32],
+    w: &'a mut [u64],
+    out: &'a mut [u8],
+    at: usize,
+    p: usize,
+) -> Went
+    requires { ⌜ Exhausted (now s) (now map) (now w) p ⌝ }
+    requires { ⌜ Roomy at (now out) ⌝ }
+    ensures { λ r. ⌜ ((v : Exhausted (now (s .entry)) (now (map .entry)) (now (w .entry)) p)
+        → Stepped (made (runs (v .running)) p (λ m s q. exhausted m s p q (q .frames)))
+        (r .fault) (r .lines) (now (w .entry)) (now (w .exit)) at (now (out .entry)) (now (out .exit))) ⌝ }
+{
+    if 1 < process::rounds_at(w, p) {
+        process::go_round(w, p);
+        return Went { fault: 0, lines: 0 };
+    }
+    if process::depth_of(w, p) == 1 {
+        return ends(w, out, at, p);
+    }
+    leave(s, map, w, p);
+    Went { fault: 0, lines: 0 }
+}

@@ -1,0 +1,4 @@
+pub mod Running
+pub mod Shares
+pub mod Freeing
+pub mod Hands
