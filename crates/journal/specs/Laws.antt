@@ -61,7 +61,7 @@ unfolding journal
 written-more ls l bs h = written-on ls (l ∷ []) bs h
 
 -- WROTE. Lines written one after the other are their journal stored at once.
-wrote-sets : (ls : List Line) (n : ℕ) (bs : List ℕ) → wroteAt n ls bs ≡ sets bs (16 * n) (journal ls)
+pub wrote-sets : (ls : List Line) (n : ℕ) (bs : List ℕ) → wroteAt n ls bs ≡ sets bs (16 * n) (journal ls)
 unfolding wroteAt journal
 wrote-sets [] n bs = refl
 wrote-sets (l ∷ ls) n bs =
