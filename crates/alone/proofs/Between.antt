@@ -24,7 +24,7 @@ use Rattle.number.specs.Laws.{valueOf-code, code-fits, value-fits}
 use Rattle.work.specs.Work.{workOf, Sized, Doing}
 use Rattle.process.specs.Process.{Lives, Coded, HasLocal, Holds, changed}
 use Rattle.process.specs.Put.{put-there, changed-twice}
-use Rattle.alone.specs.Alone.{On}
+use Rattle.acting.specs.Running.{On}
 use Rattle.lists.specs.Lists.{Any, returned}
 use Rattle.alone.proofs.Running.{lives-by, is-sized, still-sized, inHand, hand-is, one, in-places, fine, lives}
 

@@ -31,7 +31,8 @@ use Rattle.work.specs.Work.{workOf, FrameSized, Sized, Doing}
 use Rattle.process.specs.Process.{Shown, Lives, Inner, changed, restarted, again, outside, out}
 use Rattle.process.specs.Put.{process-sized, put-there, put-again}
 use Rattle.acting.specs.Acting.{Stepped}
-use Rattle.alone.specs.Alone.{Runs, runs, Exhausted, Ends, Leaves, Back}
+use Rattle.acting.specs.Running.{Runs, runs}
+use Rattle.alone.specs.Alone.{Exhausted, Ends, Leaves, Back}
 use Rattle.lists.specs.Lists.{Any}
 use Rattle.begins.specs.Begins.{Ending}
 use Rattle.alone.proofs.Running.{shown, is-sized, still-sized, hand-is, one, in-places, fine, lives}

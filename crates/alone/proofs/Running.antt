@@ -1,26 +1,19 @@
 -- A run in the engine's hands: how large its state is, and the process on its floor. Assumes nothing.
-use Prim.Native.Nat.{ℕ, _*_, _≤_, _<_}
+use Prim.Native.Nat.{ℕ, _≤_, _<_}
 use native.Mathlib.Omega.{arith}
 use mathlib.Core.Path.{_≡_, refl, _∙_, ap}
 use mathlib.Core.List.{List, [], _∷_}
-use lib.ListN.{length, getD}
-use lib.Seq.{sets}
-use lib.IntN.{ℤ}
+use lib.ListN.{length}
 use Rattle.semantics.specs.Numbers as No
 use Rattle.semantics.specs.State.{State, Frame, held, process}
-use Rattle.semantics.specs.Walk.{line}
-use Rattle.semantics.specs.Journal.{lineBytes}
 use Rattle.promises.specs.Laws.{once, once-self}
 use Rattle.promises.specs.Sound.{al, onFloor, Fine, Held}
 use Rattle.promises.specs.Moves.{hand-alive, hand-in, hand-fine}
-use Rattle.journal.specs.Wrote.{wroteAt}
 use Rattle.work.specs.Work.{FloorSized, Sized}
 use Rattle.work.specs.Sized.{held-sized, sound-sized}
 use Rattle.work.specs.Shown.{work-long}
-use Rattle.work.specs.Head.{clock-at}
 use Rattle.process.specs.Process.{Shown, Lives}
-use Rattle.process.specs.Put.{process-sized}
-use Rattle.alone.specs.Alone.{Runs}
+use Rattle.acting.specs.Running.{Runs}
 
 -- Somebody lives in place p of t.
 pub lives-by : (t : State) (p : ℕ) → p < 64 → al (process t p .frames) ≡ 1 → Lives p t
@@ -29,29 +22,6 @@ lives-by t p l = go (process t p .frames) refl
     go : (fs : List Frame) → process t p .frames ≡ fs → al fs ≡ 1 → Lives p t
     go [] e a = absurd (omega arith)
     go (f ∷ fs) e a = record { in-places = l; innermost = f; around = fs; frames-are = e }
-
--- A WORK that shows a state.
-module _ {w : List ℕ} {P : State → Type 0} (v : Shown w P) where
-  pub is-long : length w ≡ 10_696
-  is-long = ap length (v .shows) ∙ work-long (v .is) (v .sized)
-
-  pub clock-is : getD w 0 0 ≡ v .is .clock
-  clock-is = ap (λ l. getD l 0 0) (v .shows) ∙ clock-at (v .is)
-
-  pub clock-low : getD w 0 0 ≤ No.latest
-  clock-low = rw clock-is (v .sized .clock-low)
-
-  pub number-low : (p : ℕ) → process (v .is) p .number ≤ No.lastNumber
-  number-low p = process-sized (v .is) p (v .sized) .number-low
-
--- A line of it, written at the place `at`.
-pub noted : (at : ℕ) (out : List ℕ) (s : State) {c n number : ℕ} (k : ℕ) (u : ℤ) → c ≡ s .clock → n ≡ number
-    → sets out (16 * at) (lineBytes (record { time = c; process = n; kind = k; value = u }))
-    ≡ wroteAt at (line s number k u ∷ []) out
-unfolding wroteAt
-noted at out s {c} {n} {number} k u e f =
-    ap (λ t. sets out (16 * at) (lineBytes (record { time = t; process = n; kind = k; value = u }))) e
-    ∙ ap (λ i. sets out (16 * at) (lineBytes (line s i k u))) f
 
 -- A RUN.
 module _ {w : List ℕ} (r : Runs w) where

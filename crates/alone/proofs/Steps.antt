@@ -17,7 +17,8 @@ use Rattle.number.specs.declared.Value.{Value}
 use Rattle.journal.specs.Wrote.{wroteAt}
 use Rattle.work.specs.Work.{workOf}
 use Rattle.acting.specs.Acting.{Stepped}
-use Rattle.alone.specs.Alone.{On, Told, SteppedQuietly}
+use Rattle.acting.specs.Running.{On}
+use Rattle.alone.specs.Alone.{Told, SteppedQuietly}
 use Rattle.lists.specs.Lists.{returned}
 use Rattle.alone.proofs.Values.{no-value, a-value}
 use Rattle.alone.proofs.Outcomes.{hold-fails, prio-fails, local-fails, trace-fails, prio-goes, local-goes, trace-goes}

@@ -1,58 +1,21 @@
--- An open run by its work alone, what a process on the floor is told, and a step that writes no line. Assumes nothing.
+-- What a process on the floor is told, the end of a block, and a step that writes no line. Assumes nothing.
 use Prim.Native.Nat.{ℕ}
 use mathlib.Core.Path.{_≡_, refl}
 use mathlib.Core.List.{List, [], _∷_}
 use mathlib.Core.Bool.{false}
-use mathlib.Core.Option.{none, some}
+use mathlib.Core.Option.{none}
 use Rattle.semantics.specs.Words.{Outcome, ok, fails, isEmpty}
-use Rattle.semantics.specs.Model.{Expr, Action, Model}
-use Rattle.semantics.specs.State.{State, Process, Frame, held, process}
+use Rattle.semantics.specs.Model.{Expr, Action}
+use Rattle.semantics.specs.State.{Frame, held, process}
 use Rattle.semantics.specs.Claim.{standsIn}
 use Rattle.semantics.specs.Walk.{Next}
-use Rattle.promises.specs.Fit.{ExprFit, Fit, Nested}
-use Rattle.promises.specs.Sound.{Sound}
+use Rattle.promises.specs.Fit.{ExprFit}
 use Rattle.journal.specs.Wrote.{wroteAt}
 use Rattle.acts.specs.Bodies.{ReadsExpression}
 use Rattle.work.specs.Work.{workOf}
-use Rattle.work.specs.Sized.{Rounds}
 use Rattle.process.specs.Process.{Lives}
 use Rattle.acting.specs.Acting.{Open, Acting, Stepped}
-
--- `Open`, without the bytes and the map of the model.
-pub record Runs (w : List ℕ) : Type 0 where
-  pub model : Model
-  pub fits : Fit model
-  pub nested : Nested model
-  pub few-rounds : Rounds model
-  pub is : State
-  pub shows : w ≡ workOf is
-  pub sound : Sound model is
-
--- `Acting`, without them.
-pub record On (w : List ℕ) (p : ℕ) (x : Action) : Type 0 where
-  pub running : Runs w
-  pub on-floor : running .is .floor ≡ held p
-  pub stands : standsIn (running .model) (process (running .is) p .frames) ≡ some x
-
-module _ {bs map w : List ℕ} where
-  abbrev pub runs : Open bs map w → Runs w
-  runs o =
-      record {
-        model = o .model;
-        fits = o .fits;
-        nested = o .nested;
-        few-rounds = o .few-rounds;
-        is = o .is;
-        shows = o .shows;
-        sound = o .sound;
-      }
-
-  abbrev pub on : {p : ℕ} {x : Action} → Acting bs map w p x → On w p x
-  on a = record { running = runs (a .running); on-floor = a .on-floor; stands = a .stands }
-
--- What the definitions make of the model, the state and the process in place p.
-abbrev pub made : {w : List ℕ} → Runs w → ℕ → (Model → State → Process → Outcome Next) → Outcome Next
-made r p f = f (r .model) (r .is) (process (r .is) p)
+use Rattle.acting.specs.Running.{Runs, On}
 
 -- EXPRESSIONS. The body is one of the model, and the process in place p lives.
 pub record Valued (body w : List ℕ) (p : ℕ) : Type 0 where

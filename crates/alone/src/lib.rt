@@ -1,21 +1,17 @@
 // The actions of a process that touch only itself and the event list.
 ghost use mathlib.Core.Path.{_≡_};
-ghost use mathlib.Core.List.{[], _∷_};
-ghost use Prim.Native.Nat.{_+_, _*_, _≤_, _<_};
-ghost use lib.ListN.{length, getD};
 ghost use Rattle.semantics.specs.Model.{HOLD, PRIO, TRACE, LSET, DO, PUTR, PUTB, CLOSE};
-ghost use Rattle.semantics.specs.State.{process, put, empty, with-floor, with-frames, now-closed};
+ghost use Rattle.semantics.specs.State.{process, with-frames, now-closed};
 ghost use Rattle.semantics.specs.Value.{eval};
-ghost use Rattle.semantics.specs.Walk.{line};
 ghost use Rattle.semantics.specs.Step.{hold, prio, setLocal, doTimes, putr, putb, trace, close, comesBack, leave};
 ghost use Rattle.semantics.specs.Step.{ends, exhausted};
-ghost use Rattle.number.specs.Code.{valueOf, outcomeOf};
-ghost use Rattle.journal.specs.Wrote.{wroteAt};
+ghost use Rattle.number.specs.Code.{outcomeOf};
 ghost use Rattle.work.specs.Work.{workOf, Doing, Done};
-ghost use Rattle.process.specs.Process.{Shown, changed};
+ghost use Rattle.process.specs.Process.{changed};
 ghost use Rattle.lists.specs.Lists.{Any};
 ghost use Rattle.acting.specs.Acting.{Roomy, Stepped};
-ghost use Rattle.alone.specs.Alone.{On, made, runs, Valued, Told, Exhausted, Ends, Leaves, Back, SteppedQuietly};
+ghost use Rattle.acting.specs.Running.{On, made, runs};
+ghost use Rattle.alone.specs.Alone.{Valued, Told, Exhausted, Ends, Leaves, Back, SteppedQuietly};
 use acting::Went;
 use number::Value;
 
@@ -26,20 +22,13 @@ const LOWEST: u32 = 2147473648;
 
 // ---- what is read
 
-fn clock_of(w: &[u64]) -> u64
-    requires { ⌜ Shown (now w) Any ⌝ }
-    ensures { λ r. ⌜ ((v : Shown (now (w .entry)) Any) → r ≡ v .is .clock) × (r ≤ 2000000000) ⌝ }
-{
-    w[0]
-}
-
 // The value of the expression in `body`, for the process in place p.
 pub fn value_in<'a>(body: &'a [u8], w: &'a [u64], p: usize) -> Value
     requires { ⌜ Valued (now body) (now w) p ⌝ }
     ensures { λ r. ⌜ ((v : Valued (now (body .entry)) (now (w .entry)) p)
         → outcomeOf r ≡ eval (v .running .is) (process (v .running .is) p) (v .expression)) ⌝ }
 {
-    let clock = clock_of(w) as u32;
+    let clock = acting::clock_of(w) as u32;
     let from = 2508 + 128 * p;
     let to = from + 8;
     value::evaluate(body, &w[72..104], &w[from..to], clock)
@@ -47,30 +36,11 @@ pub fn value_in<'a>(body: &'a [u8], w: &'a [u64], p: usize) -> Value
 
 // ---- what is changed, or written
 
-// Nobody has the floor.
-fn leave_floor(w: &mut [u64])
-    requires { ⌜ Doing (now w) Any (λ s. with-floor s empty) ⌝ }
-    ensures { λ _. ⌜ Done (now (w .entry)) Any (λ s. with-floor s empty) (now (w .exit)) ⌝ }
-{
-    w[3] = 0;
-}
-
 fn set_closed(w: &mut [u64])
     requires { ⌜ Doing (now w) Any now-closed ⌝ }
     ensures { λ _. ⌜ Done (now (w .entry)) Any now-closed (now (w .exit)) ⌝ }
 {
     w[1] = 1;
-}
-
-// A line of the process in place p.
-fn note<'a>(w: &'a [u64], p: usize, out: &'a mut [u8], at: usize, kind: u32, value: u32)
-    requires { ⌜ Shown (now w) (λ _. p < 64) × ((16 * at + 16 ≤ length (now out)) × (kind < 65536)) ⌝ }
-    ensures { λ _. ⌜ ((v : Shown (now (w .entry)) (λ _. p < 64)) → now (out .exit)
-        ≡ wroteAt at (line (v .is) (process (v .is) p .number) kind (valueOf value) ∷ []) (now (out .entry))) ⌝ }
-{
-    let clock = clock_of(w) as u32;
-    let number = process::number_of(w, p) as u32;
-    journal::write_line(out, at, kind, clock, number, value);
 }
 
 // ---- actions
@@ -94,7 +64,7 @@ pub fn hold<'a>(body: &'a [u8], w: &'a mut [u64], p: usize) -> Went
             lines: 0,
         };
     }
-    let time = clock_of(w) + (value.code - ZERO) as u64;
+    let time = acting::clock_of(w) + (value.code - ZERO) as u64;
     if 2000000000 < time {
         return Went {
             fault: 23,
@@ -102,7 +72,7 @@ pub fn hold<'a>(body: &'a [u8], w: &'a mut [u64], p: usize) -> Went
         };
     }
     process::past(w, p);
-    leave_floor(w);
+    acting::leave_floor(w);
     lists::wake(w, time, p);
     Went { fault: 0, lines: 0 }
 }
@@ -171,7 +141,7 @@ pub fn trace<'a>(body: &'a [u8], w: &'a mut [u64], out: &'a mut [u8], at: usize,
             lines: 0,
         };
     }
-    note(w, p, out, at, 9, value.code);
+    acting::note(w, p, out, at, 9, value.code);
     process::past(w, p);
     Went { fault: 0, lines: 1 }
 }
@@ -182,7 +152,7 @@ pub fn close<'a>(w: &'a mut [u64], out: &'a mut [u8], at: usize, p: usize) -> We
     ensures { λ r. ⌜ ((v : On (now (w .entry)) p CLOSE) → Stepped (made (v .running) p (λ m s q. close m s p q))
         (r .fault) (r .lines) (now (w .entry)) (now (w .exit)) at (now (out .entry)) (now (out .exit))) ⌝ }
 {
-    note(w, p, out, at, 10, ZERO);
+    acting::note(w, p, out, at, 10, ZERO);
     process::past(w, p);
     set_closed(w);
     Went { fault: 0, lines: 1 }
@@ -244,18 +214,10 @@ fn ends<'a>(w: &'a mut [u64], out: &'a mut [u8], at: usize, p: usize) -> Went
             lines: 0,
         };
     }
-    note(w, p, out, at, 2, ZERO);
+    acting::note(w, p, out, at, 2, ZERO);
     begins::end(w, p);
-    leave_floor(w);
+    acting::leave_floor(w);
     Went { fault: 0, lines: 1 }
-}
-
-// A number of the map.
-fn number_at(map: &[u32], i: usize) -> usize
-    requires { ⌜ i < length (now map) ⌝ }
-    ensures { λ r. ⌜ r ≡ getD (now (map .entry)) i 0 ⌝ }
-{
-    map[i] as usize
 }
 
 // The action where the process stands is a WHILE.
@@ -263,9 +225,9 @@ fn at_while<'a>(s: &'a [u8], map: &'a [u32], w: &'a [u64], p: usize) -> bool
     requires { ⌜ Back (now s) (now map) (now w) p ⌝ }
     ensures { λ r. ⌜ ((v : Back (now (s .entry)) (now (map .entry)) (now (w .entry)) p) → r ≡ comesBack (v .action)) ⌝ }
 {
-    let first = number_at(map, process::block_at(w, p));
+    let first = map::number_at(map, process::block_at(w, p));
     let action = first + process::standing_at(w, p);
-    let place = number_at(map, 257 + action);
+    let place = map::number_at(map, 257 + action);
     fields::u16_at(s, place + 2) == 27
 }
 

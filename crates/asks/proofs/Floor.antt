@@ -1,55 +1,23 @@
 -- The process on the floor, the work that shows it, and the states between the changes of a step. Assumes nothing.
-use Prim.Native.Nat.{ℕ, _*_, _≤_, _<_}
+use Prim.Native.Nat.{ℕ, _≤_, _<_}
 use native.Mathlib.Omega.{arith}
 use mathlib.Core.Path.{_≡_, refl, _∙_, ap}
-use mathlib.Core.List.{List, [], _∷_}
+use mathlib.Core.List.{List}
 use mathlib.Core.Bool.{Bool, true}
-use lib.ListN.{length, getD}
-use lib.Seq.{sets}
-use lib.IntN.{ℤ}
 use Rattle.semantics.specs.Numbers as No
 use Rattle.semantics.specs.Model.{Action}
-use Rattle.semantics.specs.State.{State, empty, process, put, past, with-floor}
-use Rattle.semantics.specs.Walk.{line}
-use Rattle.semantics.specs.Journal.{lineBytes}
+use Rattle.semantics.specs.State.{State, empty, put, past, with-floor}
 use Rattle.semantics.specs.Sound.{asking, asksAt}
 use Rattle.promises.specs.Laws.{once, once-self}
 use Rattle.promises.specs.Sound.{onFloor, Held}
 use Rattle.promises.specs.Moves.{hand-fine, blocks}
 use Rattle.promises.specs.Takes.{goes-past}
-use Rattle.journal.specs.Wrote.{wroteAt}
 use Rattle.work.specs.Work.{workOf, FloorSized, Sized, Doing}
 use Rattle.work.specs.Sized.{held-sized, sound-sized}
-use Rattle.work.specs.Shown.{work-long}
-use Rattle.work.specs.Head.{clock-at}
 use Rattle.process.specs.Process.{Shown, Lives, changed}
-use Rattle.process.specs.Put.{process-sized}
 use Rattle.lists.specs.Lists.{Any, joinBlocked}
 use Rattle.grant.specs.Standing.{hand-lives}
 use Rattle.asks.specs.Asks.{Asked, model, state, who, Requests, passes, enters}
-
--- A WORK that shows a state.
-module _ {w : List ℕ} {P : State → Type 0} (v : Shown w P) where
-  pub is-long : length w ≡ 10_696
-  is-long = ap length (v .shows) ∙ work-long (v .is) (v .sized)
-
-  pub clock-is : getD w 0 0 ≡ v .is .clock
-  clock-is = ap (λ l. getD l 0 0) (v .shows) ∙ clock-at (v .is)
-
-  pub clock-low : getD w 0 0 ≤ No.latest
-  clock-low = rw clock-is (v .sized .clock-low)
-
-  pub number-low : (p : ℕ) → process (v .is) p .number ≤ No.lastNumber
-  number-low p = process-sized (v .is) p (v .sized) .number-low
-
--- A line of it, written at the place `at`.
-pub noted : (at : ℕ) (out : List ℕ) (s : State) {c n number : ℕ} (k : ℕ) (u : ℤ) → c ≡ s .clock → n ≡ number
-    → sets out (16 * at) (lineBytes (record { time = c; process = n; kind = k; value = u }))
-    ≡ wroteAt at (line s number k u ∷ []) out
-unfolding wroteAt
-noted at out s {c} {n} {number} k u e f =
-    ap (λ t. sets out (16 * at) (lineBytes (record { time = t; process = n; kind = k; value = u }))) e
-    ∙ ap (λ i. sets out (16 * at) (lineBytes (line s i k u))) f
 
 -- What is blocked stands at an action that asks.
 pub is-asking : {b : Bool} {x : Action} → Requests b x → asking x ≡ true

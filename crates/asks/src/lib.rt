@@ -1,68 +1,12 @@
 // REQ, TRY and WHILE of the process on the floor: it takes a branch, or is blocked, or passes on.
-ghost use mathlib.Core.Path.{_≡_};
-ghost use mathlib.Core.List.{[], _∷_};
-ghost use Prim.Native.Nat.{_+_, _*_, _≤_, _<_};
-ghost use lib.ListN.{length, getD};
 ghost use Rattle.semantics.specs.Model.{WHILE};
-ghost use Rattle.semantics.specs.State.{process, empty, with-floor};
-ghost use Rattle.semantics.specs.Walk.{line};
 ghost use Rattle.semantics.specs.Step.{request, while};
-ghost use Rattle.number.specs.Code.{valueOf};
-ghost use Rattle.journal.specs.Wrote.{wroteAt};
-ghost use Rattle.work.specs.Work.{Doing, Done};
-ghost use Rattle.process.specs.Process.{Shown};
-ghost use Rattle.lists.specs.Lists.{Any};
 ghost use Rattle.acting.specs.Acting.{Roomy, Stepped};
 ghost use Rattle.asks.specs.Asks.{Requesting, Looping, Branching, Branched, state, made, taken};
 use acting::Went;
 
 // The code of 0.
 const ZERO: u32 = 2147483648;
-
-// ---- what is read
-
-fn index(x: u32) -> usize
-    ensures { λ r. ⌜ r ≡ x ⌝ }
-{
-    x as usize
-}
-
-fn number_at(map: &[u32], i: usize) -> usize
-    requires { ⌜ i < length (now map) ⌝ }
-    ensures { λ r. ⌜ r ≡ getD (now (map .entry)) i 0 ⌝ }
-{
-    index(map[i])
-}
-
-fn clock_of(w: &[u64]) -> u64
-    requires { ⌜ Shown (now w) Any ⌝ }
-    ensures { λ r. ⌜ ((v : Shown (now (w .entry)) Any) → r ≡ v .is .clock) × (r ≤ 2000000000) ⌝ }
-{
-    w[0]
-}
-
-// ---- what is changed, or written
-
-// Nobody has the floor.
-fn leave_floor(w: &mut [u64])
-    requires { ⌜ Doing (now w) Any (λ s. with-floor s empty) ⌝ }
-    ensures { λ _. ⌜ Done (now (w .entry)) Any (λ s. with-floor s empty) (now (w .exit)) ⌝ }
-{
-    w[3] = 0;
-}
-
-// A line of the process in place p.
-fn note<'a>(w: &'a [u64], p: usize, out: &'a mut [u8], at: usize, kind: u32, value: u32)
-    requires { ⌜ Shown (now w) (λ _. p < 64) × ((16 * at + 16 ≤ length (now out)) × (kind < 65536)) ⌝ }
-    ensures { λ _. ⌜ ((v : Shown (now (w .entry)) (λ _. p < 64)) → now (out .exit)
-        ≡ wroteAt at (line (v .is) (process (v .is) p .number) kind (valueOf value) ∷ []) (now (out .entry))) ⌝ }
-{
-    let clock = clock_of(w) as u32;
-    let number = process::number_of(w, p) as u32;
-    journal::write_line(out, at, kind, clock, number, value);
-}
-
-// ---- actions
 
 // The branch of action a that the process in place p may take is taken, if there is one; whether there was.
 fn take_branch<'a>(
@@ -83,12 +27,12 @@ fn take_branch<'a>(
 {
     let ahead = lists::place_in_front(w, p);
     let n = grant::choice(s, map, w, a, ahead);
-    let first = number_at(map, 1345 + a);
-    let many = number_at(map, 1346 + a) - first;
+    let first = map::number_at(map, 1345 + a);
+    let many = map::number_at(map, 1346 + a) - first;
     if many <= n {
         return false;
     }
-    note(w, p, out, at, 4, ZERO + n as u32);
+    acting::note(w, p, out, at, 4, ZERO + n as u32);
     grant::grant(s, map, w, p, first + n, enters);
     true
 }
@@ -113,9 +57,9 @@ pub fn request<'a>(
     if take_branch(s, map, w, out, at, p, a, enters) {
         return Went { fault: 0, lines: 1 };
     }
-    note(w, p, out, at, 3, ZERO);
+    acting::note(w, p, out, at, 3, ZERO);
     lists::join_blocked(w, p);
-    leave_floor(w);
+    acting::leave_floor(w);
     Went { fault: 0, lines: 1 }
 }
 

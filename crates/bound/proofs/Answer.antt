@@ -1,13 +1,13 @@
 -- What the bound's answer is, by what the check, the loops and the total say. Assumes nothing.
 use Prim.Native.Nat.{ℕ, _≤_, _<_}
-use mathlib.Core.Path.{_≡_, refl, _∙_}
+use mathlib.Core.Path.{_≡_, _∙_}
 use mathlib.Core.List.{List}
 use mathlib.Core.Bool.{Bool, true, false}
 use native.Mathlib.Omega.{arith}
 use borrow.Author.Tests.{le-leb, lt-leb}
 use Rattle.semantics.specs.Model.{Model}
 use Rattle.semantics.specs.Bytes.{recordsFrom}
-use Rattle.semantics.specs.Decode.{Checked, refused, accepted, gather, andThen, decode}
+use Rattle.semantics.specs.Decode.{accepted, gather, decode}
 use Rattle.semantics.specs.Bound.{loops, bound, boundIs}
 use Rattle.semantics.specs.Desk.{boundFile}
 use Rattle.index.specs.Index.{Readable, indexOf, loopsIn}
@@ -17,7 +17,7 @@ use Rattle.index.proofs.Ties.{loops-ties}
 use Rattle.weigh.specs.Weigh.{cap}
 use Rattle.model.specs.Check.{refusalOf}
 use Rattle.model.specs.declared.Refusal.{Refusal}
-use Rattle.model.proofs.Stated.{Stated, decode-stated}
+use Rattle.model.proofs.Answer.{refuses, accepts as accepts-by}
 use Rattle.bound.specs.declared.Bounded.{Bounded}
 use Rattle.bound.specs.Endable.{Endable}
 use Rattle.bound.specs.Answer.{boundedOf}
@@ -30,22 +30,10 @@ module _ (bs : List ℕ) where
   module _ (r : Refusal) (e : r ≡ refusalOf (decode bs)) where
     pub refused-says : (r .number ≡ 0 → ⊥) → Bounded.Refused (r .number) (r .place) ≡ boundedOf (boundFile bs)
     unfolding boundFile
-    refused-says k = go (decode bs) e
-      where
-        go : (p : Checked Model) → r ≡ refusalOf p
-            → Bounded.Refused (r .number) (r .place) ≡ boundedOf (andThen p λ m. accepted (boundIs m))
-        go (refused n p) e = rw e
-        go (accepted a) e = absurd (k (rw e))
-
-    accepts-some : r .number ≡ 0 → (a : Model) × (decode bs ≡ accepted a)
-    accepts-some z = go (decode bs) (decode-stated bs) e
-      where
-        go : (p : Checked Model) → Stated 65_535 p → r ≡ refusalOf p → (a : Model) × (p ≡ accepted a)
-        go (refused n p) q e = let i : r .number ≡ n = rw e in absurd (omega (arith, q .0 .0))
-        go (accepted a) q e = (a, refl)
+    refused-says k = rw (refuses bs r e k)
 
     pub accepts : r .number ≡ 0 → decode bs ≡ accepted m
-    accepts z = let w = accepts-some z in w .1 ∙ rw (accepted-by bs (w .0) (w .1) .is)
+    accepts z = let w = accepts-by bs r e z in w .1 ∙ rw (accepted-by bs (w .0) (w .1) .is)
 
   -- AN ACCEPTED FILE, whose model is m.
   module _ (a : decode bs ≡ accepted m) where

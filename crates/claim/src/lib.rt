@@ -89,24 +89,17 @@ pub fn met<'a>(s: &'a [u8], at: usize, w: &'a [u64]) -> bool
 
 // ---- the branches of an action
 
-fn number_at(map: &[u32], i: usize) -> usize
-    requires { ⌜ i < length (now map) ⌝ }
-    ensures { λ r. ⌜ r ≡ getD (now (map .entry)) i 0 ⌝ }
-{
-    map[i] as usize
-}
-
 // The first branch of action a whose claim is met, from 0; as many as there are where none is.
 pub fn first_met<'a>(s: &'a [u8], map: &'a [u32], w: &'a [u64], a: usize) -> usize
     requires { ⌜ Asking (now s) (now map) (now w) a ⌝ }
     ensures { λ r. ⌜ ((v : Asking (now (s .entry)) (now (map .entry)) (now (w .entry)) a) →
         (firstMet (v .is) 0 (v .asks) ≡ choiceOf r (v .asks)) × (r ≤ length (v .asks))) ⌝ }
 {
-    let from = number_at(map, 1345 + a);
-    let many = number_at(map, 1346 + a) - from;
+    let from = map::number_at(map, 1345 + a);
+    let many = map::number_at(map, 1346 + a) - from;
     let mut k = 0;
     while k < many {
-        let at = number_at(map, 2370 + (from + k));
+        let at = map::number_at(map, 2370 + (from + k));
         if met(s, at, w) {
             return k;
         }

@@ -1,6 +1,6 @@
 // A claim is taken, an offer is granted, who is barred, and which branch is taken.
 ghost use mathlib.Core.Path.{_≡_};
-ghost use Prim.Native.Nat.{_+_, _≤_, _<_};
+ghost use Prim.Native.Nat.{_+_, _≤_};
 ghost use lib.ListN.{length, getD, take};
 ghost use Rattle.semantics.specs.Words.{less};
 ghost use Rattle.semantics.specs.Model.{resource, get};
@@ -98,20 +98,13 @@ pub fn take_all<'a>(s: &'a [u8], at: usize, w: &'a mut [u64], p: usize)
 
 // ---- an offer is granted
 
-fn number_at(map: &[u32], i: usize) -> usize
-    requires { ⌜ i < length (now map) ⌝ }
-    ensures { λ r. ⌜ r ≡ getD (now (map .entry)) i 0 ⌝ }
-{
-    index(map[i])
-}
-
 // The n-th branch, to the process in place p; `enters` if it has a block.
 pub fn grant<'a>(s: &'a [u8], map: &'a [u32], w: &'a mut [u64], p: usize, n: usize, enters: bool)
     requires { ⌜ Granting (now s) (now map) (now w) p n enters ⌝ }
     ensures { λ _. ⌜ ((v : Granting (now (s .entry)) (now (map .entry)) (now (w .entry)) p n enters)
         → now (w .exit) ≡ workOf (grant p (v .offer) (v .is))) ⌝ }
 {
-    let at = number_at(map, 2370 + n);
+    let at = map::number_at(map, 2370 + n);
     take_all(s, at, w, p);
     if enters {
         let block = wide(fields::u16_at(s, at - 2));
@@ -131,7 +124,7 @@ pub fn action_at<'a>(map: &'a [u32], w: &'a [u64], p: usize) -> usize
 {
     let block = process::block_at(w, p);
     let at = process::standing_at(w, p);
-    number_at(map, block) + at
+    map::number_at(map, block) + at
 }
 
 // Whether the i-th of the blocked bars action a.
@@ -171,7 +164,7 @@ pub fn choice<'a>(s: &'a [u8], map: &'a [u32], w: &'a [u64], a: usize, k: usize)
         × (r ≤ length (offers (v .asked)))) ⌝ }
 {
     let first = claim::first_met(s, map, w, a);
-    let many = number_at(map, 1346 + a) - number_at(map, 1345 + a);
+    let many = map::number_at(map, 1346 + a) - map::number_at(map, 1345 + a);
     if many <= first {
         return many;
     }

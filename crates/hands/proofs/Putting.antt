@@ -24,7 +24,7 @@ use Rattle.process.specs.Process.{Lives, changed}
 use Rattle.process.specs.Put.{changed-twice}
 use Rattle.slaves.specs.Slaves.{ownedOf, Owns, letGo}
 use Rattle.acting.specs.Acting.{Stepped}
-use Rattle.hands.specs.Running.{On}
+use Rattle.acting.specs.Running.{On}
 use Rattle.hands.specs.Freeing.{Freeing}
 use Rattle.hands.proofs.Running.{lives-by, m, s, q, is-sized, still-sized, hand, in-hand, in-places, alive, fine, lives}
 use Rattle.hands.proofs.Running.{passes-as}

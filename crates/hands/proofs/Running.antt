@@ -13,7 +13,7 @@ use Rattle.promises.specs.Takes.{goes-past}
 use Rattle.work.specs.Work.{FloorSized, Sized}
 use Rattle.work.specs.Sized.{held-sized, sound-sized}
 use Rattle.process.specs.Process.{Shown, Lives}
-use Rattle.hands.specs.Running.{On}
+use Rattle.acting.specs.Running.{On}
 
 -- Somebody lives in place p of t.
 pub lives-by : (t : State) (p : ℕ) → p < 64 → al (process t p .frames) ≡ 1 → Lives p t

@@ -33,7 +33,7 @@ use Rattle.process.specs.Process.{Lives, changed}
 use Rattle.process.specs.Put.{put-again, put-there, changed-twice}
 use Rattle.begins.specs.Begins.{Roomy, begins, Answers}
 use Rattle.acting.specs.Acting.{Stepped}
-use Rattle.hands.specs.Running.{On, on}
+use Rattle.acting.specs.Running.{On, on}
 use Rattle.hands.specs.Shares.{sharesFrom, SharesAt, has, Offering, moved, without, Room, withoutAll, MovesAll, Moving}
 use Rattle.hands.specs.Hands.{Starting}
 use Rattle.hands.proofs.Running.{lives-by, m, s, q, is-sized, shown, still-sized, hand, in-hand, in-places, alive, fine}

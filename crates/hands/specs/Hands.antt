@@ -3,13 +3,8 @@
 use Prim.Native.Nat.{ℕ}
 use mathlib.Core.List.{List}
 use Rattle.semantics.specs.Model.{Share, START}
-use Rattle.semantics.specs.State.{State}
 use Rattle.acts.specs.Bodies.{Starts}
 use Rattle.acting.specs.Acting.{Acting}
-
--- Nothing is asked of a state.
-abbrev pub Any : State → Type 0
-Any s = Unit {0}
 
 -- The process in place p stands at a START, whose record's body is `body`.
 pub record Starting (body map w : List ℕ) (p : ℕ) : Type 0 where

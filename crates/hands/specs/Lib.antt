@@ -1,4 +1,3 @@
-pub mod Running
 pub mod Shares
 pub mod Freeing
 pub mod Hands

@@ -16,11 +16,12 @@ ghost use Rattle.semantics.specs.Step.{freeAll, puts, start};
 ghost use Rattle.journal.specs.Wrote.{wroteAt};
 ghost use Rattle.work.specs.Work.{workOf, Doing, Done};
 ghost use Rattle.process.specs.Process.{Shown, Lives};
+ghost use Rattle.lists.specs.Lists.{Any};
 ghost use Rattle.acting.specs.Acting.{Roomy, Stepped};
-ghost use Rattle.hands.specs.Running.{On, made, runs};
+ghost use Rattle.acting.specs.Running.{On, made, runs};
 ghost use Rattle.hands.specs.Freeing.{Freeing};
 ghost use Rattle.hands.specs.Shares.{has, Offering, Moves, moves, Moving};
-ghost use Rattle.hands.specs.Hands.{Any, Starting};
+ghost use Rattle.hands.specs.Hands.{Starting};
 use acting::Went;
 
 // The code of 0.
@@ -33,13 +34,6 @@ fn wide(x: u32) -> u64
 }
 
 // ---- what is read
-
-fn clock_of(w: &[u64]) -> u64
-    requires { ⌜ Shown (now w) Any ⌝ }
-    ensures { λ r. ⌜ ((v : Shown (now (w .entry)) Any) → r ≡ v .is .clock) × (r ≤ 2000000000) ⌝ }
-{
-    w[0]
-}
 
 // The last number given.
 fn last_of(w: &[u64]) -> u64
@@ -116,7 +110,7 @@ fn time_of<'a>(body: &'a [u8], w: &'a [u64]) -> u64
     requires { ⌜ Shown (now w) Any × (6 ≤ length (now body)) ⌝ }
     ensures { λ r. ⌜ ((v : Shown (now (w .entry)) Any) → r ≡ v .is .clock + u32 (now (body .entry)) 2) ⌝ }
 {
-    clock_of(w) + wide(fields::u32_at(body, 2))
+    acting::clock_of(w) + wide(fields::u32_at(body, 2))
 }
 
 // Whether one more can begin: there is a place and a number for it.
@@ -133,7 +127,7 @@ fn note_start<'a>(w: &'a [u64], out: &'a mut [u8], at: usize, class: u32)
     ensures { λ _. ⌜ ((v : Shown (now (w .entry)) Any) → now (out .exit)
         ≡ wroteAt at (line (v .is) (v .is .last + 1) 1 (pos class) ∷ []) (now (out .entry))) ⌝ }
 {
-    let clock = clock_of(w) as u32;
+    let clock = acting::clock_of(w) as u32;
     let number = last_of(w) as u32 + 1;
     journal::write_line(out, at, 1, clock, number, ZERO + class);
 }
@@ -198,7 +192,7 @@ fn free_one<'a>(w: &'a mut [u64], out: &'a mut [u8], at: usize, i: u64, r: usize
     ensures { λ _. ⌜ ((d : Doing (now (w .entry)) (Lives r) (λ s. wake (s .clock) r s)) → now (out .exit)
         ≡ wroteAt at (line (d .is) (process (d .is) r .number) 8 (pos i) ∷ []) (now (out .entry))) ⌝ }
 {
-    let clock = clock_of(w);
+    let clock = acting::clock_of(w);
     let number = process::number_of(w, r) as u32;
     journal::write_line(out, at, 8, clock as u32, number, ZERO + i as u32);
     lists::wake(w, clock, r);

@@ -1,8 +1,8 @@
 // What the engine reads an accepted model by, as one row of numbers, the map: where blocks and actions begin, class bodies, and
 // of each branch where its claim stands and what it names.
 ghost use mathlib.Core.Path.{_≡_};
-ghost use Prim.Native.Nat.{_+_, _≤_};
-ghost use lib.ListN.{length};
+ghost use Prim.Native.Nat.{_+_, _≤_, _<_};
+ghost use lib.ListN.{length, getD};
 ghost use lib.Seq.{sets};
 ghost use Rattle.semantics.specs.Bytes.{recordsFrom};
 ghost use Rattle.index.specs.Index.{Readable};
@@ -61,4 +61,12 @@ pub fn map_of(s: &[u8]) -> Map
     lay_u32(&b.bins, 10562, &mut words);
     lay_u32(&b.syncs, 14658, &mut words);
     Map { words: words }
+}
+
+// The number at i of it.
+pub fn number_at(map: &[u32], i: usize) -> usize
+    requires { ⌜ i < length (now map) ⌝ }
+    ensures { λ r. ⌜ r ≡ getD (now (map .entry)) i 0 ⌝ }
+{
+    map[i] as usize
 }

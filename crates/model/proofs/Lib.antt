@@ -2,4 +2,5 @@ pub mod Pass
 pub mod Laid
 pub mod Deep
 pub mod Stated
+pub mod Answer
 pub mod Whole

@@ -1,45 +1,29 @@
--- What is read of the work and of the map, and a line that is written. Assumes nothing.
-use Prim.Native.Nat.{ℕ, _+_, _*_, _≤_, _<_}
+-- What is read of the work and of the map. Assumes nothing.
+use Prim.Native.Nat.{ℕ, _+_, _≤_, _<_}
 use native.Mathlib.Omega.{arith}
-use mathlib.Core.Path.{_≡_, refl, sym, _∙_, ap}
+use mathlib.Core.Path.{_≡_, refl, _∙_, ap}
 use mathlib.Core.List.{List, [], _∷_, map}
 use mathlib.Core.Bool.{not}
 use mathlib.Core.Option.{some}
 use lib.Dec.{eqb}
 use lib.ListN.{length, getD, getElem?}
-use lib.Seq.{sets}
-use lib.IntN.{pos}
 use Rattle.semantics.specs.Numbers as No
 use Rattle.semantics.specs.Model.{Branch, Action, HOLD, PRIO, TRACE, SET, LSET, DO, PUTR, PUTB, PUTS, BECOME, REQ, TRY, WHILE}
 use Rattle.semantics.specs.Model.{START, CLOSE}
 use Rattle.semantics.specs.Bytes.{u16}
 use Rattle.semantics.specs.State.{State}
 use Rattle.semantics.specs.Claim.{Offer, enterBlock, offers}
-use Rattle.semantics.specs.Walk.{line}
-use Rattle.semantics.specs.Journal.{lineBytes}
 use Rattle.promises.specs.Laws.{AllOf, all-get, all-at}
-use Rattle.number.specs.Code.{valueOf}
-use Rattle.number.specs.Laws.{code-stands, valueOf-code}
-use Rattle.journal.specs.Wrote.{wroteAt}
 use Rattle.acts.specs.Kinds.{kind-of}
-use Rattle.work.specs.Shown.{work-long, bins-at}
-use Rattle.work.specs.Head.{clock-at}
+use Rattle.work.specs.Shown.{bins-at}
 use Rattle.work.specs.Blocked.{blocked-count}
 use Rattle.process.specs.Process.{Shown}
 use Rattle.grant.specs.Grant.{intoBlock}
+use Rattle.acting.proofs.Reading.{is-long}
 use Rattle.walk.specs.Walking.{AtAction, enteredBy}
 
 -- A WORK that shows a state.
 module _ {w : List ℕ} {P : State → Type 0} (v : Shown w P) where
-  pub is-long : length w ≡ 10_696
-  is-long = ap length (v .shows) ∙ work-long (v .is) (v .sized)
-
-  pub clock-is : getD w 0 0 ≡ v .is .clock
-  clock-is = ap (λ l. getD l 0 0) (v .shows) ∙ clock-at (v .is)
-
-  pub clock-low : getD w 0 0 ≤ No.latest
-  clock-low = rw clock-is (v .sized .clock-low)
-
   pub count-is : getD w 6 0 ≡ length (v .is .blocked)
   count-is = ap (λ l. getD l 6 0) (v .shows) ∙ blocked-count (v .is)
 
@@ -56,19 +40,6 @@ module _ {w : List ℕ} {i : ℕ} (v : Shown w (λ s. i < length (s .bins))) whe
 
   pub bin-low : getD w (40 + i) 0 ≤ No.fullBin
   bin-low = rw bin-is (all-get (λ x. x ≤ No.fullBin) (v .is .bins) i 0 (v .sized .bins-low) (omega arith))
-
--- A LINE of it, whose value is a natural number.
-natural : (i : ℕ) → i < 2_147_483_648 → valueOf (2_147_483_648 + i) ≡ pos i
-natural i l = ap valueOf (sym (code-stands (pos i) (2_147_483_648 + i) refl)) ∙ valueOf-code (pos i) l
-
-pub noted : (at : ℕ) (out : List ℕ) (s : State) (c n k i : ℕ) → c ≡ s .clock → i < 2_147_483_648
-    → sets out (16 * at) (lineBytes (record { time = c; process = n; kind = k; value = valueOf (2_147_483_648 + i) }))
-    ≡ wroteAt at (line s n k (pos i) ∷ []) out
-unfolding wroteAt
-noted at out s c n k i e l =
-    ap
-    (λ t. sets out (16 * at) (lineBytes (record { time = t; process = n; kind = k; value = valueOf (2_147_483_648 + i) }))) e
-    ∙ ap (λ u. sets out (16 * at) (lineBytes (line s n k u))) (natural i l)
 
 -- AN ACTION of the map, by its kind;
 pub entered : {bs row : List ℕ} {a : ℕ} (v : AtAction bs row a) (place kind : ℕ) → place ≡ getD row (257 + a) 0

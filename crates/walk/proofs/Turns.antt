@@ -15,7 +15,7 @@ use Rattle.work.specs.Work.{workOf, FloorSized}
 use Rattle.grant.specs.Standing.{placeAt}
 use Rattle.walk.specs.Walking.{Walking, Walked, Visiting, chooses, went, grantedLine, Visited, visits}
 use Rattle.walk.specs.Visits.{went-blocked, visit-waits, visit-goes, walk-visits}
-use Rattle.walk.proofs.Reading.{is-long}
+use Rattle.acting.proofs.Reading.{is-long}
 use Rattle.walk.proofs.Going.{is-sized, shown, woken-held, woken-floor}
 
 -- Lines first.

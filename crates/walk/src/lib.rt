@@ -5,11 +5,11 @@ ghost use Prim.Native.Nat.{_+_, _*_, _≤_, _<_};
 ghost use lib.ListN.{length, getD, set};
 ghost use lib.IntN.{pos};
 ghost use Rattle.semantics.specs.Model.{BECOME};
-ghost use Rattle.semantics.specs.State.{process, returnsR, returnsB, empty, with-floor};
+ghost use Rattle.semantics.specs.State.{process, returnsR, returnsB};
 ghost use Rattle.semantics.specs.Walk.{line, walk};
 ghost use Rattle.semantics.specs.Step.{setGlobal, become, occurs};
 ghost use Rattle.journal.specs.Wrote.{wroteAt};
-ghost use Rattle.work.specs.Work.{workOf, Doing, Done};
+ghost use Rattle.work.specs.Work.{workOf};
 ghost use Rattle.process.specs.Process.{Shown};
 ghost use Rattle.lists.specs.Lists.{Any};
 ghost use Rattle.acting.specs.Acting.{Acting, Roomy, Stepped};
@@ -18,26 +18,6 @@ ghost use Rattle.walk.specs.Walking.{AtAction, enteredBy, Setting};
 use acting::Went;
 
 // ---- what is read
-
-fn index(x: u32) -> usize
-    ensures { λ r. ⌜ r ≡ x ⌝ }
-{
-    x as usize
-}
-
-fn number_at(map: &[u32], i: usize) -> usize
-    requires { ⌜ i < length (now map) ⌝ }
-    ensures { λ r. ⌜ r ≡ getD (now (map .entry)) i 0 ⌝ }
-{
-    index(map[i])
-}
-
-fn clock_of(w: &[u64]) -> u64
-    requires { ⌜ Shown (now w) Any ⌝ }
-    ensures { λ r. ⌜ ((v : Shown (now (w .entry)) Any) → r ≡ v .is .clock) × (r ≤ 2000000000) ⌝ }
-{
-    w[0]
-}
 
 // How many are blocked.
 fn blocked_count(w: &[u64]) -> usize
@@ -52,7 +32,7 @@ fn enters_at<'a>(s: &'a [u8], map: &'a [u32], a: usize) -> bool
     requires { ⌜ AtAction (now s) (now map) a ⌝ }
     ensures { λ r. ⌜ ((v : AtAction (now (s .entry)) (now (map .entry)) a) → r ≡ enteredBy (v .action)) ⌝ }
 {
-    let place = number_at(map, 257 + a);
+    let place = map::number_at(map, 257 + a);
     fields::u16_at(s, place + 2) != 25
 }
 
@@ -84,14 +64,6 @@ fn set_at(w: &mut [u64], at: usize, v: u64)
     w[at] = v;
 }
 
-// Nobody has the floor.
-fn leave_floor(w: &mut [u64])
-    requires { ⌜ Doing (now w) Any (λ s. with-floor s empty) ⌝ }
-    ensures { λ _. ⌜ Done (now (w .entry)) Any (λ s. with-floor s empty) (now (w .exit)) ⌝ }
-{
-    w[3] = 0;
-}
-
 // A line of the process of this number, now.
 fn note<'a>(w: &'a [u64], out: &'a mut [u8], at: usize, kind: u32, number: u64, value: usize)
     requires { ⌜ Shown (now w) Any × ((16 * at + 16 ≤ length (now out)) × (kind < 65536)) ⌝ }
@@ -99,7 +71,7 @@ fn note<'a>(w: &'a [u64], out: &'a mut [u8], at: usize, kind: u32, number: u64, 
     ensures { λ _. ⌜ ((v : Shown (now (w .entry)) Any) → now (out .exit)
         ≡ wroteAt at (line (v .is) number kind (pos value) ∷ []) (now (out .entry))) ⌝ }
 {
-    let clock = clock_of(w) as u32;
+    let clock = acting::clock_of(w) as u32;
     journal::write_line(
         out,
         at,
@@ -126,7 +98,7 @@ fn release<'a>(
     ensures { λ _. ⌜ ((v : Going (now (s .entry)) (now (map .entry)) (now (w .entry)) k p n enters)
         → now (w .exit) ≡ workOf (went k (v .offer) (v .visiting .walking .is))) ⌝ }
 {
-    let clock = clock_of(w);
+    let clock = acting::clock_of(w);
     lists::unblock(w, k);
     grant::grant(s, map, w, p, n, enters);
     lists::wake(w, clock, p);
@@ -149,8 +121,8 @@ fn visit<'a>(
 {
     let place = lists::blocked_at(w, k);
     let action = grant::action_at(map, w, place);
-    let first = number_at(map, 1345 + action);
-    let behind = number_at(map, 1346 + action);
+    let first = map::number_at(map, 1345 + action);
+    let behind = map::number_at(map, 1346 + action);
     let which = grant::choice(s, map, w, action, k);
     if behind <= first + which {
         return 0;
@@ -266,7 +238,7 @@ pub fn become_slave<'a>(
     let number = process::number_of(w, p);
     note(w, out, at, 7, number, i);
     process::past(w, p);
-    leave_floor(w);
+    acting::leave_floor(w);
     lists::join_waiting(w, i, p);
     let lines = walk(s, map, w, out, at + 1);
     Went {

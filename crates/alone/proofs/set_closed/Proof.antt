@@ -5,7 +5,7 @@ use mathlib.Core.Path.{_∙_, ap}
 use lib.ListN.{set}
 use Rattle.work.specs.Head.{closed-set}
 use Rattle.process.specs.Process.{at-first}
-use Rattle.alone.proofs.Running.{is-long}
+use Rattle.acting.proofs.Reading.{is-long}
 use Rattle.alone.proofs.set_closed.Statement.{statement}
 use Rattle.alone.proofs.set_closed.Tie as tie
 

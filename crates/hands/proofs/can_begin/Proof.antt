@@ -1,6 +1,7 @@
 -- `hands::can_begin` meets its contract. Assumes nothing.
 use native.Mathlib.Omega.{arith}
-use Rattle.hands.proofs.Reading.{is-long, living-is}
+use Rattle.acting.proofs.Reading.{is-long}
+use Rattle.hands.proofs.Reading.{living-is}
 use borrow.Author.Needs.{needs}
 use Rattle.hands.proofs.can_begin.Statement.{statement}
 use Rattle.hands.proofs.can_begin.Tie as tie

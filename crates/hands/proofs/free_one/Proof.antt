@@ -3,7 +3,7 @@ use native.Mathlib.Omega.{arith}
 use mathlib.Core.Path.{_∙_}
 use Rattle.process.specs.Process.{seen, at-first}
 use Rattle.process.specs.Put.{process-sized}
-use Rattle.hands.proofs.Reading.{counted, noted}
+use Rattle.acting.proofs.Reading.{counted, noted}
 use Rattle.hands.proofs.Freeing.{wakes-now, woken-now}
 use borrow.Author.Needs.{needs}
 use Rattle.hands.proofs.free_one.Statement.{statement}

@@ -1,6 +1,7 @@
 -- `hands::last_of` meets its contract. Assumes nothing.
 use native.Mathlib.Omega.{arith}
-use Rattle.hands.proofs.Reading.{is-long, last-is, last-low}
+use Rattle.acting.proofs.Reading.{is-long}
+use Rattle.hands.proofs.Reading.{last-is, last-low}
 use Rattle.hands.proofs.last_of.Statement.{statement}
 use Rattle.hands.proofs.last_of.Tie as tie
 

@@ -1,7 +1,7 @@
 -- `hands::note_start` meets its contract. Assumes nothing.
 use mathlib.Core.Path.{_∙_}
 use native.Mathlib.Omega.{arith}
-use Rattle.hands.proofs.Reading.{counted, noted}
+use Rattle.acting.proofs.Reading.{counted, noted}
 use borrow.Author.Needs.{needs}
 use Rattle.hands.proofs.note_start.Statement.{statement}
 use Rattle.hands.proofs.note_start.Tie as tie

@@ -1,6 +1,7 @@
 -- `walk::blocked_count` meets its contract. Assumes nothing.
 use native.Mathlib.Omega.{arith}
-use Rattle.walk.proofs.Reading.{is-long, count-is, count-low}
+use Rattle.acting.proofs.Reading.{is-long}
+use Rattle.walk.proofs.Reading.{count-is, count-low}
 use Rattle.walk.proofs.blocked_count.Statement.{statement}
 use Rattle.walk.proofs.blocked_count.Tie as tie
 

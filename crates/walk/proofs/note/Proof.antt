@@ -1,6 +1,6 @@
 -- `walk::note` meets its contract. Assumes nothing.
-use mathlib.Core.Path.{_∙_}
-use Rattle.walk.proofs.Reading.{noted}
+use mathlib.Core.Path.{refl, _∙_}
+use Rattle.acting.proofs.Reading.{noted, counted}
 use borrow.Author.Needs.{needs}
 use Rattle.walk.proofs.note.Statement.{statement}
 use Rattle.walk.proofs.note.Tie as tie
@@ -28,8 +28,7 @@ same-length c = search needs
 
 returns : tie.Need-returns
 returns c = λ v. c .before .before .write-line .ensures
-    ∙ noted _ _ (v .is) _ _ _ _ (c .before .before .before .before .clock-of .ensures .0 v)
-    (c .before .before .before .before .before .before .before .pre .1 .1)
+    ∙ noted _ _ (v .is) _ (c .before .before .before .before .clock-of .ensures .0 v) refl (counted _)
 
 pub note-spec : {M : Type 1} → statement M
 note-spec =

@@ -1,0 +1,5 @@
+pub mod Copies
+pub mod Asked
+pub mod Aside
+pub mod Runs
+pub mod Turns

@@ -1,0 +1,3 @@
+pub mod Halts
+pub mod Fitted
+pub mod Ran

@@ -1,0 +1,154 @@
+-- Where the process on the floor stands, by the map: past the last action of its block, or at a record. Assumes nothing.
+use Prim.Native.Nat.{ℕ, zero, suc, _+_, _-_, _≤_, _<_}
+use native.Mathlib.Omega.{arith}
+use mathlib.Core.Path.{_≡_, refl, sym, _∙_, ap}
+use mathlib.Core.List.{List, [], _∷_}
+use mathlib.Core.Bool.{true}
+use mathlib.Core.Option.{Option, none, some}
+use lib.ListN.{length, getD, getElem?, take, drop}
+use lib.Seq.{drop-drop}
+use Rattle.semantics.specs.Model.{Action, Model, block}
+use Rattle.semantics.specs.Bytes.{u16}
+use Rattle.semantics.specs.State.{State, Frame, process}
+use Rattle.semantics.specs.Claim.{standsIn}
+use Rattle.semantics.specs.Sound.{chained}
+use Rattle.semantics.specs.Step.{act, exhausted, moves}
+use Rattle.promises.specs.Laws.{not-some, some-in}
+use Rattle.promises.specs.Nests.{chain-depth}
+use Rattle.index.specs.Ties.{kindAt, bodyAt, ActionAt}
+use Rattle.process.specs.Process.{Shown, Lives}
+use Rattle.process.proofs.Standing.{top-sized}
+use Rattle.acting.specs.Acting.{Stepped}
+use Rattle.acting.specs.Running.{runs}
+use Rattle.alone.specs.Alone.{Exhausted}
+use Rattle.alone.proofs.Running.{shown, fine, lives}
+use Rattle.step.specs.Steps.{Floored, MeetsAt, doing}
+
+-- At a place of a list there is something, or it is past its end.
+none-past : {A : Type 0} (xs : List A) (i : ℕ) → length xs ≤ i → getElem? xs i ≡ none
+none-past [] i l = refl
+none-past (x ∷ xs) zero l = absurd (omega arith)
+none-past (x ∷ xs) (suc i) l = none-past xs i (omega arith)
+
+some-there : {A : Type 0} (xs : List A) (i : ℕ) → i < length xs → (x : A) × (getElem? xs i ≡ some x)
+some-there [] i l = absurd (omega arith)
+some-there (x ∷ xs) zero l = (x, refl)
+some-there (x ∷ xs) (suc i) l = some-there xs i (omega arith)
+
+module _ {bs map w : List ℕ} {p : ℕ} (v : Floored bs map w p) where
+  abbrev m : Model
+  m = v .running .model
+
+  abbrev s : State
+  s = v .running .is
+
+  abbrev pub its-life : Lives p s
+  its-life = lives (runs (v .running)) p (v .on-floor)
+
+  abbrev pub its-work : Shown w (Lives p)
+  its-work = shown (runs (v .running)) its-life
+
+  abbrev b : ℕ
+  b = its-life .innermost .block
+
+  abbrev i : ℕ
+  i = its-life .innermost .at
+
+  pub block-in : b < length (m .blocks)
+  block-in =
+      let c : chained m (its-life .innermost ∷ its-life .around) ≡ true =
+      ap (chained m) (sym (its-life .frames-are)) ∙ fine (runs (v .running)) p (v .on-floor) .frames-ok in
+      chain-depth m (v .running .nested) (its-life .innermost) (its-life .around) c .1
+
+  pub stood : standsIn m (process s p .frames) ≡ getElem? (block m b) i
+  stood = ap (standsIn m) (its-life .frames-are)
+
+  -- k, f, j and n are what the code reads: the block, its first action, which action of it, and the next block's first.
+  module _ {k : ℕ} (block-is : k ≡ b) where
+    pub block-few : k + 1 < length map
+    block-few = omega (arith, block-is, block-in, v .running .fits .few-blocks, v .running .mapped .long)
+
+    module _ {f j : ℕ} (first-is : f ≡ getD map k 0) (index-is : j ≡ i) where
+      pub first-at : f ≡ getD map b 0
+      first-at = first-is ∙ ap (λ x. getD map x 0) block-is
+
+      pub sum-low : f + j ≤ 2_048
+      sum-low =
+          let a = v .running .mapped .first-few b (omega (arith, block-in, v .running .fits .few-blocks)) in
+          omega (arith, first-at, index-is, top-sized its-work its-life .at-low)
+
+      module _ {n : ℕ} (next-is : n ≡ getD map (k + 1) 0) where
+        next-at : n ≡ f + length (block m b)
+        next-at =
+            next-is ∙ ap (λ x. getD map (x + 1) 0) block-is ∙ v .running .mapped .first-next b block-in
+            ∙ ap (λ x. x + length (block m b)) (sym first-at)
+
+        -- PAST THE LAST action.
+        module _ (l : n ≤ f + j) where
+          pub stands-nowhere : standsIn m (process s p .frames) ≡ none
+          stands-nowhere = stood ∙ none-past (block m b) i (omega (arith, next-at, index-is))
+
+          abbrev pub gone : Exhausted bs map w p
+          gone = record { running = v .running; on-floor = v .on-floor; stands = stands-nowhere }
+
+          pub gone-as : moves m s p ≡ exhausted m s p (process s p) (process s p .frames)
+          unfolding moves
+          gone-as =
+              ap
+              (λ o. elim o
+              [ none ↦ exhausted m s p (process s p) (process s p .frames) | some a ↦ act m s p (process s p) a ])
+              stands-nowhere
+
+        -- AT AN ACTION, whose record stands at `place`.
+        module _ (l : f + j < n) where
+          pub acts : (x : Action) × (getElem? (block m b) i ≡ some x)
+          acts = some-there (block m b) i (omega (arith, next-at, index-is))
+
+          pub number-few : f + j < 1_024
+          number-few =
+              let a = v .running .mapped .first-few (k + 1) (omega (arith, block-is, block-in, v .running .fits .few-blocks)) in
+              omega (arith, next-is)
+
+          module _ {place : ℕ} (place-is : place ≡ getD map (257 + (f + j)) 0) where
+            pub record-at : ActionAt bs place (acts .0)
+            record-at =
+                let e : getD map (257 + (getD map b 0 + i)) 0 ≡ place =
+                ap (λ x. getD map (257 + (x + i)) 0) (sym first-at)
+                ∙ ap (λ x. getD map (257 + (f + x)) 0) (sym index-is) ∙ sym place-is in
+                rw (sym e) (v .running .mapped .acts-at b i (acts .0) (acts .1))
+
+            pub body-cut : {size : ℕ} → size ≡ u16 bs place
+                → take (place + 2 + size - (place + 4)) (drop (place + 4) bs) ≡ bodyAt bs place
+            body-cut {size} e =
+                let d : place + 2 + size - (place + 4) ≡ u16 (drop place bs) 0 - 2 =
+                omega (arith, e, record-at .size-is, record-at .long) in
+                ap (λ x. take x (drop (place + 4) bs)) d
+                ∙ ap (take (u16 (drop place bs) 0 - 2)) (sym (drop-drop 4 place bs))
+
+            module _ {kind : ℕ} (kind-is : kind ≡ kindAt bs place) {body : List ℕ} (body-is : body ≡ bodyAt bs place) where
+              abbrev pub meeting : MeetsAt body bs map w p kind (f + j)
+              meeting =
+                  record {
+                    meets =
+                        record {
+                          action = acts .0;
+                          acting =
+                              record { running = v .running; on-floor = v .on-floor; stands = stood ∙ acts .1 };
+                          inside = b;
+                          index = i;
+                          there = acts .1;
+                          place = place;
+                          here = record-at;
+                          kind-is = kind-is;
+                          body-is = body-is;
+                        };
+                    number-is = ap (λ x. x + j) first-at ∙ ap (λ x. getD map b 0 + x) index-is;
+                  }
+
+              pub meeting-as : moves m s p ≡ doing (meeting .meets)
+              unfolding moves
+              meeting-as =
+                  ap
+                  (λ o. elim o
+                  [ none ↦ exhausted m s p (process s p) (process s p .frames) | some a ↦ act m s p (process s p) a ])
+                  (stood ∙ acts .1)

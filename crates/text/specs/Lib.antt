@@ -1,0 +1,6 @@
+pub mod Text
+pub mod Vectors
+pub mod Tells
+pub mod Codes
+pub mod Put
+pub mod Laws

@@ -1,0 +1,80 @@
+-- A journal read back: the lines that its bytes tell. Assumes nothing.
+use mathlib.Core.Path.{_≡_, refl, _∙_, ap}
+use mathlib.Core.List.{List, [], _∷_, _++_, map, append-assoc}
+use Prim.Native.Nat.{ℕ, zero, suc, _+_, _*_, _-_, _<_, _/_, _%_}
+use native.Mathlib.Nat.{div-div-eq-div-mul}
+use native.Mathlib.Omega.{arith}
+use borrow.Author.Tests.{lt-ltb, le-ltb}
+use lib.IntN.{ℤ, pos, negsuc}
+use lib.ListN.{length, drop}
+use lib.Signed.{mag}
+use Rattle.semantics.specs.Bytes.{u16, u32, i32, signed}
+use Rattle.semantics.specs.Walk.{Line}
+use Rattle.semantics.specs.Journal.{twos, lineBytes, journal, written}
+use Rattle.semantics.specs.Plan.{Told, told}
+use Rattle.promises.specs.Laws.{AllOf}
+
+-- The line that bs begins with.
+abbrev pub tellIn : List ℕ → Told
+tellIn bs = (u32 bs 4, u32 bs 8, u16 bs 2, i32 bs 12)
+
+-- The first n lines of bs.
+unfoldable pub tellsIn : List ℕ → ℕ → List Told
+tellsIn bs zero = []
+tellsIn bs (suc n) = tellIn bs ∷ tellsIn (drop 16 bs) n
+
+-- A line that its 16 bytes can hold.
+pub record Writable (l : Line) : Type 0 where
+  pub time-fits : l .time < 4_294_967_296
+  pub process-fits : l .process < 4_294_967_296
+  pub kind-fits : l .kind < 65_536
+  pub value-fits : mag (l .value) < 2_147_483_648
+
+-- NUMBERS come back from their bytes.
+low-half : (n : ℕ) → n % 256 + 256 * (n / 256 % 256) ≡ n % 65_536
+low-half n = omega (arith, div-div-eq-div-mul n 256 256)
+
+from-le16 : (n : ℕ) → n < 65_536 → n % 256 + 256 * (n / 256 % 256) ≡ n
+from-le16 n h = omega arith
+
+from-le32 : (n : ℕ) → n < 4_294_967_296
+    → (n % 256 + 256 * (n / 256 % 256)) + 65_536 * (n / 65_536 % 256 + 256 * (n / 16_777_216 % 256)) ≡ n
+from-le32 n h =
+    rw (low-half n, ← div-div-eq-div-mul n 65_536 256, from-le16 (n / 65_536) (omega arith)) (omega arith)
+
+signed-twos : (v : ℤ) → mag v < 2_147_483_648 → signed (twos v) ≡ v
+signed-twos (pos n) h = rw (lt-ltb n 2_147_483_648 h)
+signed-twos (negsuc n) h =
+    rw (le-ltb (4_294_967_295 - n) 2_147_483_648 (omega arith)) (ap negsuc (omega arith))
+
+twos-fits : (v : ℤ) → mag v < 2_147_483_648 → twos v < 4_294_967_296
+twos-fits (pos n) h = omega arith
+twos-fits (negsuc n) h = omega arith
+
+-- LINES come back from the journal that they were written into.
+same-told : (t p k : ℕ) (v : ℤ) {t' p' k' : ℕ} {v' : ℤ} → t ≡ t' → p ≡ p' → k ≡ k' → v ≡ v'
+    → _≡_ {A = Told} (t, p, k, v) (t', p', k', v')
+same-told t p k v e f g h = rw (e, f, g, h)
+
+tell-line : (l : Line) (bs : List ℕ) → Writable l → tellIn (lineBytes l ++ bs) ≡ told l
+unfolding lineBytes
+tell-line l bs w =
+    same-told _ _ _ _ (from-le32 (l .time) (w .time-fits)) (from-le32 (l .process) (w .process-fits))
+    (from-le16 (l .kind) (w .kind-fits))
+    (ap signed (from-le32 (twos (l .value)) (twos-fits (l .value) (w .value-fits))) ∙ signed-twos (l .value) (w .value-fits))
+
+tell-on : (l : Line) (bs : List ℕ) (n : ℕ) → Writable l → tellsIn (lineBytes l ++ bs) (suc n) ≡ told l ∷ tellsIn bs n
+unfolding lineBytes tellsIn
+tell-on l bs n w = ap (λ t. t ∷ tellsIn bs n) (tell-line l bs w)
+
+pub tells-journal : (ls : List Line) (bs : List ℕ) → AllOf Writable ls → tellsIn (journal ls ++ bs) (length ls) ≡ map told ls
+unfolding tellsIn journal
+tells-journal [] bs h = refl
+tells-journal (l ∷ ls) bs h =
+    ap (λ xs. tellsIn xs (suc (length ls))) (append-assoc (lineBytes l) (journal ls) bs)
+    ∙ tell-on l (journal ls ++ bs) (length ls) (h .0)
+    ∙ ap (λ ts. told l ∷ ts) (tells-journal ls bs (h .1))
+
+pub tells-written : (ls : List Line) (j : List ℕ) → AllOf Writable ls → tellsIn (written ls j) (length ls) ≡ map told ls
+unfolding written
+tells-written ls j h = tells-journal ls (drop (16 * length ls) j) h
