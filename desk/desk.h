@@ -23,4 +23,20 @@ uint64_t desk_bound(const uint8_t *file, size_t length);
 #define DESK_REFUSED 3u
 #define DESK_BOUND_KIND(answer) ((uint32_t)((uint64_t)(answer) >> 32))
 
+/* Run whole: at most `limit` steps from fresh. The high 32 bits are DESK_CLOSED, DESK_IDLE, DESK_LIMIT or a fault's number (20
+ * to 30; a fresh run never gives 20), and then the low 32 bits are the steps done. Or the high ones are DESK_REFUSED, and then
+ * the low ones are what desk_check answers.
+ *
+ * The journal is `room` bytes, lent to be written, and may not overlap the file. A line takes 16 of them, little-endian: u16 14,
+ * u16 kind, u32 time, u32 process, i32 value. A step whose lines don't fit is fault 30. The lines stand one after the other from
+ * the first byte on; no byte behind them is changed, and a refusal changes none. So the desk should set the journal to 0 before:
+ * its lines are then those up to the first that doesn't begin with 14. */
+uint64_t desk_run(const uint8_t *file, size_t length, uint32_t limit, uint8_t *journal, size_t room);
+
+#define DESK_CLOSED 0u
+#define DESK_IDLE 1u
+#define DESK_LIMIT 2u
+#define DESK_RUN_ANSWER(answer) ((uint32_t)((uint64_t)(answer) >> 32))
+#define DESK_RUN_STEPS(answer) ((uint32_t)(answer))
+
 #endif

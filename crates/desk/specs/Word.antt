@@ -2,6 +2,8 @@
 use Prim.Native.Nat.{ℕ, _+_, _*_}
 use Rattle.semantics.specs.Decode.{Checked, refused, accepted}
 use Rattle.semantics.specs.Bound.{Bounded, NONE, OVER, AT}
+use Rattle.semantics.specs.Run.{Answer, CLOSED, IDLE, LIMIT, FAULT}
+use Rattle.semantics.specs.Desk.{Told}
 
 -- A refusal: its number and, in the low 16 bits, its place.
 abbrev pub refusal : ℕ → ℕ → ℕ
@@ -18,3 +20,14 @@ boundWord (accepted (AT n)) = n
 boundWord (accepted NONE) = 4_294_967_296
 boundWord (accepted OVER) = 8_589_934_592
 boundWord (refused n p) = 12_884_901_888 + refusal n p
+
+-- Run: in the high 32 bits the answer, and in the low ones the steps; or 3 with the refusal.
+abbrev pub answerWord : Answer → ℕ
+answerWord CLOSED = 0
+answerWord IDLE = 1
+answerWord LIMIT = 2
+answerWord (FAULT k) = k
+
+abbrev pub runWord : Checked Told → ℕ
+runWord (accepted t) = answerWord (t .answer) * 4_294_967_296 + t .steps
+runWord (refused n p) = 12_884_901_888 + refusal n p

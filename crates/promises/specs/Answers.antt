@@ -148,7 +148,7 @@ unfolding run
 run-first m n s x e f = rw (run, e, f) refl
 
 -- After the steps that it makes a run is the run from there.
-made-on : (m : Model) {s t : State} {n : ℕ} {ls : List Line} → Made m s n ls t → (k : ℕ)
+pub made-on : (m : Model) {s t : State} {n : ℕ} {ls : List Line} → Made m s n ls t → (k : ℕ)
     → run m (n + k) endless s ≡ behind (record { answer = LIMIT; steps = n; state = t; lines = ls }) (run m k endless t)
 made-on m none-made k = rw (zero-add k, zero-add) refl
 made-on m {s} (one-made {x = x} {n = n} e f h) k =

@@ -5,12 +5,11 @@ use Prim.Native.Nat.{ℕ}
 use native.Mathlib.Omega.{arith}
 use mathlib.Core.Path.{_≡_, refl, sym, ap, _∙_}
 use mathlib.Core.List.{List, [], _∷_}
-use Rattle.semantics.specs.Words.{Outcome, fails}
 use Rattle.semantics.specs.Numbers as No
 use Rattle.semantics.specs.Model.{Model}
 use Rattle.semantics.specs.Decode.{accepted, decode}
 use Rattle.semantics.specs.State.{State, fresh}
-use Rattle.semantics.specs.Walk.{Line, Next}
+use Rattle.semantics.specs.Walk.{Line}
 use Rattle.semantics.specs.Run.{Answer, FAULT, Ran, Room, Ask, run, callIn, call, leaves}
 use Rattle.promises.specs.Fit.{Fit}
 use Rattle.promises.specs.Accepted.{accepted-fit}
@@ -18,21 +17,17 @@ use Rattle.promises.specs.Sound.{Sound}
 use Rattle.promises.specs.Decides.{sound-back}
 use Rattle.promises.specs.Stays.{step-ok}
 use Rattle.promises.specs.FreshSound.{fresh-sound}
-use Rattle.promises.specs.Safe.{Safe, safe, above, step-safe}
+use Rattle.promises.specs.Safe.{safe-fault, step-safe}
 use Rattle.promises.specs.Answers.{run-keeps, Why, was-closed, was-idle, at-limit, at-fault, no-room, run-why}
 
 -- A step that faults out of a sound state faults above 20.
-not-20 : {o : Outcome Next} → Safe o → o ≡ fails No.STATE → ⊥
-not-20 safe e = let z : _≡_ {A = ℕ} 0 1 = cc in omega arith
-not-20 (above {n = n} l h) e = let z : n ≡ 20 = cc in omega arith
-
 why-not-20 : {m : Model} {n : ℕ} {r : Room} {a : Answer} {k : ℕ} {ls : List Line} {t : State} → Sound m t → Why m n r a k ls t
     → a ≡ FAULT No.STATE → ⊥
 why-not-20 h (was-closed b) e = let z : _≡_ {A = ℕ} 0 1 = cc in omega arith
 why-not-20 h (was-idle b) e = let z : _≡_ {A = ℕ} 0 1 = cc in omega arith
 why-not-20 h (at-limit b l) e = let z : _≡_ {A = ℕ} 0 1 = cc in omega arith
 why-not-20 {m = m} {t = t} h (at-fault {j = j} b l f) e =
-    let z : j ≡ 20 = cc in not-20 (step-safe m t h b) (f ∙ ap fails z)
+    let z : j ≡ 20 = cc in let a = safe-fault (step-safe m t h b) f in omega arith
 why-not-20 h (no-room b l f g) e = let z : _≡_ {A = ℕ} 30 20 = cc in omega arith
 
 module _ (bs : List ℕ) (m : Model) (e : decode bs ≡ accepted m) where

@@ -20,6 +20,7 @@ pub mod Safe
 pub mod Answers
 pub mod Ends
 pub mod Calls
+pub mod Emptied
 pub mod Weight
 pub mod Left
 pub mod Demand3

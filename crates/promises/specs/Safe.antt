@@ -2,7 +2,7 @@
 -- Assumes nothing.
 use Prim.Native.Nat.{ℕ, zero, suc, _≤_, _<_}
 use native.Mathlib.Omega.{arith}
-use mathlib.Core.Path.{_≡_, refl, ap}
+use mathlib.Core.Path.{_≡_, refl, sym, ap}
 use mathlib.Core.List.{List, [], _∷_}
 use mathlib.Core.Bool.{Bool, true, false, _&&_}
 use lib.Dec.{ltb}
@@ -21,7 +21,7 @@ use Rattle.semantics.specs.Step as Step
 use Rattle.semantics.specs.Step.{ends, exhausted, hold, prio, setGlobal, setLocal, doTimes, notify, putr, putb, become, puts}
 use Rattle.semantics.specs.Step.{start, request, while, trace, close, act, moves, occurs, next, step}
 use Rattle.semantics.specs.Run.{Before, isClosed, isIdle, goesOn, before}
-use Rattle.promises.specs.Laws.{and-true, if-has, once-self}
+use Rattle.promises.specs.Laws.{and-true, if-has, not-ok, once-self}
 use Rattle.promises.specs.Sound.{al, onFloor, noticed, inEvents, Sound}
 use Rattle.promises.specs.Parts.{moves-has}
 use Rattle.promises.specs.Takes.{choice-has}
@@ -29,6 +29,11 @@ use Rattle.promises.specs.Takes.{choice-has}
 pub data Safe {A : Type 0} : Outcome A → Type 0 where
   safe : {a : A} → Safe (ok a)
   above : {n : ℕ} → 20 < n → n < 30 → Safe (fails n)
+
+-- A fault that is safe is one of these.
+pub safe-fault : {A : Type 0} {o : Outcome A} {k : ℕ} → Safe o → o ≡ fails k → (20 < k) × (k < 30)
+safe-fault safe e = not-ok (sym e)
+safe-fault {k = k} (above {n = n} l h) e = let z : n ≡ k = cc in (omega arith, omega arith)
 
 -- OUTCOMES. The number of a need computes, and so does that it is one of 21 to 29.
 safe-bind : {A B : Type 0} {o : Outcome A} {f : A → Outcome B} → Safe o → ((a : A) → Safe (f a)) → Safe (_>>=_ o f)

@@ -1,0 +1,10 @@
+pub mod Loops
+pub mod Indices
+pub mod Reading
+pub mod Tests
+pub mod Waiters
+pub mod Events
+pub mod Places
+pub mod Listed
+pub mod Amounts
+pub mod Whole

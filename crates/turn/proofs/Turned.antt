@@ -1,0 +1,92 @@
+-- The lines of a turn fit into its journal and its text, and it tells the run that was made. Assumes nothing.
+use Prim.Native.Nat.{ℕ, _*_, _/_, _≤_}
+use native.Mathlib.Omega.{arith}
+use mathlib.Core.Path.{_≡_, refl, sym, _∙_, ap}
+use mathlib.Core.List.{List, map}
+use lib.ListN.{length}
+use borrow.Author.Tests.{leb-true}
+use Rattle.semantics.specs.Run as definition
+use Rattle.semantics.specs.Model.{Model}
+use Rattle.semantics.specs.State.{State}
+use Rattle.semantics.specs.Run.{CLOSED, IDLE, LIMIT, FAULT, Room, run}
+use Rattle.semantics.specs.Journal.{roomIn}
+use Rattle.semantics.specs.Plan.{told}
+use Rattle.promises.specs.Laws.{AllOf}
+use Rattle.promises.specs.Fit.{Fit}
+use Rattle.promises.specs.Sound.{Sound}
+use Rattle.promises.specs.Stays.{step-ok}
+use Rattle.promises.specs.Answers.{run-keeps, steps-within, lines-fit}
+use Rattle.promises.specs.Emptied.{moves-on}
+use Rattle.acting.specs.Acting.{Open}
+use Rattle.run.specs.declared.Ran.{Ran}
+use Rattle.run.specs.Ran.{answerOf, RanAs}
+use Rattle.text.specs.Text.{linesText}
+use Rattle.text.specs.Tells.{tellsIn, Writable, tells-written}
+use Rattle.text.specs.Put.{Front}
+use Rattle.turn.specs.declared.Answered.{Answered}
+use Rattle.turn.specs.Turn.{numberOf, AnsweredAs}
+
+module _ {bs map w : List ℕ} (v : Open bs map w) (limit : ℕ) (j : List ℕ) {x : Ran} {w′ j′ : List ℕ}
+    (t : RanAs (run (v .model) limit (roomIn j) (v .is)) x w′ j j′) where
+  few : x .lines ≤ length j / 16
+  few =
+      let a = leb-true _ (length j / 16) (lines-fit (v .model) limit (roomIn j) (v .is)) in
+      omega (arith, t .lines-are)
+
+  pub fits-journal : length j′ ≡ length j → 16 * x .lines ≤ length j′
+  fits-journal e = omega (arith, few)
+
+  pub fits-text : {n : ℕ} → 40 * (length j / 16) ≤ n → 40 * x .lines ≤ n
+  fits-text h = omega (arith, few)
+
+-- IT TELLS the run d, whose lines can be written.
+pub answered : {d : definition.Ran} → AllOf Writable (d .lines) → {x : Ran} {w′ j j′ : List ℕ} → RanAs d x w′ j j′
+    → {n b : ℕ} {out out′ : List ℕ} → n ≡ numberOf (answerOf (x .answer)) → Front (linesText (tellsIn j′ (x .lines))) out out′ b
+    → AnsweredAs d (record { answer = n; steps = x .steps; bytes = b }) w′ j j′ out out′
+answered {d} h {x} {j = j} {j′} t {b = b} {out} {out′} e f =
+    record {
+      answer-is = e ∙ ap numberOf (t .answer-is);
+      steps-are = t .steps-are;
+      state-is = t .state-is;
+      journal-is = t .journal-is;
+      text-is =
+          let c : tellsIn j′ (x .lines) ≡ map told (d .lines) =
+          ap (tellsIn j′) (t .lines-are) ∙ ap (λ l. tellsIn l (length (d .lines))) (t .journal-is) ∙ tells-written (d .lines) j h in
+          rw (sym c) f;
+    }
+
+pub run-sound : (m : Model) → Fit m → (n : ℕ) (r : Room) (s : State) → Sound m s → Sound m (run m n r s .state)
+run-sound m t =
+    run-keeps m (λ n r s y. Sound m s → Sound m (y .state)) (λ n r s a h. h)
+    (λ n r s x y b g l ih h. ih (step-ok m t s h x g))
+
+-- THE RUN IS STILL OPEN, and where its journal was full it has moved on.
+module _ {bs map w : List ℕ} (v : Open bs map w) (limit : ℕ) (j : List ℕ) {r : Answered} {w′ j′ out out′ : List ℕ}
+    (t : AnsweredAs (run (v .model) limit (roomIn j) (v .is)) r w′ j j′ out out′) where
+  abbrev pub still-open : Open bs map w′
+  still-open =
+      record {
+        model = v .model;
+        fits = v .fits;
+        nested = v .nested;
+        few-rounds = v .few-rounds;
+        mapped = v .mapped;
+        is = run (v .model) limit (roomIn j) (v .is) .state;
+        shows = t .state-is;
+        sound = run-sound (v .model) (v .fits) limit (roomIn j) (v .is) (v .sound);
+      }
+
+  pub few-steps : r .steps ≤ limit
+  few-steps = rw (t .steps-are) (steps-within (v .model) limit (roomIn j) (v .is))
+
+  pub moved-on : 65 ≤ length j / 16 → r .answer ≡ 30 → 1 ≤ r .steps
+  moved-on k e =
+      rw (t .steps-are)
+      (moves-on (v .model) limit (length j / 16) (v .is) (v .sound) k
+      (full (run (v .model) limit (roomIn j) (v .is) .answer) (sym (t .answer-is) ∙ e)))
+    where
+      full : (a : definition.Answer) → numberOf a ≡ 30 → a ≡ FAULT 30
+      full CLOSED e = absurd (omega arith)
+      full IDLE e = absurd (omega arith)
+      full LIMIT e = absurd (omega arith)
+      full (FAULT n) e = ap FAULT e

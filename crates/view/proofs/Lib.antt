@@ -1,0 +1,14 @@
+pub mod Walks
+pub mod Counting
+pub mod Turns
+pub mod Tested
+pub mod Words
+pub mod Shown
+pub mod Lists
+pub mod Waiting
+pub mod Cuts
+pub mod Process
+pub mod Living
+pub mod Head
+pub mod Whole
+pub mod Decided

@@ -1,0 +1,4 @@
+pub mod View
+pub mod Back
+pub mod Fits
+pub mod Rows
