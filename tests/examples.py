@@ -1,7 +1,7 @@
 """The example models of a post house: examples/NAME.model, what each is in examples/NAME.txt, what it prints in examples/NAME.plan.
 
     python3 -B tests/examples.py            writes the models and the texts
-    python3 -B tests/examples.py PROGRAM    runs PROGRAM on each and compares what it prints with NAME.plan
+    python3 -B tests/examples.py COMMAND ...    runs COMMAND on each and compares what it prints with NAME.plan
     python3 -B tests/examples.py --check    that the committed models and texts are those of this table
 """
 import pathlib
@@ -89,24 +89,24 @@ def files(example):
     return HERE / (name + '.model'), example(), HERE / (name + '.txt'), text, HERE / (name + '.plan')
 
 
-def main(argument):
+def main(words):
     failed = 0
     for example in EXAMPLES:
         model, data, about, text, plan = files(example)
-        if argument is None:
+        if not words:
             model.write_bytes(data)
             about.write_text(text)
-        elif argument == '--check':
+        elif words == ['--check']:
             if model.read_bytes() != data or about.read_text() != text:
                 failed += 1
                 print('%s: the committed files are not those of the table' % model.name)
         else:
-            told = subprocess.run([argument], input=data, capture_output=True, check=False).stdout
+            told = subprocess.run(words, input=data, capture_output=True, check=False).stdout
             if told != plan.read_bytes():
                 failed += 1
-                print('%s: %s prints\n%s' % (model.name, argument, told.decode()))
+                print('%s: %s prints\n%s' % (model.name, words[-1], told.decode()))
     return failed
 
 
 if __name__ == '__main__':
-    sys.exit(1 if main(sys.argv[1] if len(sys.argv) > 1 else None) else 0)
+    sys.exit(1 if main(sys.argv[1:]) else 0)

@@ -1,4 +1,3 @@
-pub mod Copies
 pub mod Asked
 pub mod Aside
 pub mod Runs

@@ -47,17 +47,6 @@ fn halted(w: &[u64]) -> Answer
     Answer::Limit
 }
 
-fn copy_words(from: &[u64], to: &mut [u64])
-    requires { ⌜ length (now from) ≡ length (now to) ⌝ }
-    ensures { λ _. ⌜ now (to .exit) ≡ now (from .entry) ⌝ }
-{
-    let mut i = 0;
-    while i < from.len() {
-        to[i] = from[i];
-        i += 1;
-    }
-}
-
 // A step where there is room for `left` lines, which may be too few: it is made aside, and undone where its lines don't fit.
 fn careful<'a>(
     s: &'a [u8],
@@ -74,12 +63,12 @@ fn careful<'a>(
         (now (w .entry)) (now (w .exit)) at (now (journal .entry)) (now (journal .exit))) ⌝ }
 {
     let mut kept = [0u64; 10696];
-    copy_words(w, &mut kept);
+    state::copy_words(w, &mut kept);
     let mut aside = [0u8; 1056];
     let went = step::step(s, map, w, &mut aside, 0);
     let lines = went.lines;
     if left < lines {
-        copy_words(&kept, w);
+        state::copy_words(&kept, w);
         return Went {
             fault: 30,
             lines: 0,

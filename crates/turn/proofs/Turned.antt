@@ -51,7 +51,8 @@ answered {d} h {x} {j = j} {j′} t {b = b} {out} {out′} e f =
       journal-is = t .journal-is;
       text-is =
           let c : tellsIn j′ (x .lines) ≡ map told (d .lines) =
-          ap (tellsIn j′) (t .lines-are) ∙ ap (λ l. tellsIn l (length (d .lines))) (t .journal-is) ∙ tells-written (d .lines) j h in
+          ap (tellsIn j′) (t .lines-are) ∙ ap (λ l. tellsIn l (length (d .lines))) (t .journal-is)
+          ∙ tells-written (d .lines) j h in
           rw (sym c) f;
     }
 

@@ -13,9 +13,13 @@ number-of-requires : tie.Need-number-of-requires
 number-of-requires c κs = search needs
 
 lines-requires : tie.Need-lines-requires
-lines-requires c κs = let v = c .before .before .before .before .before .before .before .before .before .before .before .before .before .before .before .pre in
-    let t = c .before .before .before .before .before .before .before .run .ensures (v .0) in
-    (fits-journal (v .0) _ _ t (c .before .before .before .before .journal .given), fits-text (v .0) _ _ t (v .1))
+lines-requires c κs =
+    let at-journal = c .before .before .before .before in
+    let at-run = at-journal .before .before .before in
+    let start = at-run .before .before .before .before .before .before .before .before in
+    let v = start .pre in
+    let t = at-run .run .ensures (v .0) in
+    (fits-journal (v .0) _ _ t (at-journal .journal .given), fits-text (v .0) _ _ t (v .1))
 
 same-length : tie.Need-same-length
 same-length c = search needs
@@ -27,8 +31,13 @@ same-length-3 : tie.Need-same-length-3
 same-length-3 c = search needs
 
 returns : tie.Need-returns
-returns c = λ v.
-    answered (run-writable (v .model) (v .fits) _ _ (v .is) (v .sound)) (c .before .before .before .before .before .before .before .before .before .before .run .ensures v) (c .before .before .before .before .before .number-of .ensures) (c .before .before .lines .ensures)
+returns c =
+    let at-lines = c .before .before in
+    let at-number-of = at-lines .before .before .before in
+    let at-run = at-number-of .before .before .before .before .before in
+    λ v.
+    answered (run-writable (v .model) (v .fits) _ _ (v .is) (v .sound)) (at-run .run .ensures v)
+    (at-number-of .number-of .ensures) (at-lines .lines .ensures)
 
 pub turn-spec : {M : Type 1} → statement M
 turn-spec =

@@ -1,10 +1,10 @@
--- `run::copy_words` meets its contract. The loop's invariant: the first i stand copied. Assumes nothing.
+-- `state::copy_words` meets its contract. The loop's invariant: the first i stand copied. Assumes nothing.
 use Prim.Native.Nat.{_-_}
 use native.Mathlib.Omega.{arith}
 use lib.ListN.{length}
-use Rattle.run.proofs.Copies.{Copied, copied-none, copied-one, copied-all}
-use Rattle.run.proofs.copy_words.Statement.{statement}
-use Rattle.run.proofs.copy_words.Tie as tie
+use Rattle.state.proofs.Copies.{Copied, copied-none, copied-one, copied-all}
+use Rattle.state.proofs.copy_words.Statement.{statement}
+use Rattle.state.proofs.copy_words.Tie as tie
 
 abbrev Inv-loop : tie.InvT-loop
 Inv-loop from to₀ i₀ to i = Copied from to₀ to i

@@ -1,0 +1,74 @@
+-- The fresh run of an accepted file is open, and the turns of a run come to an end. Assumes nothing.
+use Prim.Native.Nat.{ℕ, _+_, _-_, _≤_, _<_}
+use native.Mathlib.Omega.{arith}
+use mathlib.Core.Path.{_≡_, refl}
+use mathlib.Core.List.{List}
+use mathlib.Core.Bool.{Bool, true, false}
+use borrow.Author.Tests.{eqb-true}
+use lib.Dec.{eqb}
+use mir.Syntax.{w8}
+use mir.Val.{Fits}
+use lib.ListN.{getD, replicate}
+use Rattle.semantics.specs.Words.{if_then_else_}
+use Rattle.semantics.specs.Bytes.{recordsFrom}
+use Rattle.semantics.specs.State.{fresh}
+use Rattle.semantics.specs.Decode.{decode}
+use Rattle.model.specs.Check.{refusalOf}
+use Rattle.model.specs.declared.Refusal.{Refusal}
+use Rattle.model.proofs.Answer.{accepts}
+use Rattle.index.specs.Index.{Readable}
+use Rattle.index.proofs.Standing.{accepted-by}
+use Rattle.work.specs.Work.{workOf}
+use Rattle.map.specs.Map.{Mapped}
+use Rattle.map.specs.MapOf.{mapOf}
+use Rattle.begins.specs.Fresh.{Loaded}
+use Rattle.acting.specs.Acting.{Open}
+use Rattle.acting.proofs.Fresh.{fresh-open}
+use Rattle.whole.proofs.Says.{all-bytes}
+use Rattle.plan.specs.Given.{Accepted}
+
+-- A file that the check doesn't refuse is accepted.
+pub accepted-as : {bs : List ℕ} (r : Refusal) → r ≡ refusalOf (decode bs) → r .number ≡ 0 → Accepted bs
+accepted-as {bs} r e z = let a = accepts bs r e z in record { model = a .0; passes = a .1 }
+
+module _ {bs : List ℕ} (a : Accepted bs) where
+  pub reads : Readable bs
+  reads = accepted-by bs (a .model) (a .passes) .readable
+
+  module _ (b : (i : ℕ) → Fits w8 (getD bs i 0)) {map : List ℕ} (f : map ≡ mapOf (recordsFrom 0 bs)) where
+    abbrev pub begun : Open bs (mapOf (recordsFrom 0 bs)) (workOf (fresh (a .model)))
+    begun = fresh-open (all-bytes bs b) (a .passes)
+
+    pub maps : Mapped bs (a .model) map
+    maps = rw f (begun .mapped)
+
+    abbrev pub loaded : Loaded bs map (replicate 10_696 0)
+    loaded = record { model = a .model; is-accepted = a .passes; is-mapped = maps; is-empty = refl }
+
+    pub opened : {w : List ℕ} → ((d : Loaded bs map (replicate 10_696 0)) → w ≡ workOf (fresh (d .model))) → Open bs map w
+    opened g =
+        let o = begun in
+        record {
+          model = a .model;
+          fits = o .fits;
+          nested = o .nested;
+          few-rounds = o .few-rounds;
+          mapped = maps;
+          is = fresh (a .model);
+          shows = g loaded;
+          sound = o .sound;
+        }
+
+-- A turn that fills the journal is not the last, but it moves on; so what is left of a million steps falls.
+abbrev pub leftOf : (answer steps : ℕ) → ℕ
+leftOf a n = (if eqb a 30 then 1 else 0) + (1_000_000 - n)
+
+pub falls : (a b n k : ℕ) → a ≡ 30 → n + k ≤ 1_000_000 → (b ≡ 30 → 1 ≤ k) → leftOf b (n + k) < leftOf a n
+falls a b n k e l h = rw (e-true a e) (by (eqb b 30) refl)
+  where
+    e-true : (x : ℕ) → x ≡ 30 → eqb x 30 ≡ true
+    e-true x e = rw e
+
+    by : (t : Bool) → eqb b 30 ≡ t → (if t then 1 else 0) + (1_000_000 - (n + k)) < 1 + (1_000_000 - n)
+    by true d = let g = h (eqb-true b 30 d) in omega arith
+    by false d = omega arith

@@ -1,0 +1,4 @@
+pub mod Copies
+pub mod Laying
+pub mod Packing
+pub mod Places

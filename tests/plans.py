@@ -1,0 +1,82 @@
+"""The twelve plans of document 01 and a few other ends of a run, through a program that prints plans.
+
+    python3 -B tests/plans.py COMMAND ...    runs COMMAND on each model and compares what it prints
+
+What is expected was written from document 01 by hand; the second program's own tests have the same plans.
+"""
+import subprocess
+import sys
+
+from records import *
+
+
+def one(declared, *blocks):
+    """One process of class 0, whose body is the first block."""
+    return declared + CLASS(0) + ENTITY(0) + b''.join(BLOCK() + block for block in blocks)
+
+
+def several(declared, *parts):
+    """A class and a process for each part: when it enters, and its body."""
+    return (declared + b''.join(CLASS(n) for n in range(len(parts)))
+            + b''.join(ENTITY(n, time) for n, (time, body) in enumerate(parts))
+            + b''.join(BLOCK() + body for time, body in parts))
+
+
+def barred(priority):
+    """X holds A from 0 to 5; Y waits for A and B from 1; Z claims B at 2 with this priority."""
+    return several(
+        RES(1) + RES(1),
+        (0, REQ(getR(0)) + HOLD(literal(5)) + PUTR(0, 1)),
+        (1, REQ(getR(0), getR(1)) + HOLD(literal(5)) + PUTR(0, 1) + PUTR(1, 1)),
+        (2, PRIO(literal(priority)) + REQ(getR(1)) + HOLD(literal(1)) + PUTR(1, 1)))
+
+
+def lowest(priority, value):
+    return 0, PRIO(literal(priority)) + HOLD(literal(1)) + TRACE(literal(value))
+
+
+EXAMPLE = (RES(1) + CLASS(0) + ENTITY(0) + ENTITY(0)
+           + BLOCK() + REQ(getR(0)) + HOLD(literal(3)) + PUTR(0, 1))
+
+PLANS = [
+    ('1, an empty file', b'', ['idle 0 bound 0']),
+    ('2, the example of 72 bytes', EXAMPLE,
+     ['0 1 4 0', '0 2 3 0', '3 1 2 0', '3 1 5 0', '3 2 4 0', '6 2 2 0', '6 2 5 0', 'idle 10 bound 10']),
+    ('3, DO 0', one(b'', DO(0, 1), b''), ['0 1 2 0', 'idle 2 bound 2']),
+    ('4, DO 3 of an empty block', one(b'', DO(3, 1), b''), ['0 1 2 0', 'idle 5 bound 5']),
+    ('5, HOLD -1', one(b'', HOLD(literal(-1))), ['fault 22 0 bound 2']),
+    ('6, HOLD to the last time', one(b'', HOLD(literal(2000000000))), ['2000000000 1 2 0', 'idle 2 bound 2']),
+    ('6, and one more', one(b'', HOLD(literal(2000000001))), ['fault 23 0 bound 2']),
+    ('7 and 9, a part waits and the whole goes first', barred(0),
+     ['0 1 4 0', '1 2 3 0', '2 3 3 0', '5 1 2 0', '5 1 5 0', '5 2 4 0', '10 2 2 0', '10 2 5 0', '10 2 5 1', '10 3 4 0',
+      '11 3 2 0', '11 3 5 1', 'idle 18 bound 18']),
+    ('8, a higher priority is not barred', barred(1),
+     ['0 1 4 0', '1 2 3 0', '2 3 4 0', '3 3 2 0', '3 3 5 1', '5 1 2 0', '5 1 5 0', '5 2 4 0', '10 2 2 0', '10 2 5 0',
+      '10 2 5 1', 'idle 18 bound 18']),
+    ('10, PRIO -20,000 is -10,000', several(b'', lowest(-20000, 1), lowest(-10000, 2), lowest(-9999, 3)),
+     ['1 3 9 3', '1 3 2 0', '1 1 9 1', '1 1 2 0', '1 2 9 2', '1 2 2 0', 'idle 12 bound 12']),
+    ('11, giving back 2 of 1 held', one(RES(2), REQ(getR(0)) + PUTR(0, 2)), ['0 1 4 0', 'fault 24 1 bound 4']),
+    ('12, ending with 1 held', one(RES(1), REQ(getR(0))), ['0 1 4 0', 'fault 26 1 bound 2']),
+    ('closed', one(b'', CLOSE() + HOLD(literal(1))), ['0 1 10 0', 'closed 1 bound 3']),
+    ('a bound over 4,294,967,295', one(b'', CLOSE() + DO(65535, 1), DO(65535, 2), b''), ['0 1 10 0', 'closed 1 bound over']),
+    ('no bound, and a million steps', one(b'', WHILE(1), b''),
+     ['0 1 4 0'] * 500000 + ['limit 1000000 bound none']),
+    ('a value below 0', one(b'', TRACE(literal(-2147483648))), ['0 1 9 -2147483648', '0 1 2 0', 'idle 2 bound 2']),
+    ('a refusal', EXAMPLE + BLOCK()[:3], ['refused 1 at 72']),
+    ('65,536 bytes', bytes(65536), ['refused 4 at 0']),
+    ('more than a model may have', bytes(70000), ['refused 4 at 0']),
+]
+
+
+def main(command):
+    failed = 0
+    for name, model, expected in PLANS:
+        told = subprocess.run(command, input=model, capture_output=True, check=False).stdout.decode().split('\n')
+        if told != expected + ['']:
+            failed += 1
+            print('plan %s: %s prints %s' % (name, command[-1], told[:20]))
+    return failed
+
+
+if __name__ == '__main__':
+    sys.exit(1 if main(sys.argv[1:]) else 0)
