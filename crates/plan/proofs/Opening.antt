@@ -1,11 +1,11 @@
 -- The fresh run of an accepted file is open, and the turns of a run come to an end. Assumes nothing.
-use Prim.Native.Nat.{ℕ, _+_, _-_, _≤_, _<_}
+use Prim.Native.Nat.{ℕ, _+_, _-_, _<_, min}
 use native.Mathlib.Omega.{arith}
 use mathlib.Core.Path.{_≡_, refl}
 use mathlib.Core.List.{List}
-use mathlib.Core.Bool.{Bool, true, false}
-use borrow.Author.Tests.{eqb-true}
-use lib.Dec.{eqb}
+use mathlib.Core.Bool.{Bool, true, false, _&&_}
+use borrow.Author.Tests.{eqb-true, ltb-true}
+use lib.Dec.{eqb, ltb}
 use mir.Syntax.{w8}
 use mir.Val.{Fits}
 use lib.ListN.{getD, replicate}
@@ -16,6 +16,7 @@ use Rattle.semantics.specs.Decode.{decode}
 use Rattle.model.specs.Check.{refusalOf}
 use Rattle.model.specs.declared.Refusal.{Refusal}
 use Rattle.model.proofs.Answer.{accepts}
+use Rattle.promises.specs.Laws.{and-true}
 use Rattle.index.specs.Index.{Readable}
 use Rattle.index.proofs.Standing.{accepted-by}
 use Rattle.work.specs.Work.{workOf}
@@ -59,16 +60,20 @@ module _ {bs : List ℕ} (a : Accepted bs) where
           sound = o .sound;
         }
 
--- A turn that fills the journal is not the last, but it moves on; so what is left of a million steps falls.
+-- A turn that answers LIMIT, which is 2, has made all its steps; so what is left of a million steps falls.
 abbrev pub leftOf : (answer steps : ℕ) → ℕ
-leftOf a n = (if eqb a 30 then 1 else 0) + (1_000_000 - n)
+leftOf a n = (if eqb a 2 then 1 else 0) + (1_000_000 - n)
 
-pub falls : (a b n k : ℕ) → a ≡ 30 → n + k ≤ 1_000_000 → (b ≡ 30 → 1 ≤ k) → leftOf b (n + k) < leftOf a n
-falls a b n k e l h = rw (e-true a e) (by (eqb b 30) refl)
+pub falls : (a b n k : ℕ) → eqb a 2 && ltb n 1_000_000 ≡ true → (b ≡ 2 → k ≡ min (1_000_000 - n) 62)
+    → leftOf b (n + k) < leftOf a n
+falls a b n k e h = rw (both .0) (by (eqb b 2) refl)
   where
-    e-true : (x : ℕ) → x ≡ 30 → eqb x 30 ≡ true
-    e-true x e = rw e
+    both : (eqb a 2 ≡ true) × (ltb n 1_000_000 ≡ true)
+    both = and-true (eqb a 2) (ltb n 1_000_000) e
 
-    by : (t : Bool) → eqb b 30 ≡ t → (if t then 1 else 0) + (1_000_000 - (n + k)) < 1 + (1_000_000 - n)
-    by true d = let g = h (eqb-true b 30 d) in omega arith
+    l : n < 1_000_000
+    l = ltb-true n 1_000_000 (both .1)
+
+    by : (t : Bool) → eqb b 2 ≡ t → (if t then 1 else 0) + (1_000_000 - (n + k)) < 1 + (1_000_000 - n)
+    by true d = let g = h (eqb-true b 2 d) in omega (arith, l)
     by false d = omega arith

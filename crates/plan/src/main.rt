@@ -1,13 +1,16 @@
 // Reads a model from standard input, runs it for at most 1,000,000 steps and prints its plan.
 //
-// One byte more is read than a model may have, so that a file of over 65,535 bytes is refused like any other. The journal has
-// room for 4,096 lines and is printed and emptied whenever the next step's lines don't fit; what is printed is written in
-// pieces of that size.
+// One byte more is read than a model may have, so that a file of over 65,535 bytes is refused like any other. The run is made in
+// turns of 62 steps: a step writes at most 66 lines and the journal has room for 4,096, so that 30 is never met. What a turn
+// wrote is printed in one piece, and the journal is empty again.
 use bound::Bounded;
 ghost use mathlib.Core.Path.{_≡_};
-ghost use Prim.Native.Nat.{_≤_};
+ghost use Prim.Native.Nat.{min};
 ghost use lib.ListN.{length};
 ghost use Rattle.plan.specs.Given.{Accepted};
+
+// The number of the answer LIMIT.
+const LIMIT: u32 = 2;
 
 // The bound in one word, as `text::ending` takes it.
 fn bound_word(bounded: Bounded) -> u64 {
@@ -22,6 +25,13 @@ fn print(text: &[u8]) {
     io::write_all(libc::STDOUT_FILENO, text);
 }
 
+// How many steps the next turn may make.
+fn turn_steps(left: u32) -> u32
+    ensures { λ r. ⌜ r ≡ min left 62 ⌝ }
+{
+    if left < 62 { left } else { 62 }
+}
+
 // Runs an accepted model, and prints its lines and its last line.
 fn print_run(s: &[u8], bound: u64, out: &mut [u8])
     requires { ⌜ Accepted (now s) ⌝ }
@@ -32,9 +42,10 @@ fn print_run(s: &[u8], bound: u64, out: &mut [u8])
     let mut journal = [0u8; 65536];
     begins::fresh(s, &map.words, &mut w);
     let mut steps: u32 = 0;
-    let mut answer: u32 = 30;
-    while answer == 30 {
-        let turn = turn::turn(s, &map.words, &mut w, 1000000 - steps, &mut journal, out);
+    let mut answer: u32 = LIMIT;
+    while (answer == LIMIT) & (steps < 1000000) {
+        let limit = turn_steps(1000000 - steps);
+        let turn = turn::turn(s, &map.words, &mut w, limit, &mut journal, out);
         let bytes = turn.bytes;
         print(&out[..bytes]);
         steps += turn.steps;

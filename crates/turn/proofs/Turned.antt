@@ -8,7 +8,8 @@ use borrow.Author.Tests.{leb-true}
 use Rattle.semantics.specs.Run as definition
 use Rattle.semantics.specs.Model.{Model}
 use Rattle.semantics.specs.State.{State}
-use Rattle.semantics.specs.Run.{CLOSED, IDLE, LIMIT, FAULT, Room, run}
+use Rattle.semantics.specs.Walk.{Line}
+use Rattle.semantics.specs.Run.{Room, run}
 use Rattle.semantics.specs.Journal.{roomIn}
 use Rattle.semantics.specs.Plan.{told}
 use Rattle.promises.specs.Laws.{AllOf}
@@ -16,7 +17,8 @@ use Rattle.promises.specs.Fit.{Fit}
 use Rattle.promises.specs.Sound.{Sound}
 use Rattle.promises.specs.Stays.{step-ok}
 use Rattle.promises.specs.Answers.{run-keeps, steps-within, lines-fit}
-use Rattle.promises.specs.Emptied.{moves-on}
+use Rattle.promises.specs.Answers.{Why, was-closed, was-idle, at-limit, at-fault, no-room, run-why}
+use Rattle.promises.specs.Safe.{step-safe, safe-fault}
 use Rattle.acting.specs.Acting.{Open}
 use Rattle.run.specs.declared.Ran.{Ran}
 use Rattle.run.specs.Ran.{answerOf, RanAs}
@@ -61,7 +63,7 @@ run-sound m t =
     run-keeps m (λ n r s y. Sound m s → Sound m (y .state)) (λ n r s a h. h)
     (λ n r s x y b g l ih h. ih (step-ok m t s h x g))
 
--- THE RUN IS STILL OPEN, and where its journal was full it has moved on.
+-- THE RUN IS STILL OPEN.
 module _ {bs map w : List ℕ} (v : Open bs map w) (limit : ℕ) (j : List ℕ) {r : Answered} {w′ j′ out out′ : List ℕ}
     (t : AnsweredAs (run (v .model) limit (roomIn j) (v .is)) r w′ j j′ out out′) where
   abbrev pub still-open : Open bs map w′
@@ -80,14 +82,18 @@ module _ {bs map w : List ℕ} (v : Open bs map w) (limit : ℕ) (j : List ℕ) 
   pub few-steps : r .steps ≤ limit
   few-steps = rw (t .steps-are) (steps-within (v .model) limit (roomIn j) (v .is))
 
-  pub moved-on : 65 ≤ length j / 16 → r .answer ≡ 30 → 1 ≤ r .steps
-  moved-on k e =
-      rw (t .steps-are)
-      (moves-on (v .model) limit (length j / 16) (v .is) (v .sound) k
-      (full (run (v .model) limit (roomIn j) (v .is) .answer) (sym (t .answer-is) ∙ e)))
+  -- LIMIT is answered where all steps were made; a fault has another number.
+  pub all-steps : r .answer ≡ 2 → r .steps ≡ limit
+  all-steps e = t .steps-are ∙ by (run-why (v .model) limit (roomIn j) (v .is)) still-sound (sym (t .answer-is) ∙ e)
     where
-      full : (a : definition.Answer) → numberOf a ≡ 30 → a ≡ FAULT 30
-      full CLOSED e = absurd (omega arith)
-      full IDLE e = absurd (omega arith)
-      full LIMIT e = absurd (omega arith)
-      full (FAULT n) e = ap FAULT e
+      still-sound : Sound (v .model) (run (v .model) limit (roomIn j) (v .is) .state)
+      still-sound = run-sound (v .model) (v .fits) limit (roomIn j) (v .is) (v .sound)
+
+      by : {a : definition.Answer} {k : ℕ} {ls : List Line} {u : State} → Why (v .model) limit (roomIn j) a k ls u
+          → Sound (v .model) u → numberOf a ≡ 2 → k ≡ limit
+      by (was-closed b) h d = absurd (omega arith)
+      by (was-idle b) h d = absurd (omega arith)
+      by (at-limit b l) h d = l
+      by {u = u} (at-fault b l f) h d =
+          let s = safe-fault (step-safe (v .model) u h b) f in absurd (omega (arith, s, d))
+      by (no-room b l f g) h d = absurd (omega arith)

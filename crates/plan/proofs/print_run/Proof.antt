@@ -1,5 +1,4 @@
 -- `plan::print_run` meets its contract: the run stays open, and what is left of a million steps falls. Assumes nothing.
-use borrow.Author.Needs.{needs}
 use Prim.Native.Nat.{ℕ, _≤_}
 use native.Mathlib.Omega.{arith}
 use mathlib.Core.Path.{_≡_, refl, sym, _∙_, ap}
@@ -8,8 +7,9 @@ use lib.Seq.{length-take-le}
 use Rattle.acting.specs.Acting.{Open}
 use Rattle.acting.specs.Running.{runs}
 use Rattle.alone.proofs.Running.{run-long}
-use Rattle.turn.proofs.Turned.{still-open, few-steps, moved-on}
+use Rattle.turn.proofs.Turned.{still-open, few-steps, all-steps}
 use Rattle.plan.proofs.Opening.{reads, loaded, opened, leftOf, falls}
+use borrow.Author.Needs.{needs}
 use Rattle.plan.proofs.print_run.Statement.{statement}
 use Rattle.plan.proofs.print_run.Tie as tie
 
@@ -44,30 +44,33 @@ loop-holds c =
       (start .pre .1, (omega arith, length-replicate {A = ℕ} 65_536 0)),
     )
 
-slice-aggregate-turn : tie.Need-slice-aggregate-turn Inv-loop μ-loop
-slice-aggregate-turn c = sym (run-long (runs (c .before .before .before .before .before .loop .inv .0)))
+sub-turn-steps : tie.Need-sub-turn-steps Inv-loop μ-loop
+sub-turn-steps c = c .before .loop .inv .1 .1 .0
 
-sub-turn : tie.Need-sub-turn Inv-loop μ-loop
-sub-turn c = c .before .before .before .before .before .loop .inv .1 .1 .0
+turn-steps-requires : tie.Need-turn-steps-requires Inv-loop μ-loop
+turn-steps-requires c κs = search needs
+
+slice-aggregate-turn : tie.Need-slice-aggregate-turn Inv-loop μ-loop
+slice-aggregate-turn c = sym (run-long (runs (c .before .before .before .before .before .before .loop .inv .0)))
 
 slice-aggregate-turn-2 : tie.Need-slice-aggregate-turn-2 Inv-loop μ-loop
-slice-aggregate-turn-2 c = sym (c .before .before .before .before .before .before .loop .inv .1 .1 .1)
+slice-aggregate-turn-2 c = sym (c .before .before .before .before .before .before .before .loop .inv .1 .1 .1)
 
 turn-requires : tie.Need-turn-requires Inv-loop μ-loop
 turn-requires c κs =
-    let at-loop = c .before .before .before .before .before .before .before in
+    let at-loop = c .before .before .before .before .before .before .before .before in
     let i = at-loop .loop .inv in (i .0, omega (arith, i .1 .0, i .1 .1 .1))
 
 slice-reshare-prefix-print : tie.Need-slice-reshare-prefix-print Inv-loop μ-loop
 slice-reshare-prefix-print c =
     let at-turn = c .before .before .before .before in
-    let at-loop = at-turn .before .before .before .before .before .before .before .before in
+    let at-loop = at-turn .before .before .before .before .before .before .before .before .before in
     let i = at-loop .loop .inv in at-turn .turn .ensures (i .0) .text-is .fits
 
 slice-aggregate-print : tie.Need-slice-aggregate-print Inv-loop μ-loop
 slice-aggregate-print c =
     let at-turn = c .before .before .before .before .before in
-    let at-loop = at-turn .before .before .before .before .before .before .before .before in
+    let at-loop = at-turn .before .before .before .before .before .before .before .before .before in
     let i = at-loop .loop .inv in
     sym (length-take-le _ _ (at-turn .turn .ensures (i .0) .text-is .fits))
 
@@ -77,33 +80,41 @@ print-requires c κs = search needs
 add-steps : tie.Need-add-steps Inv-loop μ-loop
 add-steps c =
     let at-turn = c .before .before .before .before .before .before .before in
-    let at-loop = at-turn .before .before .before .before .before .before .before .before in
+    let at-turn-steps = at-turn .before .before .before .before .before .before .before in
+    let at-loop = at-turn-steps .before .before in
     let i = at-loop .loop .inv in
-    omega (arith, i .1 .1 .0, few-steps (i .0) _ _ (at-turn .turn .ensures (i .0)))
+    let k = at-turn-steps .turn-steps .ensures in
+    omega (arith, i .1 .1 .0, k, few-steps (i .0) _ _ (at-turn .turn .ensures (i .0)))
 
 loop-less : tie.Need-loop-less Inv-loop μ-loop
 loop-less c =
     let at-turn = c .before .before .before .before .before .before .before in
-    let in-loop = at-turn .before .before .before .before .before .before .before in
+    let at-turn-steps = at-turn .before .before .before .before .before .before .before in
+    let in-loop = at-turn-steps .before in
     let at-loop = in-loop .before in
     let i = at-loop .loop .inv in
     let t = at-turn .turn .ensures (i .0) in
-    falls _ _ _ _ (in-loop .loop-test .taken) (omega (arith, i .1 .1 .0, few-steps (i .0) _ _ t))
-    (moved-on (i .0) _ _ t (omega (arith, i .1 .1 .1)))
+    let k = at-turn-steps .turn-steps .ensures in
+    let q = in-loop .loop-test .taken in
+    let l = at-loop .loop in
+    let r = at-turn .turn .result in
+    falls (l .answer) (r .answer) (l .steps) (r .steps) q (λ e. all-steps (i .0) _ _ t e ∙ k)
 
 loop-again : tie.Need-loop-again Inv-loop μ-loop
 loop-again c =
     let at-out = c .before .before .before .before in
     let at-journal2 = at-out .before in
     let at-turn = at-journal2 .before .before in
-    let at-loop = at-turn .before .before .before .before .before .before .before .before in
+    let at-turn-steps = at-turn .before .before .before .before .before .before .before in
+    let at-loop = at-turn-steps .before .before in
     let i = at-loop .loop .inv in
-    let t = at-turn .turn .ensures (i .0) in (
+    let t = at-turn .turn .ensures (i .0) in
+    let k = at-turn-steps .turn-steps .ensures in (
       still-open (i .0) _ _ t,
       (
         at-out .out .given ∙ i .1 .0,
         (
-          omega (arith, i .1 .1 .0, few-steps (i .0) _ _ t),
+          omega (arith, i .1 .1 .0, k, few-steps (i .0) _ _ t),
           at-journal2 .journal2 .given,
         ),
       ),
@@ -137,8 +148,9 @@ print-run-spec =
     slice-aggregate-fresh
     fresh-requires
     loop-holds
+    sub-turn-steps
+    turn-steps-requires
     slice-aggregate-turn
-    sub-turn
     slice-aggregate-turn-2
     turn-requires
     slice-reshare-prefix-print

@@ -1,0 +1,4 @@
+pub mod Shape
+pub mod Totals
+pub mod Decides
+pub mod Moves
