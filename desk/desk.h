@@ -39,4 +39,21 @@ uint64_t desk_run(const uint8_t *file, size_t length, uint32_t limit, uint8_t *j
 #define DESK_RUN_ANSWER(answer) ((uint32_t)((uint64_t)(answer) >> 32))
 #define DESK_RUN_STEPS(answer) ((uint32_t)(answer))
 
+/* An open run is a row of DESK_WORDS words that the desk keeps between calls, and may copy. Its meaning is the library's own; a
+ * desk reads of it the clock (below) and hands it back as it got it. It belongs to its file: both are handed over at each call.
+ *
+ * Open: 0, and the row holds the fresh run. Otherwise what desk_check answers; or 20 times 65,536, if `words` isn't DESK_WORDS.
+ * Then the row is as it was. */
+uint32_t desk_open(const uint8_t *file, size_t length, uint64_t *run, size_t words);
+
+/* Move on: at most `limit` steps more. The high 32 bits are DESK_CLOSED, DESK_IDLE, DESK_LIMIT or a fault's number, and the low
+ * ones the steps done in this call. 20 is the answer if the file is refused, or the row is not one that a sound run of it has:
+ * then nothing is changed. The journal is as with desk_run, and begins anew at each call. After 30 the run stands before the step
+ * whose lines didn't fit: with an empty journal, or a longer one, it goes on. File, row and journal may not overlap. */
+uint64_t desk_move(const uint8_t *file, size_t length, uint64_t *run, size_t words, uint32_t limit, uint8_t *journal,
+                   size_t room);
+
+#define DESK_WORDS 10696u
+#define DESK_CLOCK(run) ((run)[0])
+
 #endif

@@ -4,6 +4,8 @@ use Rattle.semantics.specs.Decode.{Checked, refused, accepted}
 use Rattle.semantics.specs.Bound.{Bounded, NONE, OVER, AT}
 use Rattle.semantics.specs.Run.{Answer, CLOSED, IDLE, LIMIT, FAULT}
 use Rattle.semantics.specs.Desk.{Told}
+use Rattle.handed.specs.Open.{Opened}
+use Rattle.handed.specs.Call.{Called}
 
 -- A refusal: its number and, in the low 16 bits, its place.
 abbrev pub refusal : ℕ → ℕ → ℕ
@@ -28,6 +30,17 @@ answerWord IDLE = 1
 answerWord LIMIT = 2
 answerWord (FAULT k) = k
 
+abbrev pub toldWord : Answer → ℕ → ℕ
+toldWord a steps = answerWord a * 4_294_967_296 + steps
+
 abbrev pub runWord : Checked Told → ℕ
-runWord (accepted t) = answerWord (t .answer) * 4_294_967_296 + t .steps
+runWord (accepted t) = toldWord (t .answer) (t .steps)
 runWord (refused n p) = 12_884_901_888 + refusal n p
+
+-- Open: 0, or the refusal, or 20 in a refusal's place.
+abbrev pub openWord : Opened → ℕ
+openWord d = refusal (d .number) (d .place)
+
+-- Move on: the answer and the steps of this call.
+abbrev pub moveWord : Called → ℕ
+moveWord d = toldWord (d .answer) (d .steps)

@@ -6,11 +6,15 @@ ghost use mathlib.Core.Path.{_≡_};
 ghost use Prim.Native.Nat.{_≤_};
 ghost use Rattle.semantics.specs.Desk.{checkFile, boundFile, runFile};
 ghost use Rattle.run.specs.Ran.{answerOf};
+ghost use Rattle.semantics.specs.Journal.{written};
 ghost use Rattle.whole.specs.Whole.{journalAfter};
-ghost use Rattle.desk.specs.Word.{refusal as refusalWord, checkWord, boundWord, answerWord, runWord};
+ghost use Rattle.handed.specs.Open.{openRow};
+ghost use Rattle.handed.specs.Call.{asked, callRow};
+ghost use Rattle.desk.specs.Word.{refusal as refusalWord, checkWord, boundWord, answerWord, toldWord, runWord};
+ghost use Rattle.desk.specs.Word.{openWord, moveWord};
 
 fn refusal(number: u32, place: usize) -> u32
-    requires { ⌜ number ≤ 10 ⌝ }
+    requires { ⌜ number ≤ 20 ⌝ }
     requires { ⌜ place ≤ 65535 ⌝ }
     ensures { λ r. ⌜ r ≡ refusalWord number place ⌝ }
 {
@@ -48,6 +52,13 @@ fn answer_number(answer: Answer) -> u32
     }
 }
 
+// The answer and the steps done, in one number.
+fn told(answer: Answer, steps: u32) -> u64
+    ensures { λ r. ⌜ r ≡ toldWord (answerOf answer) steps ⌝ }
+{
+    (answer_number(answer) as u64) * 4294967296 + (steps as u64)
+}
+
 #[no_mangle]
 pub extern "C" fn desk_run<'a>(file: &'a [u8], limit: u32, journal: &'a mut [u8]) -> u64
     ensures { λ r. ⌜ r ≡ runWord (runFile (now (file .entry)) limit (now (journal .entry))) ⌝ }
@@ -55,7 +66,35 @@ pub extern "C" fn desk_run<'a>(file: &'a [u8], limit: u32, journal: &'a mut [u8]
         ≡ journalAfter (runFile (now (file .entry)) limit (now (journal .entry))) (now (journal .entry)) ⌝ }
 {
     match whole::run_whole(file, limit, journal) {
-        Whole::Ran(answer, steps) => (answer_number(answer) as u64) * 4294967296 + (steps as u64),
+        Whole::Ran(answer, steps) => told(answer, steps),
         Whole::Refused(number, place) => 12884901888 + (refusal(number, place) as u64),
     }
+}
+
+#[no_mangle]
+pub extern "C" fn desk_open<'a>(file: &'a [u8], run: &'a mut [u64]) -> u32
+    ensures { λ r. ⌜ r ≡ openWord (openRow (now (file .entry)) (now (run .entry))) ⌝ }
+    ensures { λ _. ⌜ now (run .exit) ≡ openRow (now (file .entry)) (now (run .entry)) .row ⌝ }
+{
+    let opened = handed::open_row(file, run);
+    refusal(opened.number, opened.place)
+}
+
+#[no_mangle]
+pub extern "C" fn desk_move<'a>(
+    file: &'a [u8],
+    run: &'a mut [u64],
+    limit: u32,
+    journal: &'a mut [u8],
+) -> u64
+    ensures { λ r. ⌜ r ≡ moveWord (callRow (now (file .entry)) (asked limit (now (journal .entry))) (now (run .entry))) ⌝ }
+    ensures { λ _. ⌜ now (run .exit)
+        ≡ callRow (now (file .entry)) (asked limit (now (journal .entry))) (now (run .entry)) .row ⌝ }
+    ensures { λ _. ⌜ now (journal .exit)
+        ≡ written (callRow (now (file .entry)) (asked limit (now (journal .entry))) (now (run .entry)) .lines)
+        (now (journal .entry)) ⌝ }
+{
+    let ran = handed::run_row(file, run, limit, journal);
+    let answer = ran.answer;
+    told(answer, ran.steps)
 }

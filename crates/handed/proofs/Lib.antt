@@ -1,4 +1,5 @@
 pub mod Shape
 pub mod Totals
 pub mod Decides
+pub mod Opens
 pub mod Moves

@@ -1,3 +1,4 @@
 pub mod Handed
+pub mod Open
 pub mod Call
 pub mod Own

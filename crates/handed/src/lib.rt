@@ -1,4 +1,5 @@
-// An open run that is handed in as any bytes and any row of words: whether it is sound, and the call that moves it on.
+// An open run that is handed in as any bytes and any row of words: opened, tested for soundness, and moved on by a call.
+use model::Refusal;
 use run::Answer;
 use run::Ran;
 ghost use mathlib.Core.Path.{_≡_};
@@ -6,7 +7,30 @@ ghost use Rattle.semantics.specs.Bytes.{recordsFrom};
 ghost use Rattle.map.specs.MapOf.{mapOf};
 ghost use Rattle.view.specs.View.{soundRow};
 ghost use Rattle.handed.specs.Handed.{Passing};
+ghost use Rattle.handed.specs.Open.{openRow, TellsOpened};
 ghost use Rattle.handed.specs.Call.{away, asked, callRow, TellsCall};
+
+// Opens a run of the model file s in the row w. A file that the check refuses, or a row that is too long or too short for a
+// run (20), leaves the row as it was.
+pub fn open_row<'a>(s: &'a [u8], w: &'a mut [u64]) -> Refusal
+    ensures { λ r. ⌜ TellsOpened (openRow (now (s .entry)) (now (w .entry))) r (now (w .exit)) ⌝ }
+{
+    let answer = model::check(s);
+    if answer.number != 0 {
+        return answer;
+    }
+    if w.len() != 10696 {
+        return Refusal {
+            number: 20,
+            place: 0,
+        };
+    }
+    let map = map::map_of(s);
+    let mut begun = [0u64; 10696];
+    begins::fresh(s, &map.words, &mut begun);
+    state::copy_words(&begun, w);
+    answer
+}
 
 // Whether the row w shows a sound state of the model of s, a file that the check accepts and whose map is `map`. The totals of
 // its resources are what is free in a fresh run, which is laid aside.
