@@ -22,7 +22,8 @@ use Rattle.acting.specs.Acting.{Stepped}
 use Rattle.acting.specs.Running.{runs}
 use Rattle.alone.specs.Alone.{Exhausted}
 use Rattle.alone.proofs.Running.{shown, fine, lives}
-use Rattle.step.specs.Steps.{Floored, MeetsAt, doing}
+use Rattle.asks.proofs.Branches.{few}
+use Rattle.step.specs.Steps.{Floored, Stands, MeetsAt, acted}
 
 -- At a place of a list there is something, or it is past its end.
 none-past : {A : Type 0} (xs : List A) (i : ℕ) → length xs ≤ i → getElem? xs i ≡ none
@@ -99,56 +100,66 @@ module _ {bs map w : List ℕ} {p : ℕ} (v : Floored bs map w p) where
               [ none ↦ exhausted m s p (process s p) (process s p .frames) | some a ↦ act m s p (process s p) a ])
               stands-nowhere
 
-        -- AT AN ACTION, whose record stands at `place`.
+        -- AT AN ACTION.
         module _ (l : f + j < n) where
-          pub acts : (x : Action) × (getElem? (block m b) i ≡ some x)
-          acts = some-there (block m b) i (omega (arith, next-at, index-is))
+          pub its-act : (x : Action) × (getElem? (block m b) i ≡ some x)
+          its-act = some-there (block m b) i (omega (arith, next-at, index-is))
 
-          pub number-few : f + j < 1_024
-          number-few =
-              let a = v .running .mapped .first-few (k + 1) (omega (arith, block-is, block-in, v .running .fits .few-blocks)) in
-              omega (arith, next-is)
+          abbrev pub standing : Stands bs map w p (f + j)
+          standing =
+              record {
+                action = its-act .0;
+                asked =
+                    record {
+                      acting = record { running = v .running; on-floor = v .on-floor; stands = stood ∙ its-act .1 };
+                      inside = b;
+                      index = i;
+                      there = its-act .1;
+                      number-is = ap (λ x. x + j) first-at ∙ ap (λ x. getD map b 0 + x) index-is;
+                    };
+              }
 
-          module _ {place : ℕ} (place-is : place ≡ getD map (257 + (f + j)) 0) where
-            pub record-at : ActionAt bs place (acts .0)
-            record-at =
-                let e : getD map (257 + (getD map b 0 + i)) 0 ≡ place =
-                ap (λ x. getD map (257 + (x + i)) 0) (sym first-at)
-                ∙ ap (λ x. getD map (257 + (f + x)) 0) (sym index-is) ∙ sym place-is in
-                rw (sym e) (v .running .mapped .acts-at b i (acts .0) (acts .1))
+          pub standing-as : moves m s p ≡ acted (standing .asked .acting)
+          unfolding moves
+          standing-as =
+              ap
+              (λ o. elim o
+              [ none ↦ exhausted m s p (process s p) (process s p .frames) | some a ↦ act m s p (process s p) a ])
+              (stood ∙ its-act .1)
 
-            pub body-cut : {size : ℕ} → size ≡ u16 bs place
-                → take (place + 2 + size - (place + 4)) (drop (place + 4) bs) ≡ bodyAt bs place
-            body-cut {size} e =
-                let d : place + 2 + size - (place + 4) ≡ u16 (drop place bs) 0 - 2 =
-                omega (arith, e, record-at .size-is, record-at .long) in
-                ap (λ x. take x (drop (place + 4) bs)) d
-                ∙ ap (take (u16 (drop place bs) 0 - 2)) (sym (drop-drop 4 place bs))
+-- THE RECORD of the action where it stands, at `place`.
+module _ {bs map w : List ℕ} {p a : ℕ} (v : Stands bs map w p a) where
+  pub in-map : 257 + a < length map
+  in-map = omega (arith, few (v .asked), v .asked .acting .running .mapped .long)
 
-            module _ {kind : ℕ} (kind-is : kind ≡ kindAt bs place) {body : List ℕ} (body-is : body ≡ bodyAt bs place) where
-              abbrev pub meeting : MeetsAt body bs map w p kind (f + j)
-              meeting =
-                  record {
-                    meets =
-                        record {
-                          action = acts .0;
-                          acting =
-                              record { running = v .running; on-floor = v .on-floor; stands = stood ∙ acts .1 };
-                          inside = b;
-                          index = i;
-                          there = acts .1;
-                          place = place;
-                          here = record-at;
-                          kind-is = kind-is;
-                          body-is = body-is;
-                        };
-                    number-is = ap (λ x. x + j) first-at ∙ ap (λ x. getD map b 0 + x) index-is;
-                  }
+  module _ {place : ℕ} (place-is : place ≡ getD map (257 + a) 0) where
+    pub record-at : ActionAt bs place (v .action)
+    record-at =
+        rw (place-is ∙ ap (λ x. getD map (257 + x) 0) (v .asked .number-is))
+        (v .asked .acting .running .mapped .acts-at (v .asked .inside) (v .asked .index) (v .action) (v .asked .there))
 
-              pub meeting-as : moves m s p ≡ doing (meeting .meets)
-              unfolding moves
-              meeting-as =
-                  ap
-                  (λ o. elim o
-                  [ none ↦ exhausted m s p (process s p) (process s p .frames) | some a ↦ act m s p (process s p) a ])
-                  (stood ∙ acts .1)
+    pub body-cut : {size : ℕ} → size ≡ u16 bs place
+        → take (place + 2 + size - (place + 4)) (drop (place + 4) bs) ≡ bodyAt bs place
+    body-cut {size} e =
+        let d : place + 2 + size - (place + 4) ≡ u16 (drop place bs) 0 - 2 =
+        omega (arith, e, record-at .size-is, record-at .long) in
+        ap (λ x. take x (drop (place + 4) bs)) d ∙ ap (take (u16 (drop place bs) 0 - 2)) (sym (drop-drop 4 place bs))
+
+    module _ {kind : ℕ} (kind-is : kind ≡ kindAt bs place) {body : List ℕ} (body-is : body ≡ bodyAt bs place) where
+      abbrev pub meeting : MeetsAt body bs map w p kind a
+      meeting =
+          record {
+            meets =
+                record {
+                  action = v .action;
+                  acting = v .asked .acting;
+                  inside = v .asked .inside;
+                  index = v .asked .index;
+                  there = v .asked .there;
+                  place = place;
+                  here = record-at;
+                  kind-is = kind-is;
+                  body-is = body-is;
+                };
+            number-is = v .asked .number-is;
+          }

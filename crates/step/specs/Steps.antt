@@ -20,13 +20,19 @@ use Rattle.work.specs.Work.{workOf, NoticeSized}
 use Rattle.work.specs.Sized.{Rounds}
 use Rattle.map.specs.Map.{Mapped}
 use Rattle.acting.specs.Acting.{Open, Acting}
+use Rattle.asks.specs.Asks.{Asked}
 
 -- The process in place p has the floor.
 pub record Floored (bs map w : List ℕ) (p : ℕ) : Type 0 where
   pub running : Open bs map w
   pub on-floor : running .is .floor ≡ held p
 
--- It stands at an action, whose record is of kind k and has this body;
+-- It stands at an action, whose number in the map is a;
+pub record Stands (bs map w : List ℕ) (p a : ℕ) : Type 0 where
+  pub action : Action
+  pub asked : Asked bs map w p a action
+
+-- or whose record is of kind k and has this body;
 pub record Meets (body bs map w : List ℕ) (p k : ℕ) : Type 0 where
   pub action : Action
   pub acting : Acting bs map w p action
@@ -38,17 +44,17 @@ pub record Meets (body bs map w : List ℕ) (p k : ℕ) : Type 0 where
   pub kind-is : k ≡ kindAt bs place
   pub body-is : body ≡ bodyAt bs place
 
--- and the action's number in the map is a.
+-- or both.
 pub record MeetsAt (body bs map w : List ℕ) (p k a : ℕ) : Type 0 where
   pub meets : Meets body bs map w p k
   pub number-is : a ≡ getD map (meets .inside) 0 + meets .index
 
 -- What the definitions make of it.
+abbrev pub acted : {bs map w : List ℕ} {p : ℕ} {x : Action} → Acting bs map w p x → Outcome Next
+acted {p = p} {x} v = act (v .running .model) (v .running .is) p (process (v .running .is) p) x
+
 abbrev pub doing : {body bs map w : List ℕ} {p k : ℕ} → Meets body bs map w p k → Outcome Next
-doing {p = p} v =
-    let m : Model = v .acting .running .model in
-    let s : State = v .acting .running .is in
-    act m s p (process s p) (v .action)
+doing v = acted (v .acting)
 
 -- Nobody has the floor, and the process in place p is in no list: it may take it.
 pub record Waking (bs map w : List ℕ) (p : ℕ) : Type 0 where

@@ -5,7 +5,7 @@ ghost use lib.ListN.{length, getD, set};
 ghost use Rattle.semantics.specs.State.{held, with-floor};
 ghost use Rattle.semantics.specs.Step.{moves, occurs, step};
 ghost use Rattle.acting.specs.Acting.{Going, Roomy, Stepped};
-ghost use Rattle.step.specs.Steps.{Floored, Meets, MeetsAt, doing, Waking, Occurring};
+ghost use Rattle.step.specs.Steps.{Floored, Stands, Meets, MeetsAt, acted, doing, Waking, Occurring};
 use acting::Went;
 
 fn wide(x: u32) -> u64
@@ -145,6 +145,29 @@ fn act<'a>(
     act_on_claim(kind, body, s, map, w, out, at, p, a)
 }
 
+// The process in place p stands at action a of the map.
+fn meets<'a>(
+    s: &'a [u8],
+    map: &'a [u32],
+    w: &'a mut [u64],
+    out: &'a mut [u8],
+    at: usize,
+    p: usize,
+    a: usize,
+) -> Went
+    requires { ⌜ Stands (now s) (now map) (now w) p a ⌝ }
+    requires { ⌜ Roomy at (now out) ⌝ }
+    ensures { λ r. ⌜ ((v : Stands (now (s .entry)) (now (map .entry)) (now (w .entry)) p a)
+        → Stepped (acted (v .asked .acting)) (r .fault) (r .lines)
+        (now (w .entry)) (now (w .exit)) at (now (out .entry)) (now (out .exit))) ⌝ }
+{
+    let place = map::number_at(map, 257 + a);
+    let kind = fields::u16_at(s, place + 2);
+    let from = place + 4;
+    let to = place + 2 + fields::u16_at(s, place) as usize;
+    act(kind, &s[from..to], s, map, w, out, at, p, a)
+}
+
 // The process in place p has the floor and does one thing.
 fn moves<'a>(
     s: &'a [u8],
@@ -165,11 +188,7 @@ fn moves<'a>(
     if map::number_at(map, block + 1) <= a {
         return alone::exhausted(s, map, w, out, at, p);
     }
-    let place = map::number_at(map, 257 + a);
-    let kind = fields::u16_at(s, place + 2);
-    let from = place + 4;
-    let to = place + 2 + fields::u16_at(s, place) as usize;
-    act(kind, &s[from..to], s, map, w, out, at, p, a)
+    meets(s, map, w, out, at, p, a)
 }
 
 // ---- the first of the event list
