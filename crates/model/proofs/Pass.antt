@@ -1,10 +1,10 @@
 -- One record of the first pass and of the second, round a loop over what is left of the file. Assumes nothing.
 use mathlib.Core.Path.{_≡_, refl, sym, _∙_, ap}
 use mathlib.Core.List.{List, [], _∷_}
-use mathlib.Core.Bool.{Bool, true, false, _&&_}
+use mathlib.Core.Bool.{Bool, true, false}
 use Prim.Native.Nat.{ℕ, _+_, _-_, _≤_, _<_}
 use native.Mathlib.Omega.{arith}
-use borrow.Author.Tests.{leb-true, lt-leb}
+use borrow.Author.Tests.{leb-true}
 use lib.Dec.{leb}
 use lib.ListN.{length, getD, take, drop, length-drop}
 use Rattle.semantics.specs.Words.{if_then_else_, Outcome, ok, fails, Passed, passed, need, _>>_}
@@ -14,6 +14,8 @@ use Rattle.semantics.specs.Record.{rowOf, bodyJudged}
 use Rattle.semantics.specs.Decode.{refused, accepted, judged, saw, firstPass, named, opened, secondPass}
 use Rattle.promises.specs.Laws.{and-true}
 use Rattle.parts.proofs.Laws.{rest-of}
+use Rattle.reader.specs.Reads as R
+use Rattle.reader.specs.declared.Record.{Record}
 use Rattle.record.specs.Rows.{numberOf, Judged}
 use Rattle.index.proofs.Records.{left, left-none, records-torn, records-whole, sized-by, passed-on, On, whole-is, span-fits}
 use Rattle.index.proofs.Records.{here, judged-here, on-next, shorter}
@@ -82,12 +84,15 @@ span-torn bs z e h = go (whole bs) e
     go false e = refl
     go true e = absurd (omega arith)
 
-pub short-torn : (bs : List ℕ) → length bs < 4 → whole bs ≡ false
-short-torn bs h = go (leb 2 (u16 bs 0)) refl
+-- What the reader reads at the front says the span.
+pub span-read : (bs : List ℕ) {x : Record} → x ≡ R.recordAt bs 0 → (if x .whole then x .next else 0) ≡ spanOf bs
+unfolding R.recordAt
+span-read bs e = ap (λ (y : Record). if y .whole then y .next else 0) e ∙ go (whole bs)
   where
-    go : (t : Bool) → leb 2 (u16 bs 0) ≡ t → (t && leb (spans bs) (length bs)) ≡ false
-    go false e = refl
-    go true e = let l = leb-true 2 (u16 bs 0) e in lt-leb (spans bs) (length bs) (omega arith)
+    go : (t : Bool) → (let y : Record = if t then R.stands (u16 bs 2) 0 (spans bs) else R.none 0 in
+        if y .whole then y .next else 0) ≡ (if t then spans bs else 0)
+    go true = omega arith
+    go false = refl
 
 -- THE FIRST PASS over what is left of the file s.
 module _ (s seen rest : List ℕ) (h : 0 < length rest) where

@@ -28,17 +28,8 @@ pub struct First {
 fn span(bs: &[u8]) -> usize
     ensures { λ r. ⌜ r ≡ spanOf (now (bs .entry)) ⌝ }
 {
-    if bs.len() < 4 {
-        return 0;
-    }
-    let l = fields::u16_at(bs, 0) as usize;
-    if l < 2 {
-        return 0;
-    }
-    if bs.len() < 2 + l {
-        return 0;
-    }
-    2 + l
+    let x = reader::read(bs, 0);
+    if x.whole { x.next } else { 0 }
 }
 
 // Record by record: 1 to 7.

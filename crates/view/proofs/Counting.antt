@@ -2,11 +2,12 @@
 use Prim.Native.Nat.{ℕ, _+_, _-_, _≤_, _<_}
 use native.Mathlib.Omega.{arith}
 use borrow.Author.Needs.{needs}
-use mathlib.Core.Path.{_≡_, sym, subst, _∙_, ap}
+use mathlib.Core.Path.{_≡_, refl, sym, subst, _∙_, ap}
 use mathlib.Core.List.{List, []}
 use mathlib.Core.Bool.{Bool, true, false}
 use lib.Dec.{eqb}
-use lib.ListN.{length, take, drop}
+use lib.ListN.{length, take, drop, length-drop}
+use lib.Seq.{drop-drop}
 use Rattle.semantics.specs.Words.{if_then_else_}
 use Rattle.semantics.specs.Model.{Model}
 use Rattle.semantics.specs.Bytes.{recordsFrom, spans, u16}
@@ -17,7 +18,12 @@ use Rattle.promises.specs.Passes.{its-row}
 use Rattle.index.specs.Index.{Readable}
 use Rattle.index.proofs.Gathered.{gather-none, gather-more}
 use Rattle.index.proofs.Records.{On, on-all, left, left-all, left-none, here, judged-here, on-next, shorter}
+use Rattle.index.proofs.Records.{whole-is, span-fits}
 use Rattle.index.proofs.Standing.{accepted-by}
+use Rattle.parts.proofs.Laws.{rest-of}
+use Rattle.reader.proofs.Places.{reads-whole}
+use Rattle.reader.specs.Reads.{recordAt}
+use Rattle.reader.specs.declared.Record.{Record}
 use Rattle.view.specs.Fits.{countsIn}
 
 abbrev pub one : Bool → ℕ
@@ -136,3 +142,23 @@ module _ {bs : List ℕ} {a b y v : ℕ} {rest : List ℕ} (t : Counting bs a b 
       let z = ap variables (o ∙ gather-none) in
       let x = ap (λ x. length (x .vars)) g in omega (arith, t .of-variables .all-are) in
       λ p. record { resources = i p; bins = j p; syncs = k p; variables = l p }
+
+-- A reader stands at byte place `at` and reads x.
+module _ {bs : List ℕ} {a b y v at : ℕ} (t : Counting bs a b y v (drop at bs)) (h : at < length bs) {x : Record}
+    (e : x ≡ recordAt bs at) where
+  left-over : 0 < length (drop at bs)
+  left-over = omega (arith, length-drop at bs)
+
+  reads : (x .kind ≡ u16 (drop at bs) 2) × (x .next ≡ at + spans (drop at bs))
+  reads = reads-whole bs at (whole-is left-over (t .on)) e
+
+  pub moves : (at < x .next) × (x .next ≤ length bs)
+  moves =
+      let w = span-fits left-over (t .on) refl in
+      (omega (arith, w .0, reads .1), omega (arith, w .1, reads .1, length-drop at bs))
+
+  pub count-next : {a' b' y' v' : ℕ} → a' ≡ a + one (eqb (x .kind) 1) → b' ≡ b + one (eqb (x .kind) 2)
+      → y' ≡ y + one (eqb (x .kind) 3) → v' ≡ v + one (eqb (x .kind) 4) → Counting bs a' b' y' v' (drop (x .next) bs)
+  count-next i j l m =
+      let z : ℕ = spans (drop at bs) in
+      rw (reads .1, ← drop-drop z at bs, ← rest-of z (drop at bs)) (count-turn t left-over refl (reads .0) i j l m)

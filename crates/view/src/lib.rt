@@ -4,7 +4,6 @@ ghost use mathlib.Core.Bool.{true, false};
 ghost use Prim.Native.Nat.{_+_, _*_, _≤_};
 ghost use lib.ListN.{length};
 ghost use Rattle.semantics.specs.Words.{all, if_then_else_};
-ghost use Rattle.semantics.specs.Bytes.{spans};
 ghost use Rattle.semantics.specs.Model.{Model};
 ghost use Rattle.semantics.specs.Decode.{accepted, decode};
 ghost use Rattle.index.specs.Index.{Readable};
@@ -31,14 +30,6 @@ pub struct Counts {
 
 // ---- what a file declares
 
-// How many bytes the record has with which s begins.
-fn span(s: &[u8]) -> usize
-    requires { ⌜ 2 ≤ length (now s) ⌝ }
-    ensures { λ r. ⌜ (r ≡ spans (now (s .entry))) × (r ≤ 65537) ⌝ }
-{
-    2 + (fields::u16_at(s, 0) as usize)
-}
-
 // One more than n, if `on`.
 fn tally(n: usize, on: bool) -> usize
     requires { ⌜ n ≤ 65535 ⌝ }
@@ -56,15 +47,15 @@ pub fn counts_of(s: &[u8]) -> Counts
     let mut bins = 0;
     let mut syncs = 0;
     let mut variables = 0;
-    let mut rest = s;
-    while 0 < rest.len() {
-        let size = span(rest);
-        let kind = fields::u16_at(rest, 2);
+    let mut at = 0;
+    while at < s.len() {
+        let x = reader::read(s, at);
+        let kind = x.kind;
         resources = tally(resources, kind == 1);
         bins = tally(bins, kind == 2);
         syncs = tally(syncs, kind == 3);
         variables = tally(variables, kind == 4);
-        rest = &rest[size..];
+        at = x.next;
     }
     Counts {
         resources: resources,

@@ -1,0 +1,5 @@
+pub mod Places
+pub mod Held
+pub mod Proved
+pub mod Called
+pub mod Standing
