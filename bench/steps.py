@@ -1,15 +1,18 @@
-"""How fast `plan` makes a million steps, beside the second program on the same models.
+"""How fast `plan` makes a million steps, beside the second program on the same models in the same run.
 
-    python3 -B tests/speed.py ENGINE ... -- SECOND ...    e.g. bin/run target/bin/plan -- reference/target/release/plan
+    python3 -B bench/steps.py [ENGINE ...]     ENGINE runs the engine's plan; without it bin/run target/bin/plan
 
-Both read each model from standard input; that they print the same is checked. Prints the least processor time of three runs
-of each and their ratio. It asserts no time: docs/FIGURES.md has what was measured.
+Both read each model from standard input; that they print the same is checked. Prints, as a table for docs/FIGURES.md, the least
+processor time of three runs of each, and their ratio. It asserts no time. It needs target/bin/plan (`rt check plan`) and cargo.
 """
 import os
+import pathlib
 import subprocess
 import sys
 import tempfile
 
+ROOT = pathlib.Path(__file__).resolve().parent.parent
+sys.path.insert(0, str(ROOT / 'tests'))
 from records import *
 
 
@@ -68,14 +71,17 @@ def timed(command, model):
 
 
 def main(words):
-    at = words.index('--')
-    engine, second = words[:at], words[at + 1:]
+    engine = words or [str(ROOT / 'bin' / 'run'), str(ROOT / 'target' / 'bin' / 'plan')]
+    subprocess.run(['cargo', 'build', '--release', '--offline', '--quiet'], cwd=ROOT / 'reference', check=True)
+    second = [str(ROOT / 'reference' / 'target' / 'release' / 'plan')]
+    print('| Model | Engine, s | Second program, s | Ratio |')
+    print('|---|---|---|---|')
     for name, model in MODELS:
         ours = [timed(engine, model) for _ in range(3)]
         theirs = [timed(second, model) for _ in range(3)]
         assert ours[0][1] == theirs[0][1], name
         a, b = min(t for t, _ in ours), min(t for t, _ in theirs)
-        print('%-34s %6.2f s %6.2f s %6.1f   %s' % (name, a, b, a / b, ours[0][1].decode().split('\n')[-2]))
+        print(f'| {name} | {a:.2f} | {b:.2f} | {a / b:.1f} |')
 
 
 if __name__ == '__main__':

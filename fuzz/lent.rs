@@ -1,0 +1,57 @@
+//! Memory to lend, that ends where memory ends: one byte read or written behind it stops the program.
+
+use std::ffi::c_void;
+
+const PAGE: usize = 4096;
+const READ_WRITE: i32 = 3;
+const NOTHING: i32 = 0;
+const PRIVATE_ANONYMOUS: i32 = 0x22;
+
+extern "C" {
+    fn mmap(
+        at: *mut c_void,
+        length: usize,
+        may: i32,
+        how: i32,
+        file: i32,
+        offset: i64,
+    ) -> *mut c_void;
+    fn mprotect(at: *mut c_void, length: usize, may: i32) -> i32;
+}
+
+pub struct Lent {
+    end: *mut u8,
+    most: usize,
+}
+
+impl Lent {
+    /// At most `most` bytes can be lent at once.
+    pub fn new(most: usize) -> Lent {
+        let most = most.next_multiple_of(PAGE);
+        // SAFETY: fresh pages, wanted nowhere in particular; the last of them may not be touched.
+        unsafe {
+            let first = mmap(
+                std::ptr::null_mut(),
+                most + PAGE,
+                READ_WRITE,
+                PRIVATE_ANONYMOUS,
+                -1,
+                0,
+            ) as *mut u8;
+            assert!(first as isize != -1, "memory is short");
+            let end = first.add(most);
+            assert!(
+                mprotect(end.cast(), PAGE, NOTHING) == 0,
+                "the guard can't be set"
+            );
+            Lent { end, most }
+        }
+    }
+
+    /// The last `length` bytes.
+    pub fn last(&mut self, length: usize) -> &mut [u8] {
+        assert!(length <= self.most);
+        // SAFETY: these bytes are ours, written by nobody else, and lent for as long as `self` is.
+        unsafe { std::slice::from_raw_parts_mut(self.end.sub(length), length) }
+    }
+}
