@@ -1,15 +1,19 @@
-"""The program `plan` as Rust, for a machine on which programs that Rattle builds run under an emulator.
+"""The engine as Rust, for a machine on which what Rattle builds can't run, or runs under an emulator only.
 
-    python3 -B tests/native.py        writes target/native and builds it: target/native/target/release/native
+    python3 -B tests/native.py         the program `plan`: target/native/plan/target/release/plan
+    python3 -B tests/native.py desk    the desk's C functions: target/native/desk/target/release/libdesk.a
 
-The source of each crate that `plan` stands on is taken as it is, as a module, without its contracts; the kit's few functions for
-input, output and copying are written out below. It proves nothing: it is there for tests/speed.py, and prints the same plans.
+The source of each crate that is needed is taken as it is, as a module, without its contracts; the kit's few functions for input,
+output and copying are written out below. It proves nothing: it is there for bench/steps.py and tests/changed.py, and stands in
+for the proved library where that can't be linked. Sums are checked, and a panic in the library is told as an answer of all ones.
 """
 import pathlib
 import re
 import subprocess
+import sys
 
 ROOT = pathlib.Path(__file__).resolve().parent.parent
+CRATES = ROOT / 'crates'
 NATIVE = ROOT / 'target' / 'native'
 
 KIT = '''
@@ -40,7 +44,46 @@ pub mod io {
 }
 '''
 
-CARGO = '[package]\nname = "native"\nversion = "0.1.0"\nedition = "2021"\n\n[profile.release]\nopt-level = 3\n'
+# What desk/desk.h declares, over the functions of crate `desk`: a slice is a pointer and a length.
+DESK = '''
+use std::panic::{catch_unwind, AssertUnwindSafe};
+use std::slice::{from_raw_parts, from_raw_parts_mut};
+
+#[no_mangle]
+pub unsafe extern "C" fn desk_check(file: *const u8, length: usize) -> u32 {
+    let file = from_raw_parts(file, length);
+    catch_unwind(|| desk::desk_check(file)).unwrap_or(u32::MAX)
+}
+
+#[no_mangle]
+pub unsafe extern "C" fn desk_bound(file: *const u8, length: usize) -> u64 {
+    let file = from_raw_parts(file, length);
+    catch_unwind(|| desk::desk_bound(file)).unwrap_or(u64::MAX)
+}
+
+#[no_mangle]
+pub unsafe extern "C" fn desk_run(file: *const u8, length: usize, limit: u32, journal: *mut u8, room: usize) -> u64 {
+    let (file, journal) = (from_raw_parts(file, length), from_raw_parts_mut(journal, room));
+    catch_unwind(AssertUnwindSafe(|| desk::desk_run(file, limit, journal))).unwrap_or(u64::MAX)
+}
+
+#[no_mangle]
+pub unsafe extern "C" fn desk_open(file: *const u8, length: usize, run: *mut u64, words: usize) -> u32 {
+    let (file, run) = (from_raw_parts(file, length), from_raw_parts_mut(run, words));
+    catch_unwind(AssertUnwindSafe(|| desk::desk_open(file, run))).unwrap_or(u32::MAX)
+}
+
+#[no_mangle]
+pub unsafe extern "C" fn desk_move(
+    file: *const u8, length: usize, run: *mut u64, words: usize, limit: u32, journal: *mut u8, room: usize,
+) -> u64 {
+    let (file, run) = (from_raw_parts(file, length), from_raw_parts_mut(run, words));
+    let journal = from_raw_parts_mut(journal, room);
+    catch_unwind(AssertUnwindSafe(|| desk::desk_move(file, run, limit, journal))).unwrap_or(u64::MAX)
+}
+'''
+
+CARGO = '[package]\nname = "%s"\nversion = "0.1.0"\nedition = "2021"\n%s\n[profile.release]\nopt-level = 3\n%s\n[workspace]\n'
 
 
 def without_contracts(text):
@@ -61,26 +104,48 @@ def without_contracts(text):
     return ''.join(kept)
 
 
-def module(path):
-    text = without_contracts(path.read_text())
-    text = re.sub(r'(?m)^//.*\n', '', text)
+def module(text):
+    text = re.sub(r'(?m)^//.*\n', '', without_contracts(text))
     text = re.sub(r'(?m)^use ([a-z_]+)::', r'use crate::\1::', text)
+    text = re.sub(r'(?m)^#\[no_mangle\]\npub extern "C" ', 'pub ', text)
     return re.sub(r'(?m)^(pub )?(struct|enum) ', r'#[derive(Clone, Copy)]\n\1\2 ', text)
 
 
-def main():
-    line = next(l for l in (ROOT / 'crates.txt').read_text().split('\n') if l.startswith('plan:'))
-    parts = ['#![allow(warnings)]', KIT]
-    for name in line.split()[1:]:
-        source = ROOT / 'crates' / name / 'src' / 'lib.rt'
-        if source.exists():
-            parts.append('pub mod %s {\nuse crate::*;\n%s\n}' % (name, module(source)))
-    parts.append(module(ROOT / 'crates' / 'plan' / 'src' / 'main.rt'))
-    (NATIVE / 'src').mkdir(parents=True, exist_ok=True)
-    (NATIVE / 'Cargo.toml').write_text(CARGO + '\n[workspace]\n')
-    (NATIVE / 'src' / 'main.rs').write_text('\n'.join(parts))
-    subprocess.run(['cargo', 'build', '--release', '--offline', '--quiet'], cwd=NATIVE, check=True)
+def named(*crates):
+    """These crates and those that they stand on, each once, as crates.txt lists them."""
+    rows = [line.partition(':') for line in (ROOT / 'crates.txt').read_text().split('\n') if line]
+    wanted = set(crates).union(*(below.split() for name, _, below in rows if name in crates))
+    return [name for name, _, _ in rows if name in wanted]
+
+
+def sources(*crates):
+    """The source of each, by its crate; a program's own source is not among them."""
+    paths = [CRATES / name / 'src' / 'lib.rt' for name in named(*crates)]
+    return {path.parent.parent.name: path.read_text() for path in paths if path.exists()}
+
+
+def modules(texts):
+    return '\n'.join(['#![allow(warnings)]', KIT] + [
+        'pub mod %s {\nuse crate::*;\n%s\n}' % (name, module(text)) for name, text in texts.items()])
+
+
+def build(folder, name, text, library='', profile=''):
+    (folder / 'src').mkdir(parents=True, exist_ok=True)
+    (folder / 'Cargo.toml').write_text(CARGO % (name, library, profile))
+    (folder / 'src' / ('lib.rs' if library else 'main.rs')).write_text(text)
+    subprocess.run(['cargo', 'build', '--release', '--offline', '--quiet'], cwd=folder, check=True)
+
+
+def program(folder=NATIVE / 'plan'):
+    build(folder, 'plan', modules(sources('plan')) + module((CRATES / 'plan' / 'src' / 'main.rt').read_text()))
+
+
+def library(folder=NATIVE / 'desk', texts=None, kind='staticlib'):
+    """The library of these sources, a static or a shared one; the folder that it is in."""
+    crate_type = '\n[lib]\ncrate-type = ["%s"]\n' % kind
+    build(folder, 'desk', modules(texts or sources('desk')) + DESK, crate_type, 'overflow-checks = true\n')
+    return folder / 'target' / 'release'
 
 
 if __name__ == '__main__':
-    main()
+    library() if sys.argv[1:] == ['desk'] else program()

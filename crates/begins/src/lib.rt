@@ -62,7 +62,7 @@ pub fn end(w: &mut [u64], p: usize)
 }
 
 // One numbered n comes into the lowest free place, which is the answer, and stands in block b.
-pub fn come(w: &mut [u64], n: u64, b: u64) -> usize
+fn come(w: &mut [u64], n: u64, b: u64) -> usize
     requires { ⌜ Doing (now w) Roomy (λ s. comes n b s) ⌝ }
     ensures { λ _. ⌜ Done (now (w .entry)) Roomy (λ s. comes n b s) (now (w .exit)) ⌝ }
     ensures { λ r. ⌜ Answers (now (w .entry)) Roomy (λ s. comes n b s) freePlace r ⌝ }

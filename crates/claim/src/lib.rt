@@ -71,7 +71,7 @@ fn item_met<'a>(i: &'a [u8], w: &'a [u64]) -> bool
 // ---- the items of a claim
 
 // Whether the claim at byte `at` is met.
-pub fn met<'a>(s: &'a [u8], at: usize, w: &'a [u64]) -> bool
+fn met<'a>(s: &'a [u8], at: usize, w: &'a [u64]) -> bool
     requires { ⌜ Meeting (now s) at (now w) ⌝ }
     ensures { λ r. ⌜ ((v : Meeting (now (s .entry)) at (now (w .entry))) → r ≡ met (v .is) (v .claim)) ⌝ }
 {

@@ -82,7 +82,7 @@ fn take_item<'a>(i: &'a [u8], w: &'a mut [u64], p: usize)
 }
 
 // The claim at byte `at`.
-pub fn take_all<'a>(s: &'a [u8], at: usize, w: &'a mut [u64], p: usize)
+fn take_all<'a>(s: &'a [u8], at: usize, w: &'a mut [u64], p: usize)
     requires { ⌜ Taking (now s) at (now w) p ⌝ }
     ensures { λ _. ⌜ ((v : Taking (now (s .entry)) at (now (w .entry)) p)
         → now (w .exit) ≡ workOf (takeAll p (v .claim) (v .is))) ⌝ }
@@ -139,7 +139,7 @@ fn bars_at<'a>(map: &'a [u32], w: &'a [u64], a: usize, i: usize) -> bool
 }
 
 // Whether one of the first k of the blocked bars it.
-pub fn barred<'a>(map: &'a [u32], w: &'a [u64], a: usize, k: usize) -> bool
+fn barred<'a>(map: &'a [u32], w: &'a [u64], a: usize, k: usize) -> bool
     requires { ⌜ Faced (now map) (now w) a k ⌝ }
     ensures { λ r. ⌜ ((v : Faced (now (map .entry)) (now (w .entry)) a k)
         → r ≡ barred (v .1 .model) (v .1 .is) (take k (v .1 .is .blocked)) (offers (v .1 .asked))) ⌝ }

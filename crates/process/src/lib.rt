@@ -21,14 +21,6 @@ pub fn number_of(w: &[u64], p: usize) -> u64
     work::word(w, p, 0)
 }
 
-// The code of its priority.
-pub fn priority_of(w: &[u64], p: usize) -> u64
-    requires { ⌜ Shown (now w) (λ _. p < 64) ⌝ }
-    ensures { λ r. ⌜ ((v : Shown (now (w .entry)) (λ _. p < 64)) → r ≡ code (process (v .is) p .priority)) × (r < 4294967296) ⌝ }
-{
-    work::word(w, p, 1)
-}
-
 // How many blocks it is in.
 pub fn depth_of(w: &[u64], p: usize) -> usize
     requires { ⌜ Shown (now w) (λ _. p < 64) ⌝ }

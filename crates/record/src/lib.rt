@@ -91,7 +91,7 @@ fn in_set(kind: u32, bs: &[u8]) -> bool
     (low <= v) & (v <= high)
 }
 
-pub fn body_number(kind: u32, bs: &[u8]) -> u32
+fn body_number(kind: u32, bs: &[u8]) -> u32
     ensures { λ r. ⌜ r ≡ numberOf (bodyJudged (rowOf kind) (now (bs .entry))) ⌝ }
 {
     let head = entry(kind, 2) as usize;

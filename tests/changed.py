@@ -1,0 +1,209 @@
+"""Told apart: engines with one rule changed, and how many models the driver needs until it sees a difference.
+
+    python3 -B tests/changed.py              the engine unchanged, then each change of CHANGES
+    python3 -B tests/changed.py --edits      every must-fail edit of the engine's sources, which the prover refuses
+    python3 -B tests/changed.py WORD ...     those of both whose name has one of the words
+
+On demand, not in the gate. Each engine is the source compiled as Rust (tests/native.py) with one text put in place of another,
+and linked to the driver as a shared library. A line is the change, the models needed and what differed. The exit status is 0 if
+the unchanged engine has no difference and each changed one has, but for those that no call can show (UNSEEN).
+"""
+import os
+import subprocess
+import sys
+import threading
+
+import native
+
+FOLDER = native.ROOT / 'target' / 'changed'
+DRIVER = FOLDER / 'driver'
+# So many models at most, of the driver's first seed; so many seconds at most for one change.
+MODELS = 200000
+SECONDS = 900
+
+# A change: its name, its crate, the text that it takes away and the text that it puts there.
+CHANGES = [
+    # ---- the lists
+    ('a notice before equals', 'lists', 'n, key + 1)', 'n, key)'),
+    ('a waiter before equals', 'lists', '64 * (key + 1))', '64 * key)'),
+    ('lowest priority first among events', 'lists', '(4294967295 - rank)', 'rank'),
+    ('lowest priority first among waiters', 'lists', '4294967295 - work::word(w, p, 1)', 'work::word(w, p, 1)'),
+    ('returns before the lowest priority', 'lists', '2147468648', '2147475648'),
+    ('a return added at once', 'alone',
+     'lists::return_resource(w, i as u64, n, giver);',
+     'w[8 + i] = w[8 + i] + n;\n    lists::return_resource(w, i as u64, 0, giver);'),
+    ('the last waiting slave taken first', 'slaves',
+     'let place = lists::take_waiting(w, i);',
+     'let last = 455 + 64 * i + w[104 + i] as usize;\n    w.swap(456 + 64 * i, last);\n'
+     '    let place = lists::take_waiting(w, i);'),
+    # ---- the walk, and who is barred
+    ('the walk stops at the first that can\'t go', 'walk', 'left = left - 1;', 'left = if went == 0 { 0 } else { left - 1 };'),
+    ('a walk grants one', 'walk', 'left = left - 1;', 'left = if went == 1 { 0 } else { left - 1 };'),
+    ('a walk bars nobody', 'walk', 'grant::choice(s, map, w, action, k)', 'grant::choice(s, map, w, action, 0)'),
+    ('SET doesn\'t walk', 'walk', 'let lines = walk(s, map, w, out, at);', 'let lines = 0;'),
+    ('nobody on the floor is barred', 'asks', 'grant::choice(s, map, w, a, ahead)', 'grant::choice(s, map, w, a, 0)'),
+    ('lower priorities bar too', 'asks', 'let ahead = lists::place_in_front(w, p);', 'let ahead = w[6] as usize;'),
+    ('equal priority doesn\'t bar', 'asks',
+     'let ahead = lists::place_in_front(w, p);',
+     'let own = 4294967295 - work::word(w, p, 1);\n'
+     '    let ahead = (0..w[6] as usize).filter(|k| w[136 + k] / 64 < own).count();'),
+    ('an equal claim bars', 'bars', '(within(x, y) & !within(y, x))', 'within(x, y)'),
+    ('an overlap bars', 'bars',
+     '(within(x, y) & !within(y, x))',
+     '(((x.resources & y.resources) | (x.bins & y.bins) | (x.syncs & y.syncs)) != 0) & !within(y, x)'),
+    ('a claim of nothing is barred', 'bars', '!names_nothing(x) & (within', '(within'),
+    ('one branch that is covered bars', 'bars',
+     'if !covered(map, from, to, x) {\n            return false;\n        }',
+     'if covered(map, from, to, x) {\n            return true;\n        }'),
+    ('a barred TRY takes its second branch', 'grant',
+     'if barred(map, w, a, k) {\n        return many;',
+     'if barred(map, w, a, k) {\n        return if many > 1 { 1 } else { many };'),
+    # ---- actions
+    ('PRIO without its floor', 'alone', 'number::greater(LOWEST, value.code)', 'value.code'),
+    ('a DO has one round more', 'alone', 'process::into(w, p, n, b);', 'process::into(w, p, n + 1, b);'),
+    ('DO 0 enters its block', 'alone', 'if n == 0 {', 'if n == 70000 {'),
+    ('a HOLD of 0 keeps the floor', 'alone',
+     'acting::leave_floor(w);\n    lists::wake(w, time, p);',
+     'if value.code != ZERO {\n        acting::leave_floor(w);\n        lists::wake(w, time, p);\n    }'),
+    ('a WHILE is met once', 'alone', 'fields::u16_at(s, place + 2) == 27', 'fields::u16_at(s, place + 2) == 99'),
+    ('locals left where a process ended', 'begins', 'fill(&mut row[0..12], 0);', 'fill(&mut row[0..4], 0);'),
+    ('the highest free place', 'places', 'u64::trailing_zeros(', '63 - u64::leading_zeros('),
+    ('PUTS frees the last first', 'hands', 'let r = places[k] as usize;', 'let r = places[n - 1 - k] as usize;'),
+    ('START at the offset alone', 'hands', 'acting::clock_of(w) + wide(', 'wide('),
+    # ---- faults and answers
+    ('LIMIT before IDLE', 'run', 'answer: halted(w),', 'answer: if steps == limit { Answer::Limit } else { halted(w) },'),
+    ('IDLE before CLOSED', 'run',
+     'if w[1] != 0 {\n        return Answer::Closed;',
+     'if (w[1] != 0) & !((w[3] == 0) & (w[5] == 0)) {\n        return Answer::Closed;'),
+    ('a fault keeps the clock', 'step', 'put_back(w, clock, key, word)', 'put_back(w, key / 4294967296, key, word)'),
+    ('a fault keeps the floor', 'step', 'set_floor(w, 0);', ''),
+    ('27 before 24', 'hands', 'if !has_shares(body, w, p) {', 'if can_begin(w) & !has_shares(body, w, p) {'),
+    ('29 before 24', 'alone',
+     'if process::held_of(w, p, i) < n {',
+     'if (lists::returns(w) < 64) & (process::held_of(w, p, i) < n) {'),
+    ('65 returns may wait', 'lists', 'line::count_returns(&w[328..456], n)', 'line::count_returns(&w[328..456], n).max(1) - 1'),
+    ('63 may live', 'hands', '(places::living_count(w[4]) < 64)', '(places::living_count(w[4]) < 63)'),
+    ('number 2,147,483,647 is never given', 'hands', 'last_of(w) < 2147483647', 'last_of(w) < 2147483646'),
+    ('a full bin is a fault', 'walk', 'if 1000000000 < bin_of(w, i) + n {', 'if 1000000000 <= bin_of(w, i) + n {'),
+    ('the time 2,000,000,000 is late', 'alone', 'if 2000000000 < time {', 'if 2000000000 <= time {'),
+    ('slaves may be left behind', 'process', ' & (work::word(w, p, 3) == 0)', ''),
+    ('30 one line too late', 'run', 'if left < lines {', 'if left + 1 < lines {'),
+    # ---- checks and the bound
+    ('the place of the record after', 'model', 'place: f.place,', 'place: f.place + span(&s[f.place..]),'),
+    ('8 and 9 at the place of the record after', 'model',
+     'number: x,\n                place: at,',
+     'number: x,\n                place: at + size,'),
+    ('a branch may name a thing twice', 'tails', '2 => !all_branches(1, [0u32; 17], 0, bs),', '2 => false,'),
+    ('PUTR weighs 1', 'index', '[1, 1, 1, 1, 1, 2, 2, 1,', '[1, 1, 1, 1, 1, 1, 2, 1,'),
+    ('a TRY weighs its last branch', 'weigh', 'top = larger(top, v);', 'top = v;'),
+    ('OVER from 4,294,967,295 on', 'bound', 'if w < 4294967296 {', 'if w < 4294967295 {'),
+    # ---- soundness
+    ('a return of lower priority is sound', 'soundlists', '(rank == 2147468648)', '(rank <= 2147468648)'),
+    ('a time before the clock is sound', 'soundlists', '(w[0] <= key / 4294967296)', '(w[0] <= w[0])'),
+    ('two of one number are sound', 'soundlists', '(alike(w, number) == 1)', '(1 <= alike(w, number))'),
+]
+
+
+# Must-fail edits that the prover refuses and no call of a C function can show, and why.
+UNSEEN = {
+    'handed/refused_at_place_0_tested': 'the desk does not call it',
+    'places/flipped': 'whoever comes finds the place free',
+    'run/room_for_65': 'no step writes 66 lines',
+    'soundlists/nobody_listed': 'a place without a block has number 0, by another clause',
+    'state/packed_bins_from_the_free': 'the desk does not pack a state',
+    'state/packed_floor_as_last': 'the desk does not pack a state',
+    'state/process_packed_depth_as_slaves': 'the desk does not pack a state',
+    'state/process_unpacked_locals_as_blocks': 'the desk does not unpack a state',
+    'state/unpacked_blocked_as_events': 'the desk does not unpack a state',
+    'state/unpacked_variables_as_bins': 'the desk does not unpack a state',
+    'weigh/block_weight_capped_lower': 'a class weighs one more than its body, and so is OVER all the same',
+}
+
+
+def edits():
+    """The must-fail edits of the sources, each as its name, its crate and the texts in turn."""
+    for path in sorted(native.CRATES.glob('*/must-fail/*.edit')):
+        crate = path.parent.parent.name
+        lines = path.read_text().split('\n')
+        if 'file: src/lib.rt' in lines and crate in native.named('desk'):
+            yield ['%s/%s' % (crate, path.stem), crate] + [line[5:] for line in lines if line[:5] in ('old: ', 'new: ')]
+
+
+def changed(texts, crate, *pairs):
+    """The sources with the change, or nothing where it touches no code."""
+    after = texts[crate]
+    for old, new in zip(pairs[::2], pairs[1::2]):
+        assert after.count(old) == 1, '%d times in %s: %s' % (after.count(old), crate, old)
+        after = after.replace(old, new)
+    return None if native.module(after) == native.module(texts[crate]) else {**texts, crate: after}
+
+
+def built(texts):
+    return native.library(FOLDER / 'desk', texts, 'cdylib')
+
+
+def driven(folder):
+    """The first lines of the driver on a difference of the library in this folder; nothing where there is none."""
+    run = subprocess.Popen([DRIVER / 'release' / 'driver', str(MODELS)], stdout=subprocess.PIPE, stderr=subprocess.DEVNULL,
+                           text=True, env={**os.environ, 'LD_LIBRARY_PATH': str(folder)})
+    clock = threading.Timer(SECONDS, run.kill)
+    clock.start()
+    said = []
+    for line in run.stdout:
+        if said or line.startswith(('DIFFERENCE', 'CRASH')):
+            said.append(line.strip())
+        if line.startswith('CRASH') or len(said) > 1:
+            run.kill()
+            break
+    status = run.wait()
+    clock.cancel()
+    return said or (['no end, status %d' % status] if status else [])
+
+
+def told(name, said):
+    if not said:
+        print('%-46s no difference in %d models' % (name, MODELS), flush=True)
+        return
+    models = said[0].partition('model ')[2].partition(',')[0]
+    what = said[1].partition('what:')[2].strip() if len(said) > 1 else said[0]
+    print('%-46s %7s   %s' % (name, models, what), flush=True)
+
+
+def chosen(words):
+    if not words:
+        return CHANGES
+    if words == ['--edits']:
+        return edits()
+    return [change for change in CHANGES + list(edits()) if any(word in change[0] for word in words)]
+
+
+def main(words):
+    texts = native.sources('desk')
+    folder = built(texts)
+    subprocess.run(['cargo', 'build', '--release', '--offline', '--quiet', '--target-dir', DRIVER],
+                   cwd=native.ROOT / 'driver', env={**os.environ, 'DESK_LIB': str(folder)}, check=True)
+    wrong = 0
+    if not words:
+        said = driven(folder)
+        told('unchanged', said)
+        wrong += bool(said)
+    for name, crate, *pairs in chosen(words):
+        after = changed(texts, crate, *pairs)
+        if after is None:
+            continue
+        if name in UNSEEN:
+            print('%-46s not to be seen: %s' % (name, UNSEEN[name]), flush=True)
+            continue
+        try:
+            built(after)
+        except subprocess.CalledProcessError:
+            print('%-46s is no Rust' % name, flush=True)
+            continue
+        said = driven(folder)
+        told(name, said)
+        wrong += not said
+    return wrong > 0
+
+
+if __name__ == '__main__':
+    sys.exit(main(sys.argv[1:]))
