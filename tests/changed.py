@@ -108,12 +108,9 @@ CHANGES = [
 UNSEEN = {
     'handed/refused_at_place_0_tested': 'the desk does not call it',
     'places/flipped': 'whoever comes finds the place free',
-    'run/room_for_65': 'no step writes 66 lines',
     'soundlists/nobody_listed': 'a place without a block has number 0, by another clause',
     'state/packed_bins_from_the_free': 'the desk does not pack a state',
     'state/packed_floor_as_last': 'the desk does not pack a state',
-    'state/process_packed_depth_as_slaves': 'the desk does not pack a state',
-    'state/process_unpacked_locals_as_blocks': 'the desk does not unpack a state',
     'state/unpacked_blocked_as_events': 'the desk does not unpack a state',
     'state/unpacked_variables_as_bins': 'the desk does not unpack a state',
     'weigh/block_weight_capped_lower': 'a class weighs one more than its body, and so is OVER all the same',
