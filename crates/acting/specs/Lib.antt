@@ -1,2 +1,4 @@
 pub mod Acting
 pub mod Running
+pub mod Floor
+pub mod Onward

@@ -16,84 +16,47 @@ use Rattle.semantics.specs.Step.{lowest, ofReturns, isReturn}
 use Rattle.promises.specs.Laws.{true-and, less-at}
 use Rattle.promises.specs.Fit.{I32}
 use Rattle.promises.specs.Sound.{Below, slaved, noticed, gives, owes, Fine, NoticeOk, Held}
-use Rattle.promises.specs.Moves.{hand-alive, is-entered}
-use Rattle.promises.specs.Parts.{priority-ok, fit-at, chain-into, fine-held, fine-local, fine-priority, returning-are}
-use Rattle.promises.specs.Takes.{goes-past, goes-into, wakes-up}
+use Rattle.promises.specs.Moves.{is-entered}
+use Rattle.promises.specs.Parts.{priority-ok, chain-into, fine-held, fine-local, fine-priority, returning-are}
+use Rattle.promises.specs.Takes.{goes-into, wakes-up}
 use Rattle.number.specs.Code.{valueOf, code, larger}
 use Rattle.number.specs.Laws.{valueOf-code, code-fits, value-fits}
 use Rattle.work.specs.Work.{workOf, Sized, Doing}
 use Rattle.process.specs.Process.{Lives, Coded, HasLocal, Holds, changed}
 use Rattle.process.specs.Put.{put-there, changed-twice}
+use Rattle.process.specs.Alive.{hand-lives}
 use Rattle.acting.specs.Running.{On}
+use Rattle.acting.specs.Onward.{m, s, q, hand, is-sized, still-sized, hand-is, in-hand, lives, low, fine, action-fits}
+use Rattle.acting.specs.Onward.{passes-as, after-it, passes, after-sized}
 use Rattle.lists.specs.Lists.{Any, returned}
-use Rattle.alone.proofs.Running.{lives-by, is-sized, still-sized, inHand, hand-is, one, in-places, fine, lives}
 
 module _ {w : List ℕ} {p : ℕ} {x : Action} (v : On w p x) where
-  abbrev pub m : Model
-  m = v .running .model
-
-  abbrev pub s : State
-  s = v .running .is
-
-  abbrev pub q : Process
-  q = process s p
-
-  abbrev pub hand : ℕ → ℕ
-  hand = inHand (v .running) p (v .on-floor)
-
-  pub in-hand : 1 ≤ hand p
-  in-hand = one (v .running) p (v .on-floor)
-
-  -- PAST THE ACTION, perhaps changed in another part, with y of each resource in hand.
-  pub passes-as : {y : ℕ → ℕ} (r : Process) → Fine m (s .last) r → r .frames ≡ q .frames → r .number ≡ q .number
-      → r .slaves ≡ q .slaves → ((j : ℕ) → getD (r .held) j 0 + y j ≡ getD (q .held) j 0)
-      → Held m (put p (past r) s) (s .blocked) hand y
-  passes-as r f e n o ys =
-      goes-past m s (v .running .sound) p in-hand r x (v .stands) f e n (λ k. ap (λ l. slaved k l + hand k) o)
-      (λ j. let a = ys j in omega arith)
-
-  abbrev pub after-it : State
-  after-it = put p (past q) s
-
-  pub passes : Held m after-it (s .blocked) hand (λ j. 0)
-  passes = passes-as q (fine (v .running) p (v .on-floor)) refl refl refl (λ j. omega arith)
-
-  pub after-sized : Sized after-it
-  after-sized = still-sized (v .running) after-it passes (is-sized (v .running) .floor-ok)
-
-  abbrev pub passing : Doing w (Lives p) (changed p past)
-  passing =
-      record {
-        is = s;
-        shows = v .running .shows;
-        before = is-sized (v .running);
-        after = after-sized;
-        given = lives (v .running) p (v .on-floor);
-      }
+  -- PAST THE ACTION, changed in another part than its slaves, with y of each resource in hand.
+  pub passes-so : {y : ℕ → ℕ} (r : Process) → Fine (m v) (s v .last) r → r .frames ≡ q v .frames → r .number ≡ q v .number
+      → r .slaves ≡ q v .slaves → ((j : ℕ) → getD (r .held) j 0 + y j ≡ getD (q v .held) j 0)
+      → Held (m v) (put p (past r) (s v)) (s v .blocked) (hand v) y
+  passes-so r f e n o ys = passes-as v r f e n (λ k. ap (λ l. slaved k l + hand v k) o) ys
 
   -- Whoever is past it still lives there.
-  pub low : p < 64
-  low = in-places (v .running) p (v .on-floor)
+  pub alive-after : Lives p (after-it v)
+  alive-after = hand-lives {s = after-it v} (passes v) p (in-hand v)
 
-  pub alive-after : Lives p after-it
-  alive-after = lives-by after-it p low (hand-alive passes p in-hand)
-
-  pub there-after : process after-it p ≡ past q
-  there-after = put-there s p (past q) (v .running .sound .places-64) low
+  pub there-after : process (after-it v) p ≡ past (q v)
+  there-after = put-there (s v) p (past (q v)) (v .running .sound .places-64) (low v)
 
   -- Another change of it behind that, which could have come first.
-  module _ (f : Process → Process) (same : past (f q) ≡ f (past q)) where
-    pub then-is : changed p f after-it ≡ put p (past (f q)) s
-    then-is = changed-twice s p past f (v .running .sound .places-64) low ∙ ap (λ r. put p r s) (sym same)
+  module _ (f : Process → Process) (same : past (f (q v)) ≡ f (past (q v))) where
+    pub then-is : changed p f (after-it v) ≡ put p (past (f (q v))) (s v)
+    then-is = changed-twice (s v) p past f (v .running .sound .places-64) (low v) ∙ ap (λ r. put p r (s v)) (sym same)
 
-    abbrev pub then-doing : {y : ℕ → ℕ} → Held m (put p (past (f q)) s) (s .blocked) hand y → {w₁ : List ℕ}
-        → w₁ ≡ workOf after-it → {P : State → Type 0} → P after-it → Doing w₁ P (changed p f)
+    abbrev pub then-doing : {y : ℕ → ℕ} → Held (m v) (put p (past (f (q v))) (s v)) (s v .blocked) (hand v) y → {w₁ : List ℕ}
+        → w₁ ≡ workOf (after-it v) → {P : State → Type 0} → P (after-it v) → Doing w₁ P (changed p f)
     then-doing h e g =
         record {
-          is = after-it;
+          is = after-it v;
           shows = e;
-          before = after-sized;
-          after = rw then-is (still-sized (v .running) (put p (past (f q)) s) h (is-sized (v .running) .floor-ok));
+          before = after-sized v;
+          after = rw then-is (still-sized v (put p (past (f (q v))) (s v)) h (is-sized v .floor-ok));
           given = g;
         }
 
@@ -112,81 +75,83 @@ module _ {w : List ℕ} {p : ℕ} {x : Action} (v : On w p x) where
     value-is : valueOf d ≡ larger lowest (valueOf c)
     value-is = ap valueOf code-is ∙ valueOf-code (larger lowest (valueOf c)) (right .0)
 
-    pub raises : Held m (put p (past (raised q)) s) (s .blocked) hand (λ j. 0)
+    pub raises : Held (m v) (put p (past (raised (q v))) (s v)) (s v .blocked) (hand v) (λ j. 0)
     raises =
-        passes-as (raised q)
-        (fine-priority (fine (v .running) p (v .on-floor)) (valueOf d) (rw value-is (right .0)) (rw value-is (right .1)))
+        passes-so (raised (q v))
+        (fine-priority (fine v) (valueOf d) (rw value-is (right .0)) (rw value-is (right .1)))
         refl refl refl (λ j. omega arith)
 
-    pub raised-first : past (raised q) ≡ raised (past q)
+    pub raised-first : past (raised (q v)) ≡ raised (past (q v))
     unfolding past
     raised-first = refl
 
-    pub is-coded : Coded p d after-it
+    pub is-coded : Coded p d (after-it v)
     is-coded = record { lives = alive-after; low = rw code-is (code-fits (larger lowest (valueOf c)) (right .0)) }
 
-    abbrev pub raising : {w₁ : List ℕ} → w₁ ≡ workOf after-it → Doing w₁ (Coded p d) (changed p raised)
+    abbrev pub raising : {w₁ : List ℕ} → w₁ ≡ workOf (after-it v) → Doing w₁ (Coded p d) (changed p raised)
     raising k = then-doing raised raised-first raises k is-coded
 
-    pub raised-is : workOf (changed p raised after-it) ≡ workOf (put p (past (with-priority q (larger lowest (valueOf c)))) s)
-    raised-is = ap workOf (then-is raised raised-first) ∙ ap (λ z. workOf (put p (past (with-priority q z)) s)) value-is
+    pub raised-is : workOf (changed p raised (after-it v))
+        ≡ workOf (put p (past (with-priority (q v) (larger lowest (valueOf c)))) (s v))
+    raised-is = ap workOf (then-is raised raised-first) ∙ ap (λ z. workOf (put p (past (with-priority (q v) z)) (s v))) value-is
 
   -- THE FLOOR is left, and the process enters at time t; or the run is closed.
   abbrev pub floorless : State
-  floorless = with-floor after-it empty
+  floorless = with-floor (after-it v) empty
 
   pub floorless-sized : Sized floorless
-  floorless-sized = still-sized (v .running) floorless passes tt
+  floorless-sized = still-sized v floorless (passes v) tt
 
-  abbrev pub leaving : {w₁ : List ℕ} → w₁ ≡ workOf after-it → Doing w₁ Any (λ t. with-floor t empty)
+  abbrev pub leaving : {w₁ : List ℕ} → w₁ ≡ workOf (after-it v) → Doing w₁ Any (λ t. with-floor t empty)
   leaving e =
-      record { is = after-it; shows = e; before = after-sized; after = floorless-sized; given = tt }
+      record { is = after-it v; shows = e; before = after-sized v; after = floorless-sized; given = tt }
 
   pub alive-floorless : Lives p floorless
-  alive-floorless = lives-by floorless p low (hand-alive passes p in-hand)
+  alive-floorless = hand-lives {s = floorless} (passes v) p (in-hand v)
 
-  pub awake-sized : (t : ℕ) → s .clock ≤ t → t ≤ No.latest → Sized (wake t p floorless)
+  pub awake-sized : (t : ℕ) → s v .clock ≤ t → t ≤ No.latest → Sized (wake t p floorless)
   unfolding wake
   awake-sized t a b =
-      still-sized (v .running) (wake t p floorless)
-      (wakes-up m floorless {z′ = λ k. 0} passes t p a b
-      (λ k. let h = hand-is (v .running) p (v .on-floor) k in omega arith)) tt
+      still-sized v (wake t p floorless)
+      (wakes-up (m v) floorless {z′ = λ k. 0} (passes v) t p a b
+      (λ k. let h = hand-is v k in omega arith)) tt
 
-  abbrev pub waking : {w₁ : List ℕ} → w₁ ≡ workOf floorless → (t : ℕ) → s .clock ≤ t → t ≤ No.latest
+  abbrev pub waking : {w₁ : List ℕ} → w₁ ≡ workOf floorless → (t : ℕ) → s v .clock ≤ t → t ≤ No.latest
       → Doing w₁ (Lives p) (λ u. wake t p u)
   waking e t a b =
       record { is = floorless; shows = e; before = floorless-sized; after = awake-sized t a b; given = alive-floorless }
 
-  abbrev pub closing : {w₁ : List ℕ} → w₁ ≡ workOf after-it → Doing w₁ Any now-closed
+  abbrev pub closing : {w₁ : List ℕ} → w₁ ≡ workOf (after-it v) → Doing w₁ Any now-closed
   closing e =
       record {
-        is = after-it;
+        is = after-it v;
         shows = e;
-        before = after-sized;
-        after = still-sized (v .running) (now-closed after-it) passes (is-sized (v .running) .floor-ok);
+        before = after-sized v;
+        after = still-sized v (now-closed (after-it v)) (passes v) (is-sized v .floor-ok);
         given = tt;
       }
 
   -- A RETURN enters, of what the process r, past its action, gave.
-  module _ (r : Process) (n : Notice) (h : Held m (put p (past r) s) (s .blocked) hand (λ j. gives j n)) (owed : owes n ≡ 1)
+  module _ (r : Process) (n : Notice) (h : Held (m v) (put p (past r) (s v)) (s v .blocked) (hand v) (λ j. gives j n))
+      (owed : owes n ≡ 1)
       (nobody-noticed : (k : ℕ) → noticed k n ≡ 0)
-      (told : NoticeOk m (s .last) (set (s .processes) p (past r)) ofReturns n)
-      (few : length (keep isReturn (s .events)) < 64) where
-    pub returned-sized : Sized (returned n (put p (past r) s))
+      (told : NoticeOk (m v) (s v .last) (set (s v .processes) p (past r)) ofReturns n)
+      (few : length (keep isReturn (s v .events)) < 64) where
+    pub returned-sized : Sized (returned n (put p (past r) (s v)))
     returned-sized =
-        let c = returning-are (s .events) in
-        still-sized (v .running) (returned n (put p (past r) s))
-        (is-entered h {z′ = hand} {y′ = λ j. 0} (record { time = s .clock; priority = ofReturns; notice = n })
+        let c = returning-are (s v .events) in
+        still-sized v (returned n (put p (past r) (s v)))
+        (is-entered h {z′ = hand v} {y′ = λ j. 0} (record { time = s v .clock; priority = ofReturns; notice = n })
         (record { not-before = omega arith; not-late = v .running .sound .clock-ok; tells = told }) (omega arith)
         (λ k. let d = nobody-noticed k in omega arith) (λ j. omega arith))
-        (is-sized (v .running) .floor-ok)
+        (is-sized v .floor-ok)
 
-    abbrev pub returning : {w₁ : List ℕ} → w₁ ≡ workOf (put p (past r) s) → Doing w₁ Any (returned n)
+    abbrev pub returning : {w₁ : List ℕ} → w₁ ≡ workOf (put p (past r) (s v)) → Doing w₁ Any (returned n)
     returning e =
         record {
-          is = put p (past r) s;
+          is = put p (past r) (s v);
           shows = e;
-          before = still-sized (v .running) (put p (past r) s) h (is-sized (v .running) .floor-ok);
+          before = still-sized v (put p (past r) (s v)) h (is-sized v .floor-ok);
           after = returned-sized;
           given = tt;
         }
@@ -202,14 +167,14 @@ module _ {w : List ℕ} {p : ℕ} {i : ℕ} {e : Expr} (v : On w p (LSET i e)) (
 
   pub stores : Held (m v) (put p (past (stored (q v))) (s v)) (s v .blocked) (hand v) (λ j. 0)
   stores =
-      passes-as v (stored (q v)) (fine-local (fine (v .running) p (v .on-floor)) i (valueOf c) (value-fits c fits))
+      passes-so v (stored (q v)) (fine-local (fine v) i (valueOf c) (value-fits c fits))
       refl refl refl (λ j. omega arith)
 
   has-local : i < length (process (after-it v) p .locals)
   unfolding past
   has-local =
-      let a = fit-at (m v) (v .running .fits) (q v .frames) (LSET i e) (v .stands) .0 in
-      let b = fine (v .running) p (v .on-floor) .locals-many in
+      let a = action-fits v .0 in
+      let b = fine v .locals-many in
       rw (there-after v) (omega arith)
 
   pub local-there : HasLocal p i c (after-it v)
@@ -228,19 +193,19 @@ module _ {w : List ℕ} {p n b : ℕ} (v : On w p (DO n b)) (some : n ≡ 0 → 
   inside-sized =
       let a : within 1 n n ≡ true = true-and (leb 1 n) _ (omega (arith, le-leb)) (omega (arith, le-leb)) in
       let c = true-and (eqb b b) _ (eq-eqb b b refl) a in
-      still-sized (v .running) (put p (into n b (q v)) (s v))
+      still-sized v (put p (into n b (q v)) (s v))
       (goes-into (m v) (s v) (v .running .sound) p (in-hand v) _
-      (chain-into (m v) (q v .frames) (DO n b) b n (fine (v .running) p (v .on-floor) .frames-ok) (v .stands) c) refl)
-      (is-sized (v .running) .floor-ok)
+      (chain-into (m v) (q v .frames) (DO n b) b n (fine v .frames-ok) (v .stands) c) refl)
+      (is-sized v .floor-ok)
 
   abbrev pub entering : Doing w (Lives p) (changed p (into n b))
   entering =
       record {
         is = s v;
         shows = v .running .shows;
-        before = is-sized (v .running);
+        before = is-sized v;
         after = inside-sized;
-        given = lives (v .running) p (v .on-floor);
+        given = lives v;
       }
 
 -- AMOUNTS RETURNED to a bin, given by the process of number g, while k returns wait;
@@ -248,8 +213,8 @@ module _ {w : List ℕ} {p i n : ℕ} (v : On w p (PUTB i n)) {k g : ℕ} (many 
     (few : k < 64) (giver : g ≡ q v .number) where
   pub bin-told : NoticeOk (m v) (s v .last) (set (s v .processes) p (past (q v))) ofReturns (returnsB i n g)
   bin-told =
-      let k = fit-at (m v) (v .running .fits) (q v .frames) (PUTB i n) (v .stands) in
-      let f = fine (v .running) p (v .on-floor) in
+      let k = action-fits v in
+      let f = fine v in
       record { is-low = refl; is-known = k .0; amount-ok = k .1; giver-ok = omega arith }
 
   pub bin-room : length (keep isReturn (s v .events)) < 64
@@ -262,8 +227,8 @@ module _ {w : List ℕ} {p i n : ℕ} (v : On w p (PUTB i n)) {k g : ℕ} (many 
 module _ {w : List ℕ} {p i n : ℕ} (v : On w p (PUTR i n)) where
   pub known : i < length (q v .held)
   known =
-      let k = fit-at (m v) (v .running .fits) (q v .frames) (PUTR i n) (v .stands) .0 in
-      let f = fine (v .running) p (v .on-floor) .held-many in
+      let k = action-fits v .0 in
+      let f = fine v .held-many in
       omega arith
 
   pub enough-held : {h : ℕ} → h ≡ getD (q v .held) i 0 → n ≤ h → n ≤ getD (q v .held) i 0
@@ -280,7 +245,7 @@ module _ {w : List ℕ} {p i n : ℕ} (v : On w p (PUTR i n)) where
     pub gives-up : (g : ℕ) → Held (m v) (put p (past (given-up (q v))) (s v)) (s v .blocked) (hand v)
         (λ j. gives j (returnsR i n g))
     gives-up g =
-        passes-as v (given-up (q v)) (fine-held (fine (v .running) p (v .on-floor)) _ (length-set (q v .held) i _))
+        passes-so v (given-up (q v)) (fine-held (fine v) _ (length-set (q v .held) i _))
         refl refl refl (λ j. less-at (q v .held) i n j known enough)
 
     pub holds : Holds p i n (after-it v)
@@ -300,8 +265,8 @@ module _ {w : List ℕ} {p i n : ℕ} (v : On w p (PUTR i n)) where
     module _ {k g : ℕ} (many : k ≡ length (keep isReturn (s v .events))) (few : k < 64) (giver : g ≡ q v .number) where
       pub told-back : NoticeOk (m v) (s v .last) (set (s v .processes) p (past (given-up (q v)))) ofReturns (returnsR i n g)
       told-back =
-          let k = fit-at (m v) (v .running .fits) (q v .frames) (PUTR i n) (v .stands) in
-          let f = fine (v .running) p (v .on-floor) in
+          let k = action-fits v in
+          let f = fine v in
           record { is-low = refl; is-known = k .0; amount-ok = k .1; giver-ok = omega arith }
 
       pub room-back : length (keep isReturn (s v .events)) < 64

@@ -32,10 +32,10 @@ use Rattle.process.specs.Process.{Shown, Lives, Inner, changed, restarted, agai
 use Rattle.process.specs.Put.{process-sized, put-there, put-again}
 use Rattle.acting.specs.Acting.{Stepped}
 use Rattle.acting.specs.Running.{Runs, runs}
+use Rattle.acting.specs.Floor.{is-sized, shown, still-sized, hand-is, in-hand, lives, low, fine}
 use Rattle.alone.specs.Alone.{Exhausted, Ends, Leaves, Back}
 use Rattle.lists.specs.Lists.{Any}
 use Rattle.begins.specs.Begins.{Ending}
-use Rattle.alone.proofs.Running.{shown, is-sized, still-sized, hand-is, one, in-places, fine, lives}
 
 -- WHAT IS MADE OF IT, where the process is in the block f within fs.
 module _ (m : Model) (s : State) (p : ℕ) (q : Process) (f : Frame) (fs : List Frame) (e : q .frames ≡ f ∷ fs) where
@@ -164,7 +164,7 @@ module _ {bs map w : List ℕ} {p : ℕ} (v : Back bs map w p) where
 
 -- THE CLASS BODY IS LEFT.
 abbrev pub looked-at : {w : List ℕ} {p : ℕ} (v : Ends w p) → Shown w (λ s. p < 64)
-looked-at {p = p} v = shown (v .running) (in-places (v .running) p (v .on-floor))
+looked-at {p = p} v = shown (v .running) (low (v .running) p (v .on-floor))
 
 -- What `holds_nothing` answers.
 abbrev pub OwesNothing : List ℕ → ℕ → Bool → Type 0
@@ -190,7 +190,7 @@ module _ {w : List ℕ} {p : ℕ} (v : Ends w p) {t : Bool} (answer : OwesNothin
 
   gone-held : Held (v .running .model) gone (v .running .is .blocked) (λ k. 0) (λ j. 0)
   gone-held =
-      remove (v .running .sound) p (one (v .running) p (v .on-floor))
+      remove (v .running .sound) p (in-hand (v .running) p (v .on-floor))
       (λ k. let h = hand-is (v .running) p (v .on-floor) k in omega arith)
       (λ k. ap (slaved k) no-slave)
       (λ j. eqb-true _ 0 (all-get (λ n. eqb n 0 ≡ true) (who .held) j 0 holds-none refl))
@@ -201,7 +201,7 @@ module _ {w : List ℕ} {p : ℕ} (v : Ends w p) {t : Bool} (answer : OwesNothin
   pub may-end : Ending p (v .running .is)
   may-end =
       record {
-        in-places = in-places (v .running) p (v .on-floor);
+        in-places = low (v .running) p (v .on-floor);
         leaves =
             record {
               in-body = v .in-body;
@@ -263,7 +263,7 @@ module _ {bs map w : List ℕ} {p : ℕ} (v : Leaves bs map w p) where
 
   pub back-sound : Sound model back
   back-sound =
-      goes-into model state (v .running .sound) p (one (runs (v .running)) p (v .on-floor)) (v .around)
+      goes-into model state (v .running .sound) p (in-hand (runs (v .running)) p (v .on-floor)) (v .around)
       (chain-parts model (v .innermost) (v .around) all-chained .1) (some-al (v .around) (v .nested))
 
   out-is : changed p (out true) state ≡ back
@@ -275,7 +275,7 @@ module _ {bs map w : List ℕ} {p : ℕ} (v : Leaves bs map w p) where
       record {
         lives =
             record {
-              in-places = in-places (runs (v .running)) p (v .on-floor);
+              in-places = low (runs (v .running)) p (v .on-floor);
               innermost = v .innermost;
               around = v .around;
               frames-are = v .frames-are;
@@ -310,7 +310,7 @@ module _ {bs map w : List ℕ} {p : ℕ} (v : Leaves bs map w p) where
   back-there : process back p ≡ with-frames leaver (v .around)
   back-there =
       put-there state p (with-frames leaver (v .around)) (v .running .sound .places-64)
-      (in-places (runs (v .running)) p (v .on-floor))
+      (low (runs (v .running)) p (v .on-floor))
 
   pub stands-back : standsIn model (process back p .frames) ≡ some (namer .0)
   stands-back = ap (λ r. standsIn model (r .frames)) back-there ∙ namer .1
@@ -384,7 +384,7 @@ module _ {bs map w : List ℕ} {p : ℕ} (v : Exhausted bs map w p) where
         ap (chained (v .running .model)) (sym (blocks .frames-are)) ∙ fine run p (v .on-floor) .frames-ok in
         subst (λ l. Sized (put p (with-frames its-process (restarted l)) now-is)) (sym (blocks .frames-are))
         (still-sized run (put p (with-frames its-process (restarted (f ∷ blocks .around))) now-is)
-        (goes-into (v .running .model) now-is (v .running .sound) p (one run p (v .on-floor)) _
+        (goes-into (v .running .model) now-is (v .running .sound) p (in-hand run p (v .on-floor)) _
         (chain-again (v .running .model) f (blocks .around) rounds-more c) refl)
         (is-sized run .floor-ok))
 

@@ -1,4 +1,3 @@
-pub mod Running
 pub mod Values
 pub mod Outcomes
 pub mod Between

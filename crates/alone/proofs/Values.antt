@@ -17,7 +17,6 @@ use Rattle.semantics.specs.Value.{eval}
 use Rattle.promises.specs.Fit.{ExprFit, ActFit}
 use Rattle.promises.specs.Sound.{al, Fine}
 use Rattle.promises.specs.Moves.{proc-at}
-use Rattle.promises.specs.Parts.{fit-at}
 use Rattle.number.specs.Code.{code, valueOf, valueIn, outcomeOf}
 use Rattle.number.specs.declared.Value.{Value}
 use Rattle.line.specs.Lines.{pad}
@@ -26,7 +25,8 @@ use Rattle.value.specs.Reading.{Readable, answered}
 use Rattle.acts.specs.Bodies.{expression-fits}
 use Rattle.work.specs.Codes.{globals-part, locals-part}
 use Rattle.alone.specs.Alone.{Valued, Told}
-use Rattle.alone.proofs.Running.{is-sized, lives}
+use Rattle.acting.specs.Floor.{is-sized}
+use Rattle.acting.specs.Onward.{lives, action-fits}
 
 module _ {body w : List ℕ} {p : ℕ} (v : Valued body w p) where
   abbrev s : State
@@ -80,16 +80,13 @@ module _ {body w : List ℕ} {p : ℕ} (v : Valued body w p) where
 -- The expression of the action where the process on the floor stands is such a one, and fits as the action does.
 abbrev pub to-value : {body w : List ℕ} {p : ℕ} {x : Expr → Action} (v : Told body w p x)
     → (ActFit (v .on .running .model) (x (v .expression)) → ExprFit (v .on .running .model) (v .expression)) → Valued body w p
-to-value {p = p} {x} v f =
+to-value v f =
     record {
       running = v .on .running;
-      lives = lives (v .on .running) p (v .on .on-floor);
+      lives = lives (v .on);
       expression = v .expression;
       reads = v .reads;
-      expression-fits =
-          f
-          (fit-at (v .on .running .model) (v .on .running .fits) (process (v .on .running .is) p .frames) (x (v .expression))
-          (v .on .stands));
+      expression-fits = f (action-fits (v .on));
     }
 
 -- WHAT AN ANSWER SAYS: there is no value; there is one, below 0 or not.

@@ -7,27 +7,28 @@ use mathlib.Core.Bool.{Bool, true, false}
 use mathlib.Core.Option.{none, some}
 use lib.ListN.{length, getD, take, getElem?}
 use lib.IntN.{pos}
-use Rattle.semantics.specs.Model.{Branch, Action, block}
+use Rattle.semantics.specs.Model.{Branch, Action}
 use Rattle.semantics.specs.State.{State}
 use Rattle.semantics.specs.Claim.{met, Offer, pass, enterBlock, offers, waits, goes, choice, grant}
 use Rattle.semantics.specs.Walk.{line}
-use Rattle.promises.specs.Laws.{AllOf, some-in}
-use Rattle.promises.specs.Parts.{fit-at}
+use Rattle.promises.specs.Laws.{AllOf}
 use Rattle.promises.specs.Takes.{chosen}
 use Rattle.number.specs.Code.{code, valueOf}
 use Rattle.number.specs.Laws.{valueOf-code}
 use Rattle.journal.specs.Wrote.{wroteAt}
 use Rattle.work.specs.Work.{workOf}
 use Rattle.map.specs.Map.{OffersAt}
+use Rattle.map.specs.Low.{number-low}
 use Rattle.process.specs.Process.{Shown}
 use Rattle.lists.specs.Lists.{waiterOf}
 use Rattle.lists.specs.Queues.{before}
 use Rattle.lists.specs.Front.{in-front}
 use Rattle.claim.specs.Asking.{choiceOf}
 use Rattle.grant.specs.Grant.{intoBlock, Granting, Facing}
+use Rattle.acting.specs.Onward.{hand, is-sized, in-hand, action-fits}
 use Rattle.asks.specs.Asks.{Asked, model, state, who, taken, Requests, passes, enters, Requesting, Looping, Branching}
 use Rattle.asks.specs.Asks.{Comes, Branched}
-use Rattle.asks.proofs.Floor.{shows, is-sized, inHand, one, listed}
+use Rattle.asks.proofs.Floor.{here, shown}
 
 -- OFFERS. The n-th of them, if there are as many; else none is chosen.
 abbrev noOffer : Offer
@@ -64,12 +65,6 @@ module _ {bs row w : List ℕ} {p a : ℕ} where
   abbrev pub by-loop : Looping bs row w p a → Branching bs row w p a true
   by-loop v = record { action = _; asked = v .asked; enters-all = (refl, tt) }
 
--- A block that has an action is one of the model's.
-block-in : (xs : List (List Action)) (b : ℕ) {j : ℕ} → j < length (getD xs b []) → b < length xs
-block-in [] b h = absurd (omega arith)
-block-in (x ∷ xs) zero h = omega arith
-block-in (x ∷ xs) (suc b) h = let i = block-in xs b h in omega arith
-
 -- THE ACTION in the map.
 module _ {bs row w : List ℕ} {p a : ℕ} {x : Action} (v : Asked bs row w p a x) where
   abbrev s : State
@@ -86,15 +81,8 @@ module _ {bs row w : List ℕ} {p a : ℕ} {x : Action} (v : Asked bs row w p a 
   pub few : a < 1_024
   few =
       let o = v .acting .running in
-      let i = some-in (block (model v) (v .inside)) (v .index) x (v .there) in
-      let k = block-in (o .model .blocks) (v .inside) i in
-      omega (
-        arith,
-        i,
-        v .number-is,
-        o .mapped .first-next (v .inside) k,
-        o .mapped .first-few (v .inside + 1) (omega (arith, k, o .fits .few-blocks)),
-      )
+      let a = number-low (o .mapped) (o .fits) (v .inside) (v .index) x (v .there) in
+      omega (arith, v .number-is)
 
   pub map-long : length row ≡ 18_754
   map-long = v .acting .running .mapped .long
@@ -111,7 +99,7 @@ module _ {bs row w : List ℕ} {p a : ℕ} {x : Action} (v : Asked bs row w p a 
       (front : (d : Shown w (λ t. p < 64))
       → (k ≡ before (waiterOf (d .is) p) (d .is .blocked)) × (k ≤ length (d .is .blocked))) where
     pub in-front-of-it : (k ≡ before (waiterOf s p) (s .blocked)) × (k ≤ length (s .blocked))
-    in-front-of-it = front (listed v (shows v))
+    in-front-of-it = front (shown v (v .acting .running .shows))
 
     abbrev pub facing : Facing bs row w a k
     facing =
@@ -122,16 +110,16 @@ module _ {bs row w : List ℕ} {p a : ℕ} {x : Action} (v : Asked bs row w p a 
           few-rounds = v .acting .running .few-rounds;
           mapped = v .acting .running .mapped;
           is = s;
-          shows = shows v;
-          in-hand = inHand v;
+          shows = v .acting .running .shows;
+          in-hand = hand (here v);
           amounts = λ j. 0;
           holds = v .acting .running .sound;
-          floor-ok = is-sized v .floor-ok;
+          floor-ok = is-sized (here v) .floor-ok;
           ahead = in-front-of-it .1;
           asked = x;
           asked-at = offers-there;
           asked-low = few;
-          asked-fit = fit-at (model v) (v .acting .running .fits) (who v .frames) x (v .acting .stands);
+          asked-fit = action-fits (here v);
         }
 
     module _ (n : ℕ)
@@ -144,7 +132,7 @@ module _ {bs row w : List ℕ} {p a : ℕ} {x : Action} (v : Asked bs row w p a 
       taken-is : taken v ≡ choiceOf n os
       taken-is =
           let o = v .acting .running .sound .blocked-ordered in
-          let e = ap (λ j. take j (s .blocked)) (in-front-of-it .0) ∙ in-front s p (is-sized v) o in
+          let e = ap (λ j. take j (s .blocked)) (in-front-of-it .0) ∙ in-front s p (is-sized (here v)) o in
           ap (λ ws. choice (model v) s ws os) (sym e) ∙ told facing .0
 
       module _ (first next : ℕ) (f : first ≡ getD row (1_345 + a) 0) (g : next ≡ getD row (1_346 + a) 0) where
@@ -188,11 +176,11 @@ module _ {bs row w : List ℕ} {p a : ℕ} {x : Action} (v : Asked bs row w p a 
                   nested = v .acting .running .nested;
                   few-rounds = v .acting .running .few-rounds;
                   is = s;
-                  shows = shows v;
-                  in-hand = inHand v;
+                  shows = v .acting .running .shows;
+                  in-hand = hand (here v);
                   holds = v .acting .running .sound;
-                  one = one v;
-                  floor-ok = is-sized v .floor-ok;
+                  one = in-hand (here v);
+                  floor-ok = is-sized (here v) .floor-ok;
                   stands-at = x;
                   stands = v .acting .stands;
                   offer = offer;

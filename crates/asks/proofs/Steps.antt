@@ -18,7 +18,6 @@ use Rattle.journal.specs.Wrote.{wroteAt}
 use Rattle.work.specs.Work.{workOf}
 use Rattle.acting.specs.Acting.{Stepped}
 use Rattle.asks.specs.Asks.{Asked, model, state, who, taken, Comes, Branched}
-use Rattle.asks.proofs.Floor.{shows}
 
 module _ {bs map w : List ℕ} {p a : ℕ} {x : Action} (v : Asked bs map w p a x) {r : Bool} {w₁ : List ℕ} {at : ℕ}
     {out out₁ : List ℕ} (b : Branched (taken v) r p (state v) w w₁ at out out₁) where
@@ -57,7 +56,7 @@ module _ {bs map w : List ℕ} {p a : ℕ} {x : Action} (v : Asked bs map w p a 
         by (goes n o) t = no-way (sym e ∙ t .0)
 
     pub still-shows : w₁ ≡ workOf (state v)
-    still-shows = kept .1 .0 ∙ shows v
+    still-shows = kept .1 .0 ∙ v .acting .running .shows
 
     pub same-out : out₁ ≡ out
     same-out = kept .1 .1

@@ -18,7 +18,7 @@ use Rattle.work.specs.Work.{workOf, FloorSized, Sized, Doing, Done}
 use Rattle.work.specs.Sized.{held-sized}
 use Rattle.process.specs.Process.{Lives, changed}
 use Rattle.grant.specs.Grant.{Taking, Granting, intoBlock}
-use Rattle.grant.specs.Standing.{hand-lives}
+use Rattle.process.specs.Alive.{hand-lives}
 
 -- What follows: a block is entered, or the action is passed.
 record Enters (t : Then) : Type 0 where

@@ -25,7 +25,7 @@ use Rattle.process.specs.Process.{Lives, Claims, changed}
 use Rattle.claim.specs.Laid.{itemsIn, claim-items}
 use Rattle.slaves.specs.Slaves.{Waiting}
 use Rattle.grant.specs.Grant.{Known, Takes, InBin, Taking}
-use Rattle.grant.specs.Standing.{hand-lives}
+use Rattle.process.specs.Alive.{hand-lives}
 use Rattle.grant.specs.declared.Wanted.{Wanted}
 use Rattle.grant.specs.Wants.{wantedBy}
 

@@ -1,4 +1,4 @@
--- Who is in hand, or blocked, lives; and the action where a blocked one stands, as the map has it. Assumes nothing.
+-- The action where a blocked one stands, as the map has it. Assumes nothing.
 use Prim.Native.Nat.{ℕ, zero, suc, _+_, _≤_, _<_}
 use native.Mathlib.Omega.{arith}
 use mathlib.Core.Path.{_≡_, refl, _∙_, ap}
@@ -10,28 +10,13 @@ use Rattle.semantics.specs.Model.{Action, Model, block}
 use Rattle.semantics.specs.State.{State, Process, Frame, Waiter, nobody, process}
 use Rattle.semantics.specs.Claim.{offers, standsIn, offersAt, asks}
 use Rattle.semantics.specs.Sound.{asksAt}
-use Rattle.promises.specs.Laws.{no-way, AllOf, some-in}
+use Rattle.promises.specs.Laws.{no-way, AllOf}
 use Rattle.promises.specs.Fit.{Fit}
-use Rattle.promises.specs.Sound.{al, Stands, Held}
-use Rattle.promises.specs.Keep.{alive-in}
-use Rattle.promises.specs.Moves.{hand-alive}
+use Rattle.promises.specs.Sound.{Stands, Held}
 use Rattle.map.specs.Map.{OffersAt, Mapped}
+use Rattle.map.specs.Low as Low
 use Rattle.process.specs.Process.{Lives}
-
--- Whoever is in a block lives.
-lives-in : {m : Model} {s : State} {l : List Waiter} {z y : ℕ → ℕ} → Held m s l z y → (p : ℕ) (f : Frame) (fs : List Frame)
-    → process s p .frames ≡ f ∷ fs → Lives p s
-lives-in {s = s} h p f fs e =
-    let a = alive-in (s .processes) p (let b = ap al e in omega (arith, b)) in
-    record { in-places = let b = h .places-64 in omega arith; innermost = f; around = fs; frames-are = e }
-
--- IN HAND.
-pub hand-lives : {m : Model} {s : State} {l : List Waiter} {z y : ℕ → ℕ} → Held m s l z y → (p : ℕ) → 1 ≤ z p → Lives p s
-hand-lives {s = s} h p one = by (process s p .frames) refl (hand-alive h p one)
-  where
-    by : (fs : List Frame) → process s p .frames ≡ fs → al fs ≡ 1 → Lives p s
-    by [] e a = absurd (omega arith)
-    by (f ∷ fs) e a = lives-in h p f fs e
+use Rattle.process.specs.Alive.{lives-in}
 
 -- AT AN ACTION of its innermost block.
 pub record Standing (m : Model) (p : ℕ) (s : State) : Type 0 where
@@ -52,16 +37,7 @@ module _ {m : Model} {p : ℕ} {s : State} (t : Standing m p s) where
     offers-there = v .offers-at (t .lives .innermost .block) (t .lives .innermost .at) (t .action) (t .acts)
 
     pub number-low : Fit m → numberIn row < 1_024
-    number-low f =
-        let b : ℕ = t .lives .innermost .block in
-        let i = some-in (block m b) (t .lives .innermost .at) (t .action) (t .acts) in
-        let k = block-in (m .blocks) b i in
-        omega (arith, i, v .first-next b k, v .first-few (b + 1) (omega (arith, k, f .few-blocks)))
-      where
-        block-in : (xs : List (List Action)) (b : ℕ) {j : ℕ} → j < length (getD xs b []) → b < length xs
-        block-in [] b h = absurd (omega arith)
-        block-in (x ∷ xs) zero h = omega arith
-        block-in (x ∷ xs) (suc b) h = let i = block-in xs b h in omega arith
+    number-low f = Low.number-low v f (t .lives .innermost .block) (t .lives .innermost .at) (t .action) (t .acts)
 
 -- THE BLOCKED ask at an action.
 abbrev pub placeAt : List Waiter → ℕ → ℕ

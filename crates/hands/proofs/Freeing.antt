@@ -11,7 +11,6 @@ use Rattle.semantics.specs.Walk.{Line, Next, line}
 use Rattle.semantics.specs.Step.{freeAll}
 use Rattle.promises.specs.Laws.{over, once, once-self}
 use Rattle.promises.specs.Sound.{onFloor, Held}
-use Rattle.promises.specs.Moves.{hand-alive, hand-in}
 use Rattle.promises.specs.Takes.{wakes-up}
 use Rattle.journal.specs.Wrote.{wroteAt}
 use Rattle.journal.specs.Laws.{wrote-length}
@@ -19,8 +18,8 @@ use Rattle.work.specs.Work.{workOf, FloorSized, Sized, Doing, Done}
 use Rattle.work.specs.Sized.{held-sized}
 use Rattle.work.specs.Shown.{work-long}
 use Rattle.process.specs.Process.{Lives}
+use Rattle.process.specs.Alive.{hand-lives}
 use Rattle.hands.specs.Freeing.{Freeing}
-use Rattle.hands.proofs.Running.{lives-by}
 
 -- ONE. It wakes now, by the clock c that was read.
 module _ {w : List ℕ} {r c : ℕ} where
@@ -108,7 +107,7 @@ module _ {first places : List ℕ} {i n : ℕ} (v : Freeing first i places n) (a
           before = sized-by s holds (l .floor-ok);
           after = sized-by (wake (s .clock) r s) awake (l .floor-ok);
           given =
-              lives-by s r (omega (arith, hand-in holds r in-hand, holds .places-64)) (hand-alive holds r in-hand);
+              hand-lives holds r in-hand;
         }
 
     pub less-left : {w′ out′ : List ℕ} → Done w (Lives r) (λ u. wake (u .clock) r u) w′

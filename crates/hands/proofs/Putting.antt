@@ -14,20 +14,19 @@ use Rattle.semantics.specs.Model.{PUTS}
 use Rattle.semantics.specs.State.{State, Process, Slave, process, put, past, wake}
 use Rattle.semantics.specs.Step.{freed, freeAll, puts}
 use Rattle.promises.specs.Laws.{over, once}
-use Rattle.promises.specs.Fit.{ActFit}
 use Rattle.promises.specs.Sound.{Fine, Held}
-use Rattle.promises.specs.Moves.{hand-alive, alter}
-use Rattle.promises.specs.Parts.{fit-at, fine-slaves, freed-stay, stay-all}
+use Rattle.promises.specs.Moves.{alter}
+use Rattle.promises.specs.Parts.{fine-slaves, freed-stay, stay-all}
 use Rattle.journal.specs.Wrote.{wroteAt}
 use Rattle.work.specs.Work.{workOf, Sized, Doing, Done}
 use Rattle.process.specs.Process.{Lives, changed}
 use Rattle.process.specs.Put.{changed-twice}
+use Rattle.process.specs.Alive.{hand-lives}
 use Rattle.slaves.specs.Slaves.{ownedOf, Owns, letGo}
 use Rattle.acting.specs.Acting.{Stepped}
 use Rattle.acting.specs.Running.{On}
+use Rattle.acting.specs.Onward.{m, s, q, hand, is-sized, still-sized, in-hand, alive, lives, low, fine, action-fits, passes-as}
 use Rattle.hands.specs.Freeing.{Freeing}
-use Rattle.hands.proofs.Running.{lives-by, m, s, q, is-sized, still-sized, hand, in-hand, in-places, alive, fine, lives}
-use Rattle.hands.proofs.Running.{passes-as}
 
 -- As many are freed as is said, where there are as many; and each has a line.
 freed-many : (i n : ℕ) (xs : List Slave) → n ≤ ownedOf i xs → length (freed i n xs) ≡ n
@@ -59,9 +58,6 @@ module _ {w : List ℕ} {p i n : ℕ} (v : On w p (PUTS i n)) where
     are-missing h at out = rw (lt-leb n (ownedOf i slaves) (omega (arith, count))) (refl, (refl, (refl, refl)))
 
     module _ (enough : n ≤ k) where
-      fit : ActFit (m v) (PUTS i n)
-      fit = fit-at (m v) (v .running .fits) (q v .frames) (PUTS i n) (v .stands)
-
       are-there : n ≤ ownedOf i slaves
       are-there = omega (arith, count)
 
@@ -106,7 +102,7 @@ module _ {w : List ℕ} {p i n : ℕ} (v : On w p (PUTS i n)) where
       onward = put p (past fewer) (s v)
 
       onward-is : changed p past (put p fewer (s v)) ≡ onward
-      onward-is = changed-twice (s v) p (letGo i n) past (is-sized v .places-64) (in-places v)
+      onward-is = changed-twice (s v) p (letGo i n) past (is-sized v .places-64) (low v)
 
       onward-held : Held (m v) onward (s v .blocked) inHand (λ j. 0)
       onward-held =
@@ -120,7 +116,7 @@ module _ {w : List ℕ} {p i n : ℕ} (v : On w p (PUTS i n)) where
             shows = f releasing;
             before = released-sized;
             after = subst Sized (sym onward-is) (still-sized v onward onward-held (is-sized v .floor-ok));
-            given = lives-by (put p fewer (s v)) p (in-places v) (hand-alive released-held p one);
+            given = hand-lives released-held p one;
           }
 
       -- FREED, from where their places were noted.
@@ -150,11 +146,11 @@ module _ {w : List ℕ} {p i n : ℕ} (v : On w p (PUTS i n)) where
                 holds = onward-held;
                 floor-ok = is-sized v .floor-ok;
                 many = gone-many;
-                inside = omega (arith, fit .1 .high, ap length places-are, length-sets zeros 0 gone);
+                inside = omega (arith, action-fits v .1 .high, ap length places-are, length-sets zeros 0 gone);
                 places-are =
-                    ap (take n) (places-are ∙ sets-eq gone zeros 0 (omega (arith, gone-many, fit .1 .high)))
+                    ap (take n) (places-are ∙ sets-eq gone zeros 0 (omega (arith, gone-many, action-fits v .1 .high)))
                     ∙ take-at gone _ n gone-many;
-                sync-low = omega (arith, fit .0, v .running .fits .few-syncs);
+                sync-low = omega (arith, action-fits v .0, v .running .fits .few-syncs);
               }
 
           pub are-freed : {w₃ : List ℕ} (at : ℕ) (out : List ℕ) {out′ : List ℕ}
@@ -167,4 +163,4 @@ module _ {w : List ℕ} {p i n : ℕ} (v : On w p (PUTS i n)) where
               (refl, (sym (a-line-each i gone onward ∙ gone-many), (h freeing .0, h freeing .1)))
 
       pub few : n ≤ 64
-      few = fit .1 .high
+      few = action-fits v .1 .high

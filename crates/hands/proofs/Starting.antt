@@ -21,23 +21,24 @@ use Rattle.semantics.specs.State.{wake, past, begin}
 use Rattle.semantics.specs.Walk.{Next, line}
 use Rattle.semantics.specs.Step.{handed, kept, start}
 use Rattle.promises.specs.Laws.{and-true, AllOf, Ordered, all-map, all-both, all-hold, over-still, once-apart, set-away}
-use Rattle.promises.specs.Fit.{ShareFit, SharesApart, ActFit}
+use Rattle.promises.specs.Fit.{ShareFit, SharesApart}
 use Rattle.promises.specs.Sound.{al, Fine, Vacant, Held}
 use Rattle.promises.specs.Keep.{al-none, FreeAt, living-are, some-free}
-use Rattle.promises.specs.Moves.{hand-alive, proc-at, alter, create}
-use Rattle.promises.specs.Parts.{fit-at, onward-al, fine-held, new-fine, zeros-at, handOver, Known, kept-length, kept-at}
+use Rattle.promises.specs.Moves.{proc-at, alter, create}
+use Rattle.promises.specs.Parts.{onward-al, fine-held, new-fine, zeros-at, handOver, Known, kept-length, kept-at}
 use Rattle.promises.specs.Takes.{wakes-up}
 use Rattle.journal.specs.Wrote.{wroteAt}
 use Rattle.work.specs.Work.{workOf, Sized, Doing, Done}
 use Rattle.process.specs.Process.{Lives, changed}
+use Rattle.process.specs.Alive.{hand-lives}
 use Rattle.process.specs.Put.{put-again, put-there, changed-twice}
 use Rattle.begins.specs.Begins.{Roomy, begins, Answers}
 use Rattle.acting.specs.Acting.{Stepped}
 use Rattle.acting.specs.Running.{On, on}
+use Rattle.acting.specs.Onward.{m, s, q, hand, is-sized, shown, still-sized, in-hand, alive, lives, low, fine, action-fits}
+use Rattle.acting.specs.Onward.{passes-as}
 use Rattle.hands.specs.Shares.{sharesFrom, SharesAt, has, Offering, moved, without, Room, withoutAll, MovesAll, Moving}
 use Rattle.hands.specs.Hands.{Starting}
-use Rattle.hands.proofs.Running.{lives-by, m, s, q, is-sized, shown, still-sized, hand, in-hand, in-places, alive, fine}
-use Rattle.hands.proofs.Running.{lives, passes-as}
 
 -- ALL SHARES can be moved where each can by itself: no two are of one resource.
 pub movable : (away : Bool) (h : List Share) (l : List ℕ) → Known l h → Ordered SharesApart h
@@ -111,11 +112,8 @@ module _ {body map w : List ℕ} {p : ℕ} (v : Starting body map w p) where
   abbrev held : List ℕ
   held = q o .held
 
-  pub fit : ActFit (m o) (START (v .class) (v .offset) h)
-  fit = fit-at (m o) (o .running .fits) (q o .frames) _ (o .stands)
-
   pub class-low : v .class < 64
-  class-low = omega (arith, fit .0, o .running .fits .few-classes)
+  class-low = omega (arith, action-fits o .0, o .running .fits .few-classes)
 
   -- SHARES. They stand in the body; the giver's resources and its own are those of the model.
   pub shares-at : SharesAt body h
@@ -131,11 +129,11 @@ module _ {body map w : List ℕ} {p : ℕ} (v : Starting body map w p) where
       }
 
   pub known : (l : List ℕ) → length l ≡ length (m o .totals) → Known l h
-  known l e = rw e (all-map (ShareFit (m o)) (λ x. x .of < length (m o .totals)) (λ x a. a .0) h (fit .3))
+  known l e = rw e (all-map (ShareFit (m o)) (λ x. x .of < length (m o .totals)) (λ x a. a .0) h (action-fits o .3))
 
   abbrev pub offering : Offering body w p
   offering =
-      record { shares = h; told = shares-at; shown = shown o (in-places o, known held (fine o .held-many)) }
+      record { shares = h; told = shares-at; shown = shown o (low o, known held (fine o .held-many)) }
 
   -- WHAT THE DEFINITION MAKES OF IT, where t is the time at which the new process enters.
   abbrev made : Outcome Next
@@ -192,7 +190,7 @@ module _ {body map w : List ℕ} {p : ℕ} (v : Starting body map w p) where
     left-over = with-held (q o) (kept h held)
 
     left-is : (j : ℕ) → getD (kept h held) j 0 + handOver j h ≡ getD held j 0
-    left-is j = kept-at h held j (known held (fine o .held-many)) (fit .4) enough
+    left-is j = kept-at h held j (known held (fine o .held-many)) (action-fits o .4) enough
 
     left-fine : Fine (m o) (s o .last) left-over
     left-fine = fine-held (fine o) (kept h held) (kept-length h held)
@@ -216,7 +214,7 @@ module _ {body map w : List ℕ} {p : ℕ} (v : Starting body map w p) where
     lighter-lives : Lives p lighter
     lighter-lives =
         subst (Lives p) (sym lighter-is)
-        (lives-by (put p left-over (s o)) p (in-places o) (hand-alive lighter-held p (in-hand o)))
+        (hand-lives lighter-held p (in-hand o))
 
     abbrev pub giving : Moving body w p true
     giving =
@@ -231,7 +229,7 @@ module _ {body map w : List ℕ} {p : ℕ} (v : Starting body map w p) where
                 sized = is-sized o;
                 lives = lives o;
                 moves-all =
-                    movable true h held (known held (fine o .held-many)) (fit .4)
+                    movable true h held (known held (fine o .held-many)) (action-fits o .4)
                     (all-map _ (λ x. x .amount ≤ getD held (x .of) 0)
                     (λ x e. leb-true (x .amount) (getD held (x .of) 0) e) h enough);
                 leads = refl;
@@ -243,7 +241,7 @@ module _ {body map w : List ℕ} {p : ℕ} (v : Starting body map w p) where
 
     giver-is : changed p past lighter ≡ giver
     giver-is =
-        changed-twice (s o) p (λ r. with-held r (withoutAll true h (r .held))) past (is-sized o .places-64) (in-places o)
+        changed-twice (s o) p (λ r. with-held r (withoutAll true h (r .held))) past (is-sized o .places-64) (low o)
         ∙ ap (λ l. put p (past (with-held (q o) l)) (s o)) (kept-is h held)
 
     giver-held : Held (m o) giver (s o .blocked) (hand o) (λ j. handOver j h)
@@ -307,7 +305,7 @@ module _ {body map w : List ℕ} {p : ℕ} (v : Starting body map w p) where
     begun-held =
         wakes-up (m o) (put place (new nothing) newly)
         (create giver-held place (new nothing) (ltb-true (s o .last) No.lastNumber (both .1)) free
-        (new-fine (m o) (s o .last) (v .class) nothing (fit .0) nothing-long) refl refl refl (λ k. refl)
+        (new-fine (m o) (s o .last) (v .class) nothing (action-fits o .0) nothing-long) refl refl refl (λ k. refl)
         (λ j. let a = zeros-at (s o .free) j in omega arith))
         t place (omega (arith, y .time)) (y .soon) (λ k. refl)
 
@@ -365,9 +363,9 @@ module _ {body map w : List ℕ} {p : ℕ} (v : Starting body map w p) where
 
     can-take : MovesAll false h nothing
     can-take =
-        movable false h nothing (known nothing nothing-long) (fit .4)
+        movable false h nothing (known nothing nothing-long) (action-fits o .4)
         (all-map (ShareFit (m o)) (λ x. Room false x (getD nothing (x .of) 0))
-        (λ x a. let z = zeros-at (s o .free) (x .of) in omega (arith, a .1 .high)) h (fit .3))
+        (λ x a. let z = zeros-at (s o .free) (x .of) in omega (arith, a .1 .high)) h (action-fits o .3))
 
     pub taking : {w₃ : List ℕ} {r : ℕ} → w₃ ≡ workOf begun → r ≡ place → Moving body w₃ r false
     taking {r = r} e f =

@@ -1,3 +1,4 @@
 pub mod Process
 pub mod Rows
 pub mod Put
+pub mod Alive

@@ -30,6 +30,12 @@ why-not-20 {m = m} {t = t} h (at-fault {j = j} b l f) e =
     let z : j ≡ 20 = cc in let a = safe-fault (step-safe m t h b) f in omega arith
 why-not-20 h (no-room b l f g) e = let z : _≡_ {A = ℕ} 30 20 = cc in omega arith
 
+-- A run out of a sound state leaves a sound one.
+pub run-sound : (m : Model) → Fit m → (n : ℕ) (r : Room) (s : State) → Sound m s → Sound m (run m n r s .state)
+run-sound m fit =
+    run-keeps m (λ n r s y. Sound m s → Sound m (y .state)) (λ n r s a h. h)
+    (λ n r s x y b g l ih h. ih (step-ok m fit s h x g))
+
 module _ (bs : List ℕ) (m : Model) (e : decode bs ≡ accepted m) where
   fit : Fit m
   fit = accepted-fit bs m e
@@ -38,13 +44,8 @@ module _ (bs : List ℕ) (m : Model) (e : decode bs ≡ accepted m) where
   unfolding call callIn
   call-is a s h = rw (call, e, callIn, sound-back m s h) refl
 
-  pub run-sound : (n : ℕ) (r : Room) (s : State) → Sound m s → Sound m (run m n r s .state)
-  run-sound =
-      run-keeps m (λ n r s y. Sound m s → Sound m (y .state)) (λ n r s a h. h)
-      (λ n r s x y b g l ih h. ih (step-ok m fit s h x g))
-
   call-sound : (a : Ask) (s : State) → Sound m s → Sound m (call bs a s .state)
-  call-sound a s h = rw (call-is a s h) (run-sound (a .limit) (a .room) s h)
+  call-sound a s h = rw (call-is a s h) (run-sound m fit (a .limit) (a .room) s h)
 
   leaves-sound : (l : List Ask) (s : State) → Sound m s → Sound m (leaves bs l s)
   leaves-sound [] s h = h
@@ -60,5 +61,5 @@ module _ (bs : List ℕ) (m : Model) (e : decode bs ≡ accepted m) where
   pub never-20 : (l : List Ask) (a : Ask) → call bs a (leaves bs l (fresh m)) .answer ≡ FAULT No.STATE → ⊥
   never-20 l a f =
       let s : State = leaves bs l (fresh m) in
-      why-not-20 (run-sound (a .limit) (a .room) s (calls-sound l)) (run-why m (a .limit) (a .room) s)
+      why-not-20 (run-sound m fit (a .limit) (a .room) s (calls-sound l)) (run-why m (a .limit) (a .room) s)
       (ap (λ (r : Ran). r .answer) (sym (call-is-run l a)) ∙ f)

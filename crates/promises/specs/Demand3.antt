@@ -154,7 +154,7 @@ module _ (bs : List ℕ) (m : Model) (e : decode bs ≡ accepted m) (f : Forward
   does a s h =
       rw (call-is bs m e a s h)
       (record {
-        is-sound = run-sound bs m e (a .limit) (a .room) s h;
+        is-sound = run-sound m (accepted-fit bs m e) (a .limit) (a .room) s h;
         falls = run-falls (a .limit) (a .room) s h;
         counts = no-end (run-why m (a .limit) (a .room) s);
       })

@@ -84,7 +84,7 @@ module _ (bs : List ℕ) (m : Model) (e : decode bs ≡ accepted m) where
       × (call bs b (call bs a (leaves bs l (fresh m)) .state) .state ≡ call bs a (leaves bs l (fresh m)) .state)
   end-stays l a b f =
       let s : State = leaves bs l (fresh m) in
-      let t = C.run-sound bs m e (a .limit) (a .room) s (C.calls-sound bs m e l) in
+      let t = C.run-sound m fit (a .limit) (a .room) s (C.calls-sound bs m e l) in
       rw (C.call-is-run bs m e l a, C.call-is bs m e b (run m (a .limit) (a .room) s .state) t)
       (E.end-stays m (a .limit) (a .room) s (rw (C.call-is-run bs m e l a) at f) (b .limit) (b .room))
 

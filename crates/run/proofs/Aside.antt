@@ -11,18 +11,15 @@ use Rattle.semantics.specs.Words.{Outcome, ok, fails, if_then_else_}
 use Rattle.semantics.specs.Numbers as No
 use Rattle.semantics.specs.Walk.{Line, Next}
 use Rattle.semantics.specs.Journal.{journal, written}
-use Rattle.work.specs.Shown.{work-long}
-use Rattle.work.specs.Sized.{sound-sized}
 use Rattle.journal.specs.Wrote.{wroteAt}
 use Rattle.journal.specs.Laws.{journal-length, written-none, wrote-sets, wrote-written}
 use Rattle.acting.specs.Acting.{Going, Stepped}
+use Rattle.acting.specs.Running.{runs}
+use Rattle.acting.specs.Floor.{run-long}
 use Rattle.run.specs.Fitted.{fitted}
 
 pub going-long : (bs map w : List ℕ) → Going bs map w → length w ≡ 10_696
-going-long bs map w g =
-    let v = g .running in
-    ap length (v .shows)
-    ∙ work-long (v .is) (sound-sized (v .model) (v .fits) (v .nested) (v .few-rounds) (v .is) (v .sound))
+going-long bs map w g = run-long (runs (g .running))
 
 -- WHETHER ITS LINES FIT.
 does-fit : (x : Next) (n : ℕ) → length (x .lines) ≤ n → fitted n (ok x) ≡ ok x

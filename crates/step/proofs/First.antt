@@ -16,13 +16,13 @@ use Rattle.promises.specs.Moves.{recount, first-out}
 use Rattle.promises.specs.Safe.{Safe, idle-stops, step-safe}
 use Rattle.line.specs.Lines.{eventKey, eventWord}
 use Rattle.work.specs.Work.{floorWord, workOf, EventSized, Sized}
-use Rattle.work.specs.Sized.{held-sized, sound-sized}
 use Rattle.work.specs.Head.{clock-at, floor-at}
 use Rattle.work.specs.Events.{first-key}
 use Rattle.lists.specs.Lists.{Any, Due, without-first, firstOut, PuttingBack}
 use Rattle.work.specs.Work as Work
-use Rattle.work.specs.Shown as Shown
 use Rattle.acting.specs.Acting.{Going, Stepped}
+use Rattle.acting.specs.Running.{runs}
+use Rattle.acting.specs.Floor as Floor
 use Rattle.step.specs.Steps.{Floored, Occurring}
 use Rattle.step.proofs.Undone as Undone
 
@@ -47,11 +47,10 @@ module _ {bs map w : List ℕ} (v : Going bs map w) where
   s = v .running .is
 
   pub is-sized : Sized s
-  is-sized =
-      sound-sized m (v .running .fits) (v .running .nested) (v .running .few-rounds) s (v .running .sound)
+  is-sized = Floor.is-sized (runs (v .running))
 
   pub work-long : length w ≡ 10_696
-  work-long = ap length (v .running .shows) ∙ Shown.work-long s is-sized
+  work-long = Floor.run-long (runs (v .running))
 
   pub floor-word : getD w 3 0 ≡ floorWord (s .floor)
   floor-word = ap (λ l. getD l 3 0) (v .running .shows) ∙ floor-at s
@@ -103,8 +102,7 @@ module _ {bs map w : List ℕ} (v : Going bs map w) where
     later-held = first-out as-held (λ k. omega arith) (λ j. omega arith)
 
     pub later-sized : Sized later
-    later-sized =
-        held-sized m (v .running .fits) (v .running .nested) (v .running .few-rounds) later later-held (rw nobody-has tt)
+    later-sized = Floor.still-sized (runs (v .running)) later later-held (rw nobody-has tt)
 
     pub e-sized : EventSized e
     e-sized = (rw (due .events-are) at (is-sized .events-ok)) .0

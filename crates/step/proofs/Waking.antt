@@ -12,12 +12,10 @@ use Rattle.semantics.specs.Step.{moves, step}
 use Rattle.semantics.specs.Run.{Before, isClosed, goesOn, before}
 use Rattle.promises.specs.Safe.{Safe, step-safe}
 use Rattle.work.specs.Work.{workOf}
-use Rattle.work.specs.Sized.{sound-sized}
-use Rattle.work.specs.Shown.{work-long}
 use Rattle.work.specs.Head.{floor-set}
 use Rattle.acting.specs.Acting.{Open, Stepped}
 use Rattle.acting.specs.Running.{runs}
-use Rattle.alone.proofs.Running as Running
+use Rattle.acting.specs.Floor.{run-long, low}
 use Rattle.step.specs.Steps.{Floored, Waking}
 use Rattle.step.proofs.Undone as Undone
 
@@ -28,11 +26,6 @@ module _ {bs map w : List ℕ} {p : ℕ} (v : Waking bs map w p) where
 
   pub floor-taken : set w 3 (p + 1) ≡ workOf taken
   floor-taken = ap (λ x. set x 3 (p + 1)) (v .shows) ∙ floor-set (v .is) (held p)
-
-  pub work-is-long : length w ≡ 10_696
-  work-is-long =
-      sym (length-set w 3 (p + 1)) ∙ ap length floor-taken
-      ∙ work-long taken (sound-sized (v .model) (v .fits) (v .nested) (v .few-rounds) taken (v .sound))
 
   -- u is the work where it has it.
   abbrev pub floored : {u : List ℕ} → u ≡ set w 3 (p + 1) → Floored bs map u p
@@ -52,8 +45,11 @@ module _ {bs map w : List ℕ} {p : ℕ} (v : Waking bs map w p) where
         on-floor = refl;
       }
 
+  pub work-is-long : length w ≡ 10_696
+  work-is-long = sym (length-set w 3 (p + 1)) ∙ run-long (runs (floored refl .running))
+
   pub place-low : p < 64
-  place-low = Running.in-places (runs (floored refl .running)) p refl
+  place-low = low (runs (floored refl .running)) p refl
 
   -- It never faults with 0.
   moves-safe : Safe (moves (v .model) taken p)

@@ -6,17 +6,15 @@ use mathlib.Core.List.{List, map}
 use lib.ListN.{length}
 use borrow.Author.Tests.{leb-true}
 use Rattle.semantics.specs.Run as definition
-use Rattle.semantics.specs.Model.{Model}
 use Rattle.semantics.specs.State.{State}
 use Rattle.semantics.specs.Walk.{Line}
-use Rattle.semantics.specs.Run.{Room, run}
+use Rattle.semantics.specs.Run.{run}
 use Rattle.semantics.specs.Journal.{roomIn}
 use Rattle.semantics.specs.Plan.{told}
 use Rattle.promises.specs.Laws.{AllOf}
-use Rattle.promises.specs.Fit.{Fit}
 use Rattle.promises.specs.Sound.{Sound}
-use Rattle.promises.specs.Stays.{step-ok}
-use Rattle.promises.specs.Answers.{run-keeps, steps-within, lines-fit}
+use Rattle.promises.specs.Calls.{run-sound}
+use Rattle.promises.specs.Answers.{steps-within, lines-fit}
 use Rattle.promises.specs.Answers.{Why, was-closed, was-idle, at-limit, at-fault, no-room, run-why}
 use Rattle.promises.specs.Safe.{step-safe, safe-fault}
 use Rattle.acting.specs.Acting.{Open}
@@ -57,11 +55,6 @@ answered {d} h {x} {j = j} {j′} t {b = b} {out} {out′} e f =
           ∙ tells-written (d .lines) j h in
           rw (sym c) f;
     }
-
-pub run-sound : (m : Model) → Fit m → (n : ℕ) (r : Room) (s : State) → Sound m s → Sound m (run m n r s .state)
-run-sound m t =
-    run-keeps m (λ n r s y. Sound m s → Sound m (y .state)) (λ n r s a h. h)
-    (λ n r s x y b g l ih h. ih (step-ok m t s h x g))
 
 -- THE RUN IS STILL OPEN.
 module _ {bs map w : List ℕ} (v : Open bs map w) (limit : ℕ) (j : List ℕ) {r : Answered} {w′ j′ out out′ : List ℕ}

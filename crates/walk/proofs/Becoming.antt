@@ -18,32 +18,36 @@ use Rattle.work.specs.Work.{Doing, Done}
 use Rattle.process.specs.Process.{Shown, Lives, changed}
 use Rattle.process.specs.Put.{process-sized}
 use Rattle.lists.specs.Lists.{Any, Becomes, joinWaiting}
-use Rattle.grant.specs.Standing.{hand-lives}
+use Rattle.process.specs.Alive.{hand-lives}
 use Rattle.acting.specs.Acting.{Acting, Stepped}
+use Rattle.acting.specs.Running.{On, on}
+use Rattle.acting.specs.Onward.{m, s, q, is-sized, shown, still-sized, hand-is, in-hand, low, action-fits, after-it, passes}
+use Rattle.acting.specs.Onward.{after-sized, passing}
 use Rattle.walk.specs.Walking.{Walking, Walked}
 use Rattle.walk.proofs.Returning.{stepped}
-use Rattle.walk.proofs.Passing.{m, s, q, hand-is, one, is-sized, shown, place-low, action-fits, still-sized, passed}
-use Rattle.walk.proofs.Passing.{passed-held, passed-sized, passed-shown}
 
 module _ {bs row w : List ℕ} {i p : ℕ} (v : Acting bs row w p (BECOME i)) where
+  abbrev pub here : On w p (BECOME i)
+  here = on v
+
   pub number-fits : (n : ℕ) → ((d : Shown w (λ _. p < 64)) → n ≡ process (d .is) p .number) → n < 4_294_967_296
-  number-fits n told = omega (arith, told (shown v (place-low v)), process-sized (s v) p (is-sized v) .number-low)
+  number-fits n told = omega (arith, told (shown here (low here)), process-sized (s here) p (is-sized here) .number-low)
 
   pub sync-low : i < 32
-  sync-low = omega (arith, action-fits v, v .running .fits .few-syncs)
+  sync-low = omega (arith, action-fits here, v .running .fits .few-syncs)
 
   -- Off the floor,
   abbrev s₂ : State
-  s₂ = with-floor (passed v) empty
+  s₂ = with-floor (after-it here) empty
 
   module _ {x : List ℕ} (told₁ : Done w (Lives p) (changed p past) x) where
     pub leaving : Doing x Any (λ s. with-floor s empty)
     leaving =
         record {
-          is = passed v;
-          shows = passed-shown v told₁;
-          before = passed-sized v;
-          after = still-sized v s₂ (passed-held v) tt;
+          is = after-it here;
+          shows = told₁ (passing here);
+          before = after-sized here;
+          after = still-sized here s₂ (passes here) tt;
           given = tt;
         }
 
@@ -52,10 +56,10 @@ module _ {bs row w : List ℕ} {i p : ℕ} (v : Acting bs row w p (BECOME i)) wh
     s₃ = joinWaiting i p s₂
 
     waiting-there : i < length (s₂ .waiting)
-    waiting-there = omega (arith, action-fits v, v .running .sound .syncs-many)
+    waiting-there = omega (arith, action-fits here, v .running .sound .syncs-many)
 
-    joined-held : Held (m v) s₃ (s₃ .blocked) (λ k. 0) (λ j. 0)
-    joined-held = joins s₂ (passed-held v) p (λ k. let a = hand-is v k in omega arith) i waiting-there
+    joined-held : Held (m here) s₃ (s₃ .blocked) (λ k. 0) (λ j. 0)
+    joined-held = joins s₂ (passes here) p (λ k. let a = hand-is here k in omega arith) i waiting-there
 
     module _ {y : List ℕ} (told₂ : Done x Any (λ s. with-floor s empty) y) where
       pub joining : Doing y (Becomes i p) (joinWaiting i p)
@@ -64,9 +68,9 @@ module _ {bs row w : List ℕ} {i p : ℕ} (v : Acting bs row w p (BECOME i)) wh
           record {
             is = s₂;
             shows = told₂ leaving;
-            before = still-sized v s₂ (passed-held v) tt;
-            after = still-sized v s₃ joined-held tt;
-            given = record { lives = hand-lives {s = s₂} (passed-held v) p (one v); there = waiting-there };
+            before = still-sized here s₂ (passes here) tt;
+            after = still-sized here s₃ joined-held tt;
+            given = record { lives = hand-lives {s = s₂} (passes here) p (in-hand here); there = waiting-there };
           }
 
       module _ {u : List ℕ} (told₃ : Done y (Becomes i p) (joinWaiting i p) u) where
@@ -74,7 +78,7 @@ module _ {bs row w : List ℕ} {i p : ℕ} (v : Acting bs row w p (BECOME i)) wh
         unfolding joining
         joined-walking =
             record {
-              model = m v;
+              model = m here;
               fits = v .running .fits;
               nested = v .running .nested;
               few-rounds = v .running .few-rounds;
@@ -90,10 +94,10 @@ module _ {bs row w : List ℕ} {i p : ℕ} (v : Acting bs row w p (BECOME i)) wh
             → ((d : Shown w (λ _. p < 64)) → n ≡ process (d .is) p .number)
             → ((d : Shown w Any) → out′ ≡ wroteAt at (line (d .is) n No.waitingAsSlave (pos i) ∷ []) out)
             → ((d : Walking bs row u) → Walked (walk (d .model) (d .is)) r w′ (at + 1) out′ out″)
-            → Stepped (become (m v) (s v) p (q v) i) 0 (r + 1) w w′ at out out″
+            → Stepped (become (m here) (s here) p (q here) i) 0 (r + 1) w w′ at out out″
         unfolding become joined-walking
         became at out numbered wrote walked =
-            stepped (line (s v) (q v .number) No.waitingAsSlave (pos i)) (walk (m v) s₃) at w out
-            (wrote (shown v tt)
-            ∙ ap (λ j. wroteAt at (line (s v) j No.waitingAsSlave (pos i) ∷ []) out) (numbered (shown v (place-low v))))
+            stepped (line (s here) (q here .number) No.waitingAsSlave (pos i)) (walk (m here) s₃) at w out
+            (wrote (shown here tt)
+            ∙ ap (λ j. wroteAt at (line (s here) j No.waitingAsSlave (pos i) ∷ []) out) (numbered (shown here (low here))))
             (walked joined-walking)

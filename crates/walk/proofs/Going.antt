@@ -20,9 +20,10 @@ use Rattle.line.specs.Lines.{removed}
 use Rattle.work.specs.Work.{workOf, FloorSized, Sized, Doing, Done}
 use Rattle.work.specs.Sized.{held-sized}
 use Rattle.process.specs.Process.{Shown, Lives}
+use Rattle.process.specs.Alive.{hand-lives}
 use Rattle.lists.specs.Lists.{IsBlocked, unblocked}
 use Rattle.grant.specs.Grant.{Granting}
-use Rattle.grant.specs.Standing.{Standing, asks-are, placeAt, blocked-standing, hand-lives}
+use Rattle.grant.specs.Standing.{Standing, asks-are, placeAt, blocked-standing}
 use Rattle.walk.specs.Walking.{Walking, Visiting, chooses, went, Going}
 use Rattle.walk.specs.Visits.{nowhere, place-at, choice-same}
 

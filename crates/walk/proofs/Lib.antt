@@ -3,6 +3,5 @@ pub mod Going
 pub mod Visiting
 pub mod Turns
 pub mod Returning
-pub mod Passing
 pub mod Becoming
 pub mod Setting

@@ -1,8 +1,8 @@
 -- `alone::close` meets its contract: the line comes first, then the changes. Assumes nothing.
 use borrow.Author.Needs.{needs}
 use native.Mathlib.Omega.{arith}
-use Rattle.alone.proofs.Running.{shown}
-use Rattle.alone.proofs.Between.{low, passing, closing}
+use Rattle.acting.specs.Onward.{shown, low, passing}
+use Rattle.alone.proofs.Between.{closing}
 use Rattle.alone.proofs.Steps.{closed}
 use Rattle.alone.proofs.close.Statement.{statement}
 use Rattle.alone.proofs.close.Tie as tie
@@ -11,7 +11,7 @@ note-requires : tie.Need-note-requires
 note-requires c κs =
     let start = c .before .before .before .before in
     let v = start .pre .0 in
-    (shown (v .running) (low v), (omega (arith, start .pre .1), omega arith))
+    (shown v (low v), (omega (arith, start .pre .1), omega arith))
 
 past-requires : tie.Need-past-requires
 past-requires c κs = passing (c .before .before .before .before .before .before .before .before .pre .0)
@@ -35,7 +35,7 @@ returns c = λ v.
     let at-past = at-set-closed .before .before .before .before in
     let at-note = at-past .before .before .before .before in
     let d = closing v (at-past .past .ensures (passing v)) in
-    closed v (at-set-closed .set-closed .ensures d) _ _ (at-note .note .ensures (shown (v .running) (low v)))
+    closed v (at-set-closed .set-closed .ensures d) _ _ (at-note .note .ensures (shown v (low v)))
 
 pub close-spec : {M : Type 1} → statement M
 close-spec =

@@ -1,6 +1,7 @@
 -- `alone::do_times` meets its contract: a block of no rounds is passed, another entered. Assumes nothing.
 use borrow.Author.Needs.{needs}
-use Rattle.alone.proofs.Between.{passing, entering}
+use Rattle.acting.specs.Onward.{passing}
+use Rattle.alone.proofs.Between.{entering}
 use Rattle.alone.proofs.Steps.{done-none, done-some}
 use Rattle.alone.proofs.do_times.Statement.{statement}
 use Rattle.alone.proofs.do_times.Tie as tie

@@ -2,9 +2,9 @@
 use borrow.Author.Needs.{needs}
 use native.Mathlib.Omega.{arith}
 use borrow.Author.Tests.{not-true, not-false}
-use Rattle.alone.proofs.Running.{shown}
+use Rattle.acting.specs.Onward.{shown, passing}
 use Rattle.alone.proofs.Values.{to-value}
-use Rattle.alone.proofs.Between.{passing, leaving, waking}
+use Rattle.alone.proofs.Between.{leaving, waking}
 use Rattle.alone.proofs.Steps.{hold-faults, hold-is-back, hold-is-late, held}
 use Rattle.alone.proofs.hold.Statement.{statement}
 use Rattle.alone.proofs.hold.Tie as tie
@@ -33,7 +33,7 @@ returns-2 c = λ v.
 
 clock-of-requires : tie.Need-clock-of-requires
 clock-of-requires c κs =
-    shown (c .before .before .before .before .before .before .before .before .before .pre .on .running) tt
+    shown (c .before .before .before .before .before .before .before .before .before .pre .on) tt
 
 cast-time : tie.Need-cast-time
 cast-time c = search needs
@@ -51,7 +51,7 @@ returns-3 c = λ v.
     let else1 = else2 .before .before in
     let at-value-in = else1 .before .before in
     let r = at-value-in .value-in in
-    let e = at-clock-of .clock-of .ensures .0 (shown (v .on .running) tt) in
+    let e = at-clock-of .clock-of .ensures .0 (shown (v .on) tt) in
     hold-is-late v (r .result) (r .ensures (to-value v (λ f. f))) (not-false _ (else1 .if1 .left)) (else2 .if2 .left) _
     (omega (arith, e)) (c .if3 .taken)
 
@@ -76,7 +76,7 @@ wake-requires c κs =
     let at-clock-of = else3 .before .before in
     let start = at-clock-of .before .before .before .before .before .before .before .before .before .before in
     let v = start .pre .on in
-    let e = at-clock-of .clock-of .ensures .0 (shown (v .running) tt) in
+    let e = at-clock-of .clock-of .ensures .0 (shown v tt) in
     waking v (at-leave-floor .leave-floor .ensures (leaving v (at-past .past .ensures (passing v)))) _
     (omega (arith, e)) (else3 .if3 .left)
 
@@ -94,7 +94,7 @@ returns-4 c = λ v.
     let else1 = else2 .before .before in
     let at-value-in = else1 .before .before in
     let r = at-value-in .value-in in
-    let e = at-clock-of .clock-of .ensures .0 (shown (v .on .running) tt) in
+    let e = at-clock-of .clock-of .ensures .0 (shown (v .on) tt) in
     let f = at-leave-floor .leave-floor .ensures (leaving (v .on) (at-past .past .ensures (passing (v .on)))) in
     held v (r .result) (r .ensures (to-value v (λ f. f))) (not-false _ (else1 .if1 .left)) (else2 .if2 .left) _
     (omega (arith, e)) (else3 .if3 .left)

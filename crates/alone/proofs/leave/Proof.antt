@@ -1,8 +1,8 @@
 -- `alone::leave` meets its contract: out of the block, and past the action that named it, but a WHILE. Assumes nothing.
 use borrow.Author.Needs.{needs}
 use mathlib.Core.Path.{_∙_}
+use Rattle.acting.specs.Onward.{passing}
 use Rattle.acting.specs.Running.{on}
-use Rattle.alone.proofs.Between.{passing}
 use Rattle.alone.proofs.Leaving.{going-out, gone-out, backing, left-there, left-behind}
 use Rattle.alone.proofs.leave.Statement.{statement}
 use Rattle.alone.proofs.leave.Tie as tie

@@ -4,8 +4,9 @@ use native.Mathlib.Omega.{arith}
 use mathlib.Core.Path.{_∙_}
 use Prim.Native.Nat.{_<_}
 use borrow.Author.Tests.{not-true, not-false}
+use Rattle.acting.specs.Onward.{passing}
 use Rattle.alone.proofs.Values.{to-value}
-use Rattle.alone.proofs.Between.{passing, raising, raised-is}
+use Rattle.alone.proofs.Between.{raising, raised-is}
 use Rattle.alone.proofs.Steps.{prio-faults, prioritized}
 use Rattle.alone.proofs.prio.Statement.{statement}
 use Rattle.alone.proofs.prio.Tie as tie

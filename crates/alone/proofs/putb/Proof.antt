@@ -1,23 +1,23 @@
 -- `alone::putb` meets its contract: the return enters where fewer than 64 wait. Assumes nothing.
 use borrow.Author.Needs.{needs}
-use Rattle.alone.proofs.Running.{shown}
-use Rattle.alone.proofs.Between.{low, passing, binning}
+use Rattle.acting.specs.Onward.{shown, low, passing}
+use Rattle.alone.proofs.Between.{binning}
 use Rattle.alone.proofs.Steps.{putb-faults, put-to-bin}
 use Rattle.alone.proofs.putb.Statement.{statement}
 use Rattle.alone.proofs.putb.Tie as tie
 
 returns-requires : tie.Need-returns-requires
-returns-requires c κs = shown (c .before .before .pre .running) tt
+returns-requires c κs = shown (c .before .before .pre) tt
 
 same-length : tie.Need-same-length
 same-length c = search needs
 
 returns : tie.Need-returns
-returns c = λ v. putb-faults v _ _ _ (c .before .returns .ensures (shown (v .running) tt)) (c .if1 .taken)
+returns c = λ v. putb-faults v _ _ _ (c .before .returns .ensures (shown v tt)) (c .if1 .taken)
 
 number-of-requires : tie.Need-number-of-requires
 number-of-requires c κs = let v = c .before .before .before .before .before .pre in
-    shown (v .running) (low v)
+    shown v (low v)
 
 past-requires : tie.Need-past-requires
 past-requires c κs = passing (c .before .before .before .before .before .before .before .pre)
@@ -30,8 +30,8 @@ return-bin-requires c κs =
     let at-returns = else1 .before in
     let start = at-returns .before .before .before in
     let v = start .pre in
-    binning v (at-returns .returns .ensures (shown (v .running) tt)) (else1 .if1 .left)
-    (at-number-of .number-of .ensures (shown (v .running) (low v))) (at-past .past .ensures (passing v))
+    binning v (at-returns .returns .ensures (shown v tt)) (else1 .if1 .left)
+    (at-number-of .number-of .ensures (shown v (low v))) (at-past .past .ensures (passing v))
 
 same-length-2 : tie.Need-same-length-2
 same-length-2 c = search needs
@@ -43,8 +43,8 @@ returns-2 c = λ v.
     let at-number-of = at-past .before .before in
     let else1 = at-number-of .before .before in
     let at-returns = else1 .before in
-    let k = at-returns .returns .ensures (shown (v .running) tt) in
-    let g = at-number-of .number-of .ensures (shown (v .running) (low v)) in
+    let k = at-returns .returns .ensures (shown v tt) in
+    let g = at-number-of .number-of .ensures (shown v (low v)) in
     let d = binning v k (else1 .if1 .left) g (at-past .past .ensures (passing v)) in
     put-to-bin v _ _ _ k (else1 .if1 .left) g (at-return-bin .return-bin .ensures d)
 

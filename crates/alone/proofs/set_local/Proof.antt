@@ -2,8 +2,9 @@
 use borrow.Author.Needs.{needs}
 use mathlib.Core.Path.{_∙_}
 use borrow.Author.Tests.{not-true, not-false}
+use Rattle.acting.specs.Onward.{passing}
 use Rattle.alone.proofs.Values.{to-value}
-use Rattle.alone.proofs.Between.{passing, storing, stored-is}
+use Rattle.alone.proofs.Between.{storing, stored-is}
 use Rattle.alone.proofs.Steps.{local-faults, local-set}
 use Rattle.alone.proofs.set_local.Statement.{statement}
 use Rattle.alone.proofs.set_local.Tie as tie

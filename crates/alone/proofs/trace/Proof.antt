@@ -2,9 +2,8 @@
 use borrow.Author.Needs.{needs}
 use native.Mathlib.Omega.{arith}
 use borrow.Author.Tests.{not-true, not-false}
-use Rattle.alone.proofs.Running.{shown}
+use Rattle.acting.specs.Onward.{shown, low, passing}
 use Rattle.alone.proofs.Values.{to-value}
-use Rattle.alone.proofs.Between.{low, passing}
 use Rattle.alone.proofs.Steps.{trace-faults, traced}
 use Rattle.alone.proofs.trace.Statement.{statement}
 use Rattle.alone.proofs.trace.Tie as tie
@@ -25,7 +24,7 @@ note-requires : tie.Need-note-requires
 note-requires c κs =
     let start = c .before .before .before .before .before .before .before .before .before in
     let v = start .pre .0 .on in
-    (shown (v .running) (low v), (omega (arith, start .pre .1), omega arith))
+    (shown v (low v), (omega (arith, start .pre .1), omega arith))
 
 past-requires : tie.Need-past-requires
 past-requires c κs =
@@ -46,7 +45,7 @@ returns-2 c = λ v.
     let at-value-in = else1 .before .before in
     let r = at-value-in .value-in in
     traced v (r .result) (r .ensures (to-value v (λ f. f))) (not-false _ (else1 .if1 .left))
-    (at-past .past .ensures (passing (v .on))) _ _ (at-note .note .ensures (shown (v .on .running) (low (v .on))))
+    (at-past .past .ensures (passing (v .on))) _ _ (at-note .note .ensures (shown (v .on) (low (v .on))))
 
 pub trace-spec : {M : Type 1} → statement M
 trace-spec =

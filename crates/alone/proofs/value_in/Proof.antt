@@ -1,7 +1,7 @@
 -- `alone::value_in` meets its contract: the parts lent to `evaluate` show the variables and the locals. Assumes nothing.
 use borrow.Author.Needs.{needs}
 use native.Mathlib.Omega.{arith}
-use Rattle.alone.proofs.Running.{run-long, shown}
+use Rattle.acting.specs.Floor.{run-long, shown}
 use Rattle.alone.proofs.Values.{readable, valued}
 use Rattle.alone.proofs.value_in.Statement.{statement}
 use Rattle.alone.proofs.value_in.Tie as tie

@@ -1,5 +1,6 @@
 -- `asks::pass_or_enter` meets its contract: whoever takes no branch goes past. Assumes nothing.
-use Rattle.asks.proofs.Floor.{passing}
+use Rattle.acting.specs.Onward.{passing-as}
+use Rattle.asks.proofs.Floor.{here}
 use Rattle.asks.proofs.Branches.{by-loop}
 use Rattle.asks.proofs.Steps.{while-taken, still-shows, while-passed}
 use borrow.Author.Needs.{needs}
@@ -23,7 +24,7 @@ past-requires : tie.Need-past-requires
 past-requires c κs = let l = c .before in
     let t = l .before .before .before .before .before in
     let v = t .before .before .before .before .before .before .before .pre .0 in
-    passing (v .asked) (still-shows (v .asked) (t .take-branch .ensures (by-loop v)) (l .if1 .left))
+    passing-as (here (v .asked)) (still-shows (v .asked) (t .take-branch .ensures (by-loop v)) (l .if1 .left))
 
 same-length-3 : tie.Need-same-length-3
 same-length-3 c = search needs
@@ -36,7 +37,7 @@ returns-2 c = let l = c .before .before .before .before in
     λ v.
     let b = l .before .before .before .before .before .take-branch .ensures (by-loop v) in
     let e = still-shows (v .asked) b (l .if1 .left) in
-    while-passed (v .asked) b (l .if1 .left) (c .before .before .past .ensures (passing (v .asked) e))
+    while-passed (v .asked) b (l .if1 .left) (c .before .before .past .ensures (passing-as (here (v .asked)) e))
 
 pub pass-or-enter-spec : {M : Type 1} → statement M
 pass-or-enter-spec =

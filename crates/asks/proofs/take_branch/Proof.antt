@@ -1,13 +1,14 @@
 -- `asks::take_branch` meets its contract: the branch that those in front leave it is granted. Assumes nothing.
 use native.Mathlib.Omega.{arith}
-use Rattle.asks.proofs.Floor.{shows, shown, listed}
+use Rattle.asks.proofs.Floor.{shown}
 use Rattle.asks.proofs.Branches.{few, map-long, many-are, facing, few-branches, none-taken, one-taken, granting}
 use borrow.Author.Needs.{needs}
 use Rattle.asks.proofs.take_branch.Statement.{statement}
 use Rattle.asks.proofs.take_branch.Tie as tie
 
 place-in-front-requires : tie.Need-place-in-front-requires
-place-in-front-requires c κs = let v = c .before .before .before .before .before .pre .0 .asked in listed v (shows v)
+place-in-front-requires c κs = let v = c .before .before .before .before .before .pre .0 .asked in
+    shown v (v .acting .running .shows)
 
 choice-requires : tie.Need-choice-requires
 choice-requires c κs = let v = c .before .before .before .before .before .before .before .pre .0 .asked in
@@ -56,7 +57,7 @@ note-requires : tie.Need-note-requires
 note-requires c κs = let t = c .before .before .before in
     let v = t .before .before .before .before .before .before .before .before .before .before .pre .0 .asked in
     let room = t .before .before .before .before .before .before .before .before .before .before .pre .1 in
-    (shown v (shows v), (omega (arith, room), omega arith))
+    (shown v (v .acting .running .shows), (omega (arith, room), omega arith))
 
 add-grant : tie.Need-add-grant
 add-grant c = search needs
@@ -83,7 +84,7 @@ returns-2 c = let l = c .before .before .before .before .before .before .before 
     _ _ (t .before .number-at .ensures) (t .number-at2 .ensures) (l .if1 .left) _ (v .enters-all) in
     one-taken (v .asked) _ (t .before .before .before .before .place-in-front .ensures) _ (t .before .before .choice .ensures)
     _ _ (t .before .number-at .ensures) (t .number-at2 .ensures) (l .if1 .left) (c .before .before .grant .ensures g) _ _
-    (c .before .before .before .before .before .before .note .ensures (shown (v .asked) (shows (v .asked))))
+    (c .before .before .before .before .before .before .note .ensures (shown (v .asked) (v .asked .acting .running .shows)))
 
 pub take-branch-spec : {M : Type 1} → statement M
 take-branch-spec =

@@ -1,20 +1,20 @@
 -- `hands::puts` meets its contract. Assumes nothing.
 use native.Mathlib.Omega.{arith}
 use mathlib.Core.Path.{refl}
-use Rattle.hands.proofs.Running.{shown, in-places}
+use Rattle.acting.specs.Onward.{shown, low}
 use Rattle.hands.proofs.Putting.{are-missing, releasing, passing, freeing, are-freed, few}
 use borrow.Author.Needs.{needs}
 use Rattle.hands.proofs.puts.Statement.{statement}
 use Rattle.hands.proofs.puts.Tie as tie
 
 owned-requires : tie.Need-owned-requires
-owned-requires c κs = let v = c .before .before .before .pre .0 in shown v (in-places v)
+owned-requires c κs = let v = c .before .before .before .pre .0 in shown v (low v)
 
 same-length : tie.Need-same-length
 same-length c = search needs
 
 returns : tie.Need-returns
-returns c = λ v. are-missing v (c .before .owned .ensures (shown v (in-places v))) (c .if1 .taken) _ _
+returns c = λ v. are-missing v (c .before .owned .ensures (shown v (low v))) (c .if1 .taken) _ _
 
 slice-aggregate-release : tie.Need-slice-aggregate-release
 slice-aggregate-release c = search needs
@@ -25,7 +25,7 @@ release-requires c κs =
     let at-owned = at-if1 .before in
     let start = at-owned .before .before .before .before in
     let v = start .pre .0 in (
-      releasing v (at-owned .owned .ensures (shown v (in-places v))) (at-if1 .if1 .left),
+      releasing v (at-owned .owned .ensures (shown v (low v))) (at-if1 .if1 .left),
       omega arith,
     )
 
@@ -35,7 +35,7 @@ past-requires c κs =
     let at-if1 = at-release .before .before .before in
     let at-owned = at-if1 .before in
     let start = at-owned .before .before .before .before in
-    let v = start .pre .0 in passing v (at-owned .owned .ensures (shown v (in-places v))) (at-if1 .if1 .left)
+    let v = start .pre .0 in passing v (at-owned .owned .ensures (shown v (low v))) (at-if1 .if1 .left)
     (at-release .release .ensures .0)
 
 slice-aggregate-free-all : tie.Need-slice-aggregate-free-all
@@ -48,7 +48,7 @@ free-all-requires c κs =
     let at-if1 = at-release .before .before .before in
     let at-owned = at-if1 .before in
     let start = at-owned .before .before .before .before in
-    let v = start .pre .0 in let k = at-owned .owned .ensures (shown v (in-places v)) in let r = at-release .release .ensures
+    let v = start .pre .0 in let k = at-owned .owned .ensures (shown v (low v)) in let r = at-release .release .ensures
     in (
       freeing v k (at-if1 .if1 .left) _ (r .0) (at-past .past .ensures) refl (r .1),
       omega (
@@ -71,7 +71,7 @@ returns-2 c =
     let at-release = at-past .before .before .before .before .before in
     let at-if1 = at-release .before .before .before in
     let at-owned = at-if1 .before in
-    λ v. let k = at-owned .owned .ensures (shown v (in-places v)) in let r = at-release .release .ensures in are-freed
+    λ v. let k = at-owned .owned .ensures (shown v (low v)) in let r = at-release .release .ensures in are-freed
     v k (at-if1 .if1 .left) _ (r .0) (at-past .past .ensures) refl (r .1) _ _ (at-free-all .free-all .ensures)
 
 pub puts-spec : {M : Type 1} → statement M

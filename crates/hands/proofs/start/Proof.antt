@@ -1,7 +1,7 @@
 -- `hands::start` meets its contract. Assumes nothing.
 use native.Mathlib.Omega.{arith}
 use borrow.Author.Tests.{not-true, not-false}
-use Rattle.hands.proofs.Running.{shown}
+use Rattle.acting.specs.Onward.{shown}
 use Rattle.hands.proofs.Starting.{o, class-low, offering, is-late, is-short, is-full, ready, block-is, giving, passing}
 use Rattle.hands.proofs.Starting.{passed, beginning, has-begun, placed, taking, has-started}
 use borrow.Author.Needs.{needs}

@@ -6,7 +6,7 @@ use lib.ListN.{length, length-replicate}
 use lib.Seq.{length-take-le}
 use Rattle.acting.specs.Acting.{Open}
 use Rattle.acting.specs.Running.{runs}
-use Rattle.alone.proofs.Running.{run-long}
+use Rattle.acting.specs.Floor.{run-long}
 use Rattle.turn.proofs.Turned.{still-open, few-steps, all-steps}
 use Rattle.plan.proofs.Opening.{reads, loaded, opened, leftOf, falls}
 use borrow.Author.Needs.{needs}

@@ -1,25 +1,26 @@
 -- `walk::become_slave` meets its contract. Assumes nothing.
 use native.Mathlib.Omega.{arith}
 use Rattle.walk.proofs.Returning.{noted-long}
-use Rattle.walk.proofs.Passing.{shown, place-low, passing}
-use Rattle.walk.proofs.Becoming.{number-fits, sync-low, leaving, joining}
+use Rattle.acting.specs.Onward.{shown, low, passing}
+use Rattle.walk.proofs.Becoming.{here, number-fits, sync-low, leaving, joining}
 use Rattle.walk.proofs.Becoming.{joined-walking, became}
 use borrow.Author.Needs.{needs}
 use Rattle.walk.proofs.become_slave.Statement.{statement}
 use Rattle.walk.proofs.become_slave.Tie as tie
 
 number-of-requires : tie.Need-number-of-requires
-number-of-requires c κs = let v = c .before .before .before .before .before .pre .0 in shown v (place-low v)
+number-of-requires c κs = let v = c .before .before .before .before .before .pre .0 in shown (here v) (low (here v))
 
 note-requires : tie.Need-note-requires
 note-requires c κs = let v = c .before .before .before .before .before .before .before .before .pre .0 in (
-  (shown v tt, (omega (arith, c .before .before .before .before .before .before .before .before .pre .1), omega arith)),
+  (shown (here v) tt, (omega (arith, c .before .before .before .before .before .before .before .before .pre .1), omega arith)),
   (number-fits v _ (c .before .before .number-of .ensures), omega (arith, sync-low v)),
 )
 
 past-requires : tie.Need-past-requires
 past-requires c κs =
-    passing (c .before .before .before .before .before .before .before .before .before .before .before .before .pre .0)
+    passing
+    (here (c .before .before .before .before .before .before .before .before .before .before .before .before .pre .0))
 
 leave-floor-requires : tie.Need-leave-floor-requires
 leave-floor-requires c κs =
@@ -49,7 +50,7 @@ walk-requires c κs =
             .before .before .before .before .before .before .before .before .before .before .before .before .pre .1,
         noted-long _ _
             _ _ (c .before .before .before .before .before .before .before .before .before .before .before .before .before .before
-            .before .before .note .ensures (shown v tt)),
+            .before .before .note .ensures (shown (here v) tt)),
       ),
     )
 

@@ -1,8 +1,8 @@
 -- `walk::set_global` meets its contract. Assumes nothing.
 use native.Mathlib.Omega.{arith}
 use borrow.Author.Tests.{not-true, not-false}
-use Rattle.walk.proofs.Passing.{passing, passed-long}
-use Rattle.walk.proofs.Setting.{valued, global-low, no-value, placed-walking, value-set}
+use Rattle.acting.specs.Onward.{passing}
+use Rattle.walk.proofs.Setting.{here, valued, passed-long, global-low, no-value, placed-walking, value-set}
 use borrow.Author.Needs.{needs}
 use Rattle.walk.proofs.set_global.Statement.{statement}
 use Rattle.walk.proofs.set_global.Tie as tie
@@ -20,7 +20,7 @@ returns c =
 
 past-requires : tie.Need-past-requires
 past-requires c κs =
-    passing (c .before .before .before .before .before .before .before .before .before .before .pre .0 .acting)
+    passing (here (c .before .before .before .before .before .before .before .before .before .before .pre .0))
 
 add-set-at : tie.Need-add-set-at
 add-set-at c =
@@ -38,7 +38,7 @@ set-at-requires : tie.Need-set-at-requires
 set-at-requires c κs =
     let v = c .before .before .before .before .before .before .before .before .before .before .before .before .before
     .before .before .pre .0 in omega
-    (arith, global-low v, passed-long (v .acting) (c .before .before .before .before .past .ensures))
+    (arith, global-low v, passed-long v (c .before .before .before .before .past .ensures))
 
 walk-requires : tie.Need-walk-requires
 walk-requires c κs = (
