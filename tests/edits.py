@@ -1,7 +1,14 @@
-"""The must-fail edits, by crate and public function: docs/EDITS.md.
+"""The must-fail edits: each is a wrong answer that a contract rules out, or a wrong rule in a definition.
 
-    python3 -B tests/edits.py write     writes it
-    python3 -B tests/edits.py           fails if it isn't up to date, or a public function has fewer than two edits
+    python3 -B tests/edits.py           fails if docs/EDITS.md isn't up to date, a public function has fewer than two edits, or
+                                        an edit was not refused for itself when the gate tried it (target/must-fail)
+    python3 -B tests/edits.py write     writes docs/EDITS.md
+
+A file crates/NAME/must-fail/*.edit has an edit to a paragraph: its name and what would be wrong, then `file:` and pairs `old:`,
+`new:`. The gate makes all edits of a file in one copy of the crate and checks that once, which is refused if one of them is; so
+the check's log is read here. Edits of one file are in functions of which none comes to another, and each function's own proof
+must be refused at a fact, and not only because something else was, or because a name was missing. An edit of a contract or a
+definition has a file to itself.
 
 An edit of a function or a constant that isn't public is one of every public function that comes to it inside its crate.
 """
@@ -11,12 +18,48 @@ import sys
 
 ROOT = pathlib.Path(__file__).resolve().parent.parent
 PAPER = ROOT / 'docs' / 'EDITS.md'
+TRIED = ROOT / 'target' / 'must-fail'
+SOURCE = 'src/lib.rt'
 HEAD = '''# Must-fail edits
 
-One wrong answer each. The gate applies each edit to a copy of its crate, and passes only if the check then refuses. Every
-public function has two or more. `python3 -B tests/edits.py write` writes this page from `crates/*/must-fail`.
+One wrong answer each. The gate applies the edits of a file to a copy of its crate, and passes only if the check then refuses the
+proof of each function that was edited, at a fact. Every public function has two or more. `python3 -B tests/edits.py write` writes
+this page from `crates/*/must-fail`; its head says how the edits of one file are kept apart.
 '''
-ITEM = re.compile(r'^(pub )?(?:extern "C" )?(?:fn|const) (\w+)', re.M)
+ITEM = re.compile(r'^(pub )?(?:extern "C" )?(fn|const) (\w+)', re.M)
+# What antt says of a fact or a term, and where; and what it says where only something else was refused, or a name is missing.
+SAID = re.compile(r'^(?:note: )?(\S+?):(\d+):\d+: (?:error: |it is not proved )(.*)$', re.M)
+BESIDE = re.compile(r'was not admitted|is not in scope')
+
+
+class Edit:
+    """A paragraph: a name, what would be wrong, the file that is changed, and the texts in turn, old and new."""
+
+    def __init__(self, path, text):
+        first, *lines = text.split('\n')
+        self.crate, self.tried = path.parent.parent.name, path.stem
+        self.name, _, self.says = first.partition(': ')
+        self.file = lines[0].partition('file: ')[2]
+        self.pairs = [line[5:] for line in lines if line[:4] in ('old:', 'new:')]
+        if not re.fullmatch(r'\w+', self.name) or not self.file or not self.pairs or len(self.pairs) % 2:
+            sys.exit(f'{path}: not an edit: {first}')
+
+    def made(self, text):
+        for old, new in zip(self.pairs[::2], self.pairs[1::2]):
+            if text.count(old) != 1:
+                sys.exit(f'{self.crate}/{self.name}: {text.count(old)} times in {self.file}: {old}')
+            text = text.replace(old, new)
+        return text
+
+
+def edits_of(crate):
+    for path in sorted((ROOT / 'crates' / crate / 'must-fail').glob('*.edit')):
+        for text in path.read_text().strip('\n').split('\n\n'):
+            yield Edit(path, text)
+
+
+def crates():
+    return [line.split(':')[0] for line in (ROOT / 'crates.txt').read_text().splitlines()]
 
 
 def uses(body, name):
@@ -24,36 +67,46 @@ def uses(body, name):
     return re.search(r'(?<![:.\w])%s%s' % (name, r'\b' if name.isupper() else r'\('), body)
 
 
-def listed(names):
-    told = [f'`{name}`' for name in names[:2]] + ([f'{len(names) - 2} more'] if len(names) > 2 else [])
-    return ', '.join(told) or 'definitions'
-
-
-class Edit:
-    """What would be wrong, and the file and the text that are changed."""
-
-    def __init__(self, path):
-        text = path.read_text()
-        self.name = path.stem
-        self.says = text.split('\n', 1)[0]
-        self.file = re.search(r'^file: (.*)$', text, re.M)[1]
-        self.old = re.search(r'^old: ?(.*)$', text, re.M)[1]
-
-
 class Source:
     """The functions and constants of a crate's source, and which of them come to which."""
 
-    def __init__(self, text):
-        self.text = text
-        self.items = [(m.start(), m[2]) for m in ITEM.finditer(text)]
-        self.public = {m[2] for m in ITEM.finditer(text) if m[1]}
-        ends = [start for start, _ in self.items[1:]] + [len(text)]
-        bodies = {name: re.sub(r'//.*', '', text[start:end]) for (start, name), end in zip(self.items, ends)}
-        self.names = {name: {other for other in bodies if other != name and uses(body, other)} for name, body in bodies.items()}
+    def __init__(self, crate):
+        file = ROOT / 'crates' / crate / SOURCE
+        self.text = file.read_text() if file.exists() else ''
+        found = list(ITEM.finditer(self.text))
+        self.items = [(m.start(), m[3]) for m in found]
+        self.public = {m[3] for m in found if m[1]}
+        self.constants = {m[3] for m in found if m[2] == 'const'}
+        ends = [start for start, _ in self.items[1:]] + [len(self.text)]
+        self.bodies = {name: self.text[start:end] for (start, name), end in zip(self.items, ends)}
+        self.names = {name: {other for other in self.bodies if other != name and uses(re.sub(r'//.*', '', body), other)}
+                      for name, body in self.bodies.items()}
+
+    def item_at(self, at):
+        return [name for start, name in self.items if start <= at][-1]
+
+    def item_on(self, line):
+        return self.item_at(len(''.join(self.text.splitlines(True)[:line])) - 1)
 
     def item_of(self, old):
-        at = self.text.index(old)
-        return [name for start, name in self.items if start <= at][-1]
+        return self.item_at(self.text.index(old))
+
+    def in_code(self, edit):
+        """Whether all that it changes is code, and no contract."""
+        bodies = [(self.bodies[self.item_of(old)], old) for old in edit.pairs[::2]]
+        return all(old in body[body.find('\n{'):] or '\n{' not in body for body, old in bodies)
+
+    def shown_in(self, edit):
+        """The functions whose own proofs an edit of code must break: those that it changes, or that name what it changes."""
+        items = {self.item_of(old) for old in edit.pairs[::2]}
+        return items - self.constants | {name for name in self.bodies if self.names[name] & items & self.constants}
+
+    def come_to(self, name):
+        met, rest = set(), {name}
+        while rest:
+            met |= rest
+            rest = set().union(*(self.names[other] for other in rest)) - met
+        return met
 
     def public_over(self, name):
         """The public functions that come to an item, itself among them."""
@@ -65,39 +118,95 @@ class Source:
         return [other for _, other in self.items if other in over & self.public]
 
 
+class Log:
+    """What the gate's check said of a copy with the edits of a file: the functions where a fact or a term was refused."""
+
+    def __init__(self, crate, tried, source):
+        self.folder = TRIED / crate / tried
+        file = self.folder / '.log'
+        if not file.exists():
+            sys.exit(f'{file.relative_to(ROOT)} is not there: the gate writes it, bash .ci/run')
+        self.refused = set()
+        for place, line, said in SAID.findall(file.read_text()):
+            if not BESIDE.search(said):
+                self.refused |= self.functions(place, int(line), source)
+
+    def functions(self, place, line, source):
+        file = place.removeprefix(str(self.folder) + '/')
+        if file == SOURCE:
+            return {source.item_on(line)}
+        return set(file.split('/')[1].split('+')) if file.endswith('/Proof.antt') else {''}
+
+
+def together(source, edits):
+    """Faults of the edits of one file: those that could hide behind one another."""
+    if len(edits) == 1:
+        return []
+    wrong = [f'{edit.name}: not of code alone' for edit in edits if edit.file != SOURCE or not source.in_code(edit)]
+    for i, edit in enumerate(edits if not wrong else []):
+        for other in edits[i + 1:]:
+            pairs = [(f, g) for f in source.shown_in(edit) for g in source.shown_in(other)]
+            if any(f in source.come_to(g) or g in source.come_to(f) for f, g in pairs):
+                wrong.append(f'{edit.name} and {other.name}: one function comes to the other')
+    return wrong
+
+
+def refused(source, edits):
+    """Faults of the edits of one file as they were tried: those that were not refused for themselves."""
+    log = Log(edits[0].crate, edits[0].tried, source)
+    if len(edits) == 1 and (edits[0].file != SOURCE or not source.in_code(edits[0])):
+        return [] if log.refused else [f'{edits[0].name}: refused at no fact']
+    return [f'{edit.name}: not refused in its own proof' for edit in edits if not log.refused & source.shown_in(edit)]
+
+
 def rows():
-    """Crate by crate: the edits, each with its public functions, and the functions that have fewer than two."""
-    for line in (ROOT / 'crates.txt').read_text().splitlines():
-        crate = ROOT / 'crates' / line.split(':')[0]
-        edits = [Edit(path) for path in sorted((crate / 'must-fail').glob('*.edit'))]
-        file = crate / 'src' / 'lib.rt'
-        source = Source(file.read_text() if file.exists() else '')
-        told = [(edit, source.public_over(source.item_of(edit.old)) if edit.file == 'src/lib.rt' else []) for edit in edits]
-        beside = sum(1 for _, over in told if not over)
-        few = [name for name in source.public if sum(name in over for _, over in told) + beside < 2]
-        yield crate.name, told, few
+    """Crate by crate: its source, and its edits, each with its public functions."""
+    for crate in crates():
+        source = Source(crate)
+        told = [(edit, source.public_over(source.item_of(edit.pairs[0])) if edit.file == SOURCE else [])
+                for edit in edits_of(crate)]
+        yield crate, source, told
 
 
-def paper(crates):
+def faults(crate, source, told):
+    beside = sum(1 for _, over in told if not over)
+    for name in sorted(source.public):
+        if sum(name in over for _, over in told) + beside < 2:
+            yield f'{name}: fewer than two edits'
+    for tried in sorted({edit.tried for edit, _ in told}):
+        edits = [edit for edit, _ in told if edit.tried == tried]
+        text = source.text
+        for edit in edits if edits[0].file == SOURCE else []:
+            text = edit.made(text)
+        yield from together(source, edits) or refused(source, edits)
+
+
+def listed(names):
+    told = [f'`{name}`' for name in names[:2]] + ([f'{len(names) - 2} more'] if len(names) > 2 else [])
+    return ', '.join(told) or 'definitions'
+
+
+def paper(table):
     lines = [HEAD]
-    for crate, told, _ in crates:
+    for crate, _, told in table:
         if told:
-            lines.append(f'## {crate}\n\n| Edit | What would be wrong | Of |\n|---|---|---|')
-            lines += [f'| `{edit.name}` | {edit.says} | {listed(over)} |' for edit, over in told]
+            lines.append(f'## {crate}\n\n| Edit | What would be wrong | Of | File |\n|---|---|---|---|')
+            lines += [f'| `{edit.name}` | {edit.says} | {listed(over)} | `{edit.tried}` |' for edit, over in told]
             lines.append('')
     return '\n'.join(lines)
 
 
 def main(words):
-    crates = list(rows())
-    few = [f'{crate}::{name}' for crate, _, names in crates for name in names]
-    if few:
-        sys.exit('fewer than two must-fail edits: ' + ', '.join(few))
+    table = list(rows())
     if words == ['write']:
-        PAPER.write_text(paper(crates))
-    elif PAPER.read_text() != paper(crates):
+        PAPER.write_text(paper(table))
+        return
+    if PAPER.read_text() != paper(table):
         sys.exit('docs/EDITS.md is not up to date: python3 -B tests/edits.py write')
-    print(sum(len(told) for _, told, _ in crates), 'must-fail edits')
+    wrong = [f'{crate}: {fault}' for crate, source, told in table for fault in faults(crate, source, told)]
+    if wrong:
+        sys.exit('\n'.join(wrong))
+    print(sum(len(told) for _, _, told in table), 'must-fail edits, each refused for itself')
 
 
 if __name__ == '__main__':

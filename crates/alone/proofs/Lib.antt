@@ -2,4 +2,3 @@ pub mod Values
 pub mod Outcomes
 pub mod Between
 pub mod Steps
-pub mod Leaving

@@ -1,17 +1,16 @@
 // The actions of a process that touch only itself and the event list.
 ghost use mathlib.Core.Path.{_≡_};
 ghost use Rattle.semantics.specs.Model.{HOLD, PRIO, TRACE, LSET, DO, PUTR, PUTB, CLOSE};
-ghost use Rattle.semantics.specs.State.{process, with-frames, now-closed};
+ghost use Rattle.semantics.specs.State.{process, now-closed};
 ghost use Rattle.semantics.specs.Value.{eval};
-ghost use Rattle.semantics.specs.Step.{hold, prio, setLocal, doTimes, putr, putb, trace, close, comesBack, leave};
-ghost use Rattle.semantics.specs.Step.{ends, exhausted};
+ghost use Rattle.semantics.specs.Step.{hold, prio, setLocal, doTimes, putr, putb, trace, close};
 ghost use Rattle.number.specs.Code.{outcomeOf};
 ghost use Rattle.work.specs.Work.{workOf, Doing, Done};
 ghost use Rattle.process.specs.Process.{changed};
 ghost use Rattle.lists.specs.Lists.{Any};
 ghost use Rattle.acting.specs.Acting.{Roomy, Stepped};
 ghost use Rattle.acting.specs.Running.{On, made, runs};
-ghost use Rattle.alone.specs.Alone.{Valued, Told, Exhausted, Ends, Leaves, Back, SteppedQuietly};
+ghost use Rattle.alone.specs.Alone.{Valued, Told, SteppedQuietly};
 use acting::Went;
 use number::Value;
 
@@ -196,76 +195,5 @@ pub fn putb(i: usize, n: u64, w: &mut [u64], p: usize) -> Went
     let giver = process::number_of(w, p);
     process::past(w, p);
     lists::return_bin(w, i as u64, n, giver);
-    Went { fault: 0, lines: 0 }
-}
-
-// ---- the end of a block
-
-// The class body is left.
-fn ends<'a>(w: &'a mut [u64], out: &'a mut [u8], at: usize, p: usize) -> Went
-    requires { ⌜ Ends (now w) p ⌝ }
-    requires { ⌜ Roomy at (now out) ⌝ }
-    ensures { λ r. ⌜ ((v : Ends (now (w .entry)) p) → Stepped (made (v .running) p (λ m s q. ends m s p q))
-        (r .fault) (r .lines) (now (w .entry)) (now (w .exit)) at (now (out .entry)) (now (out .exit))) ⌝ }
-{
-    if !process::holds_nothing(w, p) {
-        return Went {
-            fault: 26,
-            lines: 0,
-        };
-    }
-    acting::note(w, p, out, at, 2, ZERO);
-    begins::end(w, p);
-    acting::leave_floor(w);
-    Went { fault: 0, lines: 1 }
-}
-
-// The action where the process stands is a WHILE.
-fn at_while<'a>(s: &'a [u8], map: &'a [u32], w: &'a [u64], p: usize) -> bool
-    requires { ⌜ Back (now s) (now map) (now w) p ⌝ }
-    ensures { λ r. ⌜ ((v : Back (now (s .entry)) (now (map .entry)) (now (w .entry)) p) → r ≡ comesBack (v .action)) ⌝ }
-{
-    let first = map::number_at(map, process::block_at(w, p));
-    let action = first + process::standing_at(w, p);
-    let place = map::number_at(map, 257 + action);
-    fields::u16_at(s, place + 2) == 27
-}
-
-// The innermost block is left, back to the action that named it; then past that, unless it is met again.
-fn leave<'a>(s: &'a [u8], map: &'a [u32], w: &'a mut [u64], p: usize)
-    requires { ⌜ Leaves (now s) (now map) (now w) p ⌝ }
-    ensures { λ _. ⌜ ((v : Leaves (now (s .entry)) (now (map .entry)) (now (w .entry)) p)
-        → now (w .exit) ≡ workOf (changed p (λ q. with-frames q (leave (v .running .model) (v .around))) (v .running .is))) ⌝ }
-{
-    process::leave_block(w, p, true);
-    if at_while(s, map, w, p) {
-        return;
-    }
-    process::past(w, p);
-}
-
-// One round less, and round again; or the block is left.
-pub fn exhausted<'a>(
-    s: &'a [u8],
-    map: &'a [u32],
-    w: &'a mut [u64],
-    out: &'a mut [u8],
-    at: usize,
-    p: usize,
-) -> Went
-    requires { ⌜ Exhausted (now s) (now map) (now w) p ⌝ }
-    requires { ⌜ Roomy at (now out) ⌝ }
-    ensures { λ r. ⌜ ((v : Exhausted (now (s .entry)) (now (map .entry)) (now (w .entry)) p)
-        → Stepped (made (runs (v .running)) p (λ m s q. exhausted m s p q (q .frames)))
-        (r .fault) (r .lines) (now (w .entry)) (now (w .exit)) at (now (out .entry)) (now (out .exit))) ⌝ }
-{
-    if 1 < process::rounds_at(w, p) {
-        process::go_round(w, p);
-        return Went { fault: 0, lines: 0 };
-    }
-    if process::depth_of(w, p) == 1 {
-        return ends(w, out, at, p);
-    }
-    leave(s, map, w, p);
     Went { fault: 0, lines: 0 }
 }

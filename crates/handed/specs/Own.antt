@@ -110,7 +110,7 @@ module _ (bs : List ℕ) (m : Model) (e : decode bs ≡ accepted m) (h : AllOf I
   rows-left [] s o = refl
   rows-left (a ∷ l) s o =
       let t : Sound m (call bs a s .state) =
-      subst (λ r. Sound m (r .state)) (sym (call-is bs m e a s o)) (run-sound bs m e (a .limit) (a .room) s o) in
+      subst (λ r. Sound m (r .state)) (sym (call-is bs m e a s o)) (run-sound m (accepted-fit bs m e) (a .limit) (a .room) s o) in
       ap (λ c. leavesRow bs l (c .row)) (sound-state-called s o a) ∙ rows-left l (call bs a s .state) t
 
   pub own-rows : (l : List Ask) → leavesRow bs l (workOf (fresh m)) ≡ workOf (left l)

@@ -20,7 +20,7 @@ use Rattle.process.specs.Process.{Shown, Lives}
 use Rattle.process.proofs.Standing.{top-sized}
 use Rattle.acting.specs.Acting.{Stepped}
 use Rattle.acting.specs.Running.{runs}
-use Rattle.alone.specs.Alone.{Exhausted}
+use Rattle.leaving.specs.Leaving.{Exhausted}
 use Rattle.acting.specs.Floor.{shown, fine, lives}
 use Rattle.asks.proofs.Branches.{few}
 use Rattle.step.specs.Steps.{Floored, Stands, MeetsAt, acted}

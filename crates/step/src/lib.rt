@@ -186,7 +186,7 @@ fn moves<'a>(
     let block = process::block_at(w, p);
     let a = map::number_at(map, block) + process::standing_at(w, p);
     if map::number_at(map, block + 1) <= a {
-        return alone::exhausted(s, map, w, out, at, p);
+        return leaving::exhausted(s, map, w, out, at, p);
     }
     meets(s, map, w, out, at, p, a)
 }
