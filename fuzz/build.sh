@@ -1,6 +1,6 @@
 #!/usr/bin/env bash
 # Builds the fuzzer: fuzz/build.sh PROGRAM [EDIT]. Coverage is counted in the second program and in the engine's source as Rust;
-# the proved library carries no counters. With EDIT, one of crates/*/must-fail, that source has the edit, and the library hasn't.
+# the proved library carries no counters. With EDIT, CRATE/NAME, that source has the must-fail edit, and the library hasn't.
 set -eu
 cd "$(dirname "$0")/.."
 program=$1

@@ -1,6 +1,6 @@
 #!/usr/bin/env bash
 # Fuzzes check, bound and run for so many seconds: fuzz/run.sh SECONDS [EDIT]. The corpus and what is found stay in target/fuzz.
-# With EDIT, one of crates/*/must-fail/*.edit, the engine's source has that edit, and a difference must come out.
+# With EDIT, a must-fail edit of the source, CRATE/NAME, the engine's source has that edit, and a difference must come out.
 # Needs an x86-64 machine, clang and its libFuzzer (Debian 12: clang and libclang-rt-14-dev, both 14.0.6), rustc and Python 3.
 set -eu
 cd "$(dirname "$0")/.."
@@ -12,7 +12,7 @@ if [ "$(uname -m)" != x86_64 ] || [ ! -e "$library" ]; then
   echo "fuzz: this needs an x86-64 machine with clang and its libFuzzer: apt-get install clang libclang-rt-14-dev" >&2
   exit 2
 fi
-place=target/fuzz/$(basename "${edit:-unedited}" .edit)
+place=target/fuzz/$(basename "${edit:-unedited}")
 mkdir -p "$place/corpus" "$place/found"
 bash fuzz/build.sh "$place/fuzz" ${edit:+"$edit"}
 python3 -B fuzz/seeds.py target/fuzz/seeds

@@ -13,6 +13,7 @@ import subprocess
 import sys
 import threading
 
+import edits as must_fail
 import native
 
 FOLDER = native.ROOT / 'target' / 'changed'
@@ -65,7 +66,7 @@ CHANGES = [
     ('a HOLD of 0 keeps the floor', 'alone',
      'acting::leave_floor(w);\n    lists::wake(w, time, p);',
      'if value.code != ZERO {\n        acting::leave_floor(w);\n        lists::wake(w, time, p);\n    }'),
-    ('a WHILE is met once', 'alone', 'fields::u16_at(s, place + 2) == 27', 'fields::u16_at(s, place + 2) == 99'),
+    ('a WHILE is met once', 'leaving', 'fields::u16_at(s, place + 2) == 27', 'fields::u16_at(s, place + 2) == 99'),
     ('locals left where a process ended', 'begins', 'fill(&mut row[0..12], 0);', 'fill(&mut row[0..4], 0);'),
     ('the highest free place', 'places', 'u64::trailing_zeros(', '63 - u64::leading_zeros('),
     ('PUTS frees the last first', 'hands', 'let r = places[k] as usize;', 'let r = places[n - 1 - k] as usize;'),
@@ -119,11 +120,10 @@ UNSEEN = {
 
 def edits():
     """The must-fail edits of the sources, each as its name, its crate and the texts in turn."""
-    for path in sorted(native.CRATES.glob('*/must-fail/*.edit')):
-        crate = path.parent.parent.name
-        lines = path.read_text().split('\n')
-        if 'file: src/lib.rt' in lines and crate in native.named('desk'):
-            yield ['%s/%s' % (crate, path.stem), crate] + [line[5:] for line in lines if line[:5] in ('old: ', 'new: ')]
+    for crate in sorted(native.named('desk')):
+        for edit in must_fail.edits_of(crate):
+            if edit.file == must_fail.SOURCE:
+                yield ['%s/%s' % (crate, edit.name), crate] + edit.pairs
 
 
 def changed(texts, crate, *pairs):

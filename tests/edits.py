@@ -122,17 +122,17 @@ class Log:
     """What the gate's check said of a copy with the edits of a file: the functions where a fact or a term was refused."""
 
     def __init__(self, crate, tried, source):
-        self.folder = TRIED / crate / tried
-        file = self.folder / '.log'
-        if not file.exists():
-            sys.exit(f'{file.relative_to(ROOT)} is not there: the gate writes it, bash .ci/run')
+        self.copy = f'/must-fail/{crate}/{tried}/'
+        log = TRIED / crate / tried / '.log'
+        if not log.exists():
+            sys.exit(f'{log.relative_to(ROOT)} is not there: the gate writes it, bash .ci/run')
         self.refused = set()
-        for place, line, said in SAID.findall(file.read_text()):
+        for place, line, said in SAID.findall(log.read_text()):
             if not BESIDE.search(said):
-                self.refused |= self.functions(place, int(line), source)
+                self.refused |= self.functions(place.partition(self.copy)[2], int(line), source)
 
-    def functions(self, place, line, source):
-        file = place.removeprefix(str(self.folder) + '/')
+    def functions(self, file, line, source):
+        """Those that a file of the copy speaks of; an empty name for a file that speaks of none."""
         if file == SOURCE:
             return {source.item_on(line)}
         return set(file.split('/')[1].split('+')) if file.endswith('/Proof.antt') else {''}
@@ -190,8 +190,8 @@ def paper(table):
     lines = [HEAD]
     for crate, _, told in table:
         if told:
-            lines.append(f'## {crate}\n\n| Edit | What would be wrong | Of | File |\n|---|---|---|---|')
-            lines += [f'| `{edit.name}` | {edit.says} | {listed(over)} | `{edit.tried}` |' for edit, over in told]
+            lines.append(f'## {crate}\n\n| Edit | What would be wrong | Of |\n|---|---|---|')
+            lines += [f'| `{edit.name}` | {edit.says} | {listed(over)} |' for edit, over in told]
             lines.append('')
     return '\n'.join(lines)
 
