@@ -7,8 +7,8 @@
 A file crates/NAME/must-fail/*.edit has an edit to a paragraph: its name and what would be wrong, then `file:` and pairs `old:`,
 `new:`. The gate makes all edits of a file in one copy of the crate and checks that once, which is refused if one of them is; so
 the check's log is read here. Edits of one file are in functions of which none comes to another, and each function's own proof
-must be refused at a fact, and not only because something else was, or because a name was missing. An edit of a contract or a
-definition has a file to itself.
+must be refused at a fact: not because something else was refused, nor because the edited code asks for other facts than those
+that the proof names. An edit of a contract or a definition has a file to itself.
 
 An edit of a function or a constant that isn't public is one of every public function that comes to it inside its crate.
 """
@@ -27,9 +27,11 @@ proof of each function that was edited, at a fact. Every public function has two
 this page from `crates/*/must-fail`; its head says how the edits of one file are kept apart.
 '''
 ITEM = re.compile(r'^(pub )?(?:extern "C" )?(fn|const) (\w+)', re.M)
-# What antt says of a fact or a term, and where; and what it says where only something else was refused, or a name is missing.
-SAID = re.compile(r'^(?:note: )?(\S+?):(\d+):\d+: (?:error: |it is not proved )(.*)$', re.M)
-BESIDE = re.compile(r'was not admitted|is not in scope')
+# What antt says of a fact or a term, and where; what it says where only something else was refused; and where there is something
+# else to prove than the proof names.
+SAID = re.compile(r'^(?:note: )?(.+?):(\d+):\d+: (?:error: |it is not proved )(.*)$', re.M)
+BESIDE = re.compile(r'was not admitted')
+OTHER = re.compile(r'is not in scope|expected type `tie\.Need-')
 
 
 class Edit:
@@ -119,17 +121,18 @@ class Source:
 
 
 class Log:
-    """What the gate's check said of a copy with the edits of a file: the functions where a fact or a term was refused."""
+    """What the gate's check said of a copy with the edits of a file: in which functions it refused a fact, and which had others."""
 
     def __init__(self, crate, tried, source):
         self.copy = f'/must-fail/{crate}/{tried}/'
         log = TRIED / crate / tried / '.log'
         if not log.exists():
             sys.exit(f'{log.relative_to(ROOT)} is not there: the gate writes it, bash .ci/run')
-        self.refused = set()
+        self.refused, self.other = set(), set()
         for place, line, said in SAID.findall(log.read_text()):
             if not BESIDE.search(said):
-                self.refused |= self.functions(place.partition(self.copy)[2], int(line), source)
+                where = self.other if OTHER.search(said) else self.refused
+                where |= self.functions(place.partition(self.copy)[2], int(line), source)
 
     def functions(self, file, line, source):
         """Those that a file of the copy speaks of; an empty name for a file that speaks of none."""
@@ -156,7 +159,8 @@ def refused(source, edits):
     log = Log(edits[0].crate, edits[0].tried, source)
     if len(edits) == 1 and (edits[0].file != SOURCE or not source.in_code(edits[0])):
         return [] if log.refused else [f'{edits[0].name}: refused at no fact']
-    return [f'{edit.name}: not refused in its own proof' for edit in edits if not log.refused & source.shown_in(edit)]
+    return [f'{edit.name}: not refused in its own proof, or not at a fact' for edit in edits
+            if log.other & source.shown_in(edit) or not log.refused & source.shown_in(edit)]
 
 
 def rows():
