@@ -1,4 +1,4 @@
-"""What check and bound cost on the files made to hurt, as a ratio to reading the same file once.
+"""What check and bound cost on the files made to hurt and the longest ones, as a ratio to reading the same file once.
 
     python3 -B bench/check.py     prints a table for docs/FIGURES.md
 
@@ -19,12 +19,20 @@ import tempfile
 ROOT = pathlib.Path(__file__).resolve().parent.parent
 sys.path.insert(0, str(ROOT / 'tests'))
 from cases import HOSTILE, line, runs
-from records import u16
+from records import BLOCK, CLASS, CLOSE, ENTITY, HOLD, LITERAL, NEGATE, RES, TRY, branch, getR, u16
 
 TIMES = 300
 COUNT = ['valgrind', '--tool=callgrind', '--callgrind-out-file=/dev/null']
 # A record whose kind isn't in the table.
 UNKNOWN = u16(2) + u16(9)
+ONE = [CLASS(0), ENTITY(0), BLOCK()]
+LONGEST = [
+    ('433 TRYs of four branches, four items each',
+     4 * [RES(1)] + ONE + 433 * [TRY(*4 * [branch(1, *map(getR, range(4)))])] + [BLOCK()], 'bound 867'),
+    ('650 HOLDs of 16 nodes', ONE + 650 * [HOLD(*15 * [NEGATE], LITERAL)], 'bound 651'),
+    ('64 classes, 64 entities, 256 blocks, 1,024 actions',
+     [CLASS(b) for b in range(64)] + [ENTITY(c) for c in range(64)] + 256 * ([BLOCK()] + 4 * [CLOSE()]), 'bound 320'),
+]
 
 
 def packed(records):
@@ -59,7 +67,7 @@ def main():
     command = [str(ROOT / 'target' / 'bin' / 'checks')]
     print('| File | Bytes | Check and bound, ms | Instructions | Reading once | Ratio |')
     print('|---|---|---|---|---|---|')
-    for name, records, answer in HOSTILE:
+    for name, records, answer in HOSTILE + LONGEST:
         size = sum(map(len, records))
         if size < 5000:
             continue

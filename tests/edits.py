@@ -164,12 +164,12 @@ def refused(source, edits):
 
 
 def rows():
-    """Crate by crate: its source, and its edits, each with its public functions."""
+    """Crate by crate: its source, and its edits in the order of what they change, each with its public functions."""
     for crate in crates():
         source = Source(crate)
-        told = [(edit, source.public_over(source.item_of(edit.pairs[0])) if edit.file == SOURCE else [])
-                for edit in edits_of(crate)]
-        yield crate, source, told
+        edits = sorted(edits_of(crate), key=lambda edit: source.text.find(edit.pairs[0]))
+        yield crate, source, [(edit, source.public_over(source.item_of(edit.pairs[0])) if edit.file == SOURCE else [])
+                              for edit in edits]
 
 
 def faults(crate, source, told):
