@@ -179,9 +179,6 @@ def faults(crate, source, told):
             yield f'{name}: fewer than two edits'
     for tried in sorted({edit.tried for edit, _ in told}):
         edits = [edit for edit, _ in told if edit.tried == tried]
-        text = source.text
-        for edit in edits if edits[0].file == SOURCE else []:
-            text = edit.made(text)
         yield from together(source, edits) or refused(source, edits)
 
 
