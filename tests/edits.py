@@ -172,7 +172,7 @@ def rows():
                               for edit in edits]
 
 
-def faults(crate, source, told):
+def faults(source, told):
     beside = sum(1 for _, over in told if not over)
     for name in sorted(source.public):
         if sum(name in over for _, over in told) + beside < 2:
@@ -204,7 +204,7 @@ def main(words):
         return
     if PAPER.read_text() != paper(table):
         sys.exit('docs/EDITS.md is not up to date: python3 -B tests/edits.py write')
-    wrong = [f'{crate}: {fault}' for crate, source, told in table for fault in faults(crate, source, told)]
+    wrong = [f'{crate}: {fault}' for crate, source, told in table for fault in faults(source, told)]
     if wrong:
         sys.exit('\n'.join(wrong))
     print(sum(len(told) for _, _, told in table), 'must-fail edits, each refused for itself')
