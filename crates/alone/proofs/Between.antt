@@ -9,7 +9,7 @@ use borrow.Author.Tests.{le-leb, eq-eqb}
 use lib.ListN.{length, getD, set, length-set}
 use Rattle.semantics.specs.Words.{keep, less, within}
 use Rattle.semantics.specs.Numbers as No
-use Rattle.semantics.specs.Model.{Expr, Action, LSET, DO, PUTR, PUTB, Model}
+use Rattle.semantics.specs.Model.{Expr, Action, LSET, DO, PUTR, PUTB}
 use Rattle.semantics.specs.State.{State, Process, Notice, returnsR, returnsB, empty, process, put, wake, past, into}
 use Rattle.semantics.specs.State.{with-floor, with-priority, with-locals, with-held, now-closed}
 use Rattle.semantics.specs.Step.{lowest, ofReturns, isReturn}

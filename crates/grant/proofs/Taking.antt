@@ -10,7 +10,7 @@ use Rattle.semantics.specs.Words.{more, less}
 use Rattle.semantics.specs.Model.{Model, resource, bin, sync, Item, get, condition, Claim}
 use Rattle.semantics.specs.Bytes.{u8, u16, i32}
 use Rattle.semantics.specs.Record.{relationOf, itemOf}
-use Rattle.semantics.specs.State.{State, Waiter, process, with-free, with-bins, with-held}
+use Rattle.semantics.specs.State.{State, Waiter, with-free, with-bins, with-held}
 use Rattle.semantics.specs.Claim.{itemMet, takeItem, takeAll}
 use Rattle.promises.specs.Laws.{AllOf, Ordered, all-map, all-both, all-set, all-get, all-hold}
 use Rattle.promises.specs.Fit.{ItemFit, Apart}

@@ -1,6 +1,5 @@
 -- How the code tells a call on an open run by value. Assumes nothing.
 use Prim.Native.Nat.{ℕ}
-use mathlib.Core.Path.{_≡_}
 use mathlib.Core.List.{List}
 use Rattle.run.specs.declared.Ran.{Ran}
 use Rattle.state.specs.State.{rowOf, Full}

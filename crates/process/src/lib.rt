@@ -7,7 +7,7 @@ ghost use lib.Dec.{eqb};
 ghost use lib.ListN.{length, getD, set};
 ghost use Rattle.semantics.specs.Words.{all, isEmpty, more, less};
 ghost use Rattle.semantics.specs.State.{Frame, process, with-priority, with-locals, with-held, with-frames, past, into};
-ghost use Rattle.number.specs.Code.{code, valueOf};
+ghost use Rattle.number.specs.Code.{valueOf};
 ghost use Rattle.work.specs.Work.{frameWord, workOf, Doing, Done};
 ghost use Rattle.process.specs.Process.{Shown, Lives, Inner, Coded, HasLocal, Claims, Holds};
 ghost use Rattle.process.specs.Process.{changed, again, out};

@@ -1,24 +1,23 @@
 -- Nobody has the floor: the first of the event list leaves it, and is put back where its step faults. Assumes nothing.
 use Prim.Native.Nat.{ℕ, _+_}
 use native.Mathlib.Omega.{arith}
-use mathlib.Core.Path.{_≡_, refl, sym, _∙_, ap, subst}
+use mathlib.Core.Path.{_≡_, refl, sym, _∙_, ap}
 use mathlib.Core.List.{List, [], _∷_}
 use mathlib.Core.Bool.{Bool, true, false}
 use lib.ListN.{length, getD}
-use Rattle.semantics.specs.Words.{Outcome, if_then_else_, isEmpty}
+use Rattle.semantics.specs.Words.{if_then_else_}
 use Rattle.semantics.specs.Model.{Model}
 use Rattle.semantics.specs.State.{State, Event, Floor, empty, held, with-events, at-clock}
-use Rattle.semantics.specs.Walk.{Next}
 use Rattle.semantics.specs.Step.{moves, occurs, next, step}
-use Rattle.semantics.specs.Run.{Before, isClosed, isIdle, goesOn}
-use Rattle.promises.specs.Sound.{onFloor, noticed, gives, EventOk, Held}
+use Rattle.semantics.specs.Run.{Before, isClosed, goesOn}
+use Rattle.promises.specs.Sound.{onFloor, noticed, gives, Held}
 use Rattle.promises.specs.Moves.{recount, first-out}
-use Rattle.promises.specs.Safe.{Safe, idle-stops, step-safe}
+use Rattle.promises.specs.Safe.{idle-stops, step-safe}
 use Rattle.line.specs.Lines.{eventKey, eventWord}
 use Rattle.work.specs.Work.{floorWord, workOf, EventSized, Sized}
 use Rattle.work.specs.Head.{clock-at, floor-at}
 use Rattle.work.specs.Events.{first-key}
-use Rattle.lists.specs.Lists.{Any, Due, without-first, firstOut, PuttingBack}
+use Rattle.lists.specs.Lists.{Due, without-first, firstOut, PuttingBack}
 use Rattle.work.specs.Work as Work
 use Rattle.acting.specs.Acting.{Going, Stepped}
 use Rattle.acting.specs.Running.{runs}

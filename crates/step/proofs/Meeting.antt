@@ -1,17 +1,16 @@
 -- The record that a process meets, read by its kind: the action that it is, and what each handler asks of it. Assumes nothing.
-use Prim.Native.Nat.{ℕ, _+_, _≤_, _<_}
+use Prim.Native.Nat.{ℕ, _≤_, _<_}
 use native.Mathlib.Omega.{arith}
 use mathlib.Core.Path.{_≡_, refl, sym, _∙_, ap, subst}
 use mathlib.Core.List.{List}
-use mathlib.Core.Bool.{Bool, true, false}
+use mathlib.Core.Bool.{true, false}
 use mathlib.Core.Option.{some}
-use lib.Dec.{eqb}
 use lib.ListN.{length, drop}
 use Rattle.semantics.specs.Words.{Outcome}
 use Rattle.semantics.specs.Model.{Expr, Action, HOLD, PRIO, TRACE, SET, LSET, DO, PUTR, PUTB, PUTS, BECOME, REQ, TRY, WHILE}
 use Rattle.semantics.specs.Model.{START, CLOSE, Model}
 use Rattle.semantics.specs.Bytes.{u16, u32}
-use Rattle.semantics.specs.State.{State, Process, process}
+use Rattle.semantics.specs.State.{State, process}
 use Rattle.semantics.specs.Walk.{Next}
 use Rattle.semantics.specs.Step.{act}
 use Rattle.index.specs.Ties.{bodyAt}

@@ -4,21 +4,19 @@ use native.Mathlib.Omega.{arith}
 use mathlib.Core.Path.{_≡_, refl, sym, _∙_, ap}
 use mathlib.Core.List.{List, [], _∷_}
 use mathlib.Core.Bool.{true}
-use mathlib.Core.Option.{Option, none, some}
+use mathlib.Core.Option.{none, some}
 use lib.ListN.{length, getD, getElem?, take, drop}
 use lib.Seq.{drop-drop}
 use Rattle.semantics.specs.Model.{Action, Model, block}
 use Rattle.semantics.specs.Bytes.{u16}
-use Rattle.semantics.specs.State.{State, Frame, process}
+use Rattle.semantics.specs.State.{State, process}
 use Rattle.semantics.specs.Claim.{standsIn}
 use Rattle.semantics.specs.Sound.{chained}
 use Rattle.semantics.specs.Step.{act, exhausted, moves}
-use Rattle.promises.specs.Laws.{not-some, some-in}
 use Rattle.promises.specs.Nests.{chain-depth}
 use Rattle.index.specs.Ties.{kindAt, bodyAt, ActionAt}
 use Rattle.process.specs.Process.{Shown, Lives}
 use Rattle.process.proofs.Standing.{top-sized}
-use Rattle.acting.specs.Acting.{Stepped}
 use Rattle.acting.specs.Running.{runs}
 use Rattle.leaving.specs.Leaving.{Exhausted}
 use Rattle.acting.specs.Floor.{shown, fine, lives}

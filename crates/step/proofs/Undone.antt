@@ -2,11 +2,11 @@
 -- Assumes nothing.
 use Prim.Native.Nat.{ℕ}
 use native.Mathlib.Omega.{arith}
-use mathlib.Core.Path.{_≡_, _∙_}
+use mathlib.Core.Path.{_≡_}
 use mathlib.Core.List.{List}
 use Rattle.semantics.specs.Words.{Outcome, ok, fails}
 use Rattle.semantics.specs.Walk.{Next}
-use Rattle.promises.specs.Safe.{Safe, safe, above}
+use Rattle.promises.specs.Safe.{Safe, above}
 use Rattle.acting.specs.Acting.{Stepped}
 
 module _ (o : Outcome Next) (f l : ℕ) (w w′ : List ℕ) (at : ℕ) (out out′ : List ℕ) (done : Stepped o f l w w′ at out out′) where

@@ -1,19 +1,17 @@
 -- Who is first in the event list takes the floor, and leaves it again where that faults. Assumes nothing.
 use Prim.Native.Nat.{ℕ, _+_, _<_}
-use native.Mathlib.Omega.{arith}
 use mathlib.Core.Path.{_≡_, refl, sym, _∙_, ap}
 use mathlib.Core.List.{List}
 use lib.ListN.{length, set, length-set}
 use mathlib.Core.Bool.{Bool}
 use Rattle.semantics.specs.Words.{if_then_else_}
 use Rattle.semantics.specs.State.{State, empty, held, with-floor}
-use Rattle.semantics.specs.Walk.{Next}
 use Rattle.semantics.specs.Step.{moves, step}
-use Rattle.semantics.specs.Run.{Before, isClosed, goesOn, before}
+use Rattle.semantics.specs.Run.{Before, isClosed, goesOn}
 use Rattle.promises.specs.Safe.{Safe, step-safe}
 use Rattle.work.specs.Work.{workOf}
 use Rattle.work.specs.Head.{floor-set}
-use Rattle.acting.specs.Acting.{Open, Stepped}
+use Rattle.acting.specs.Acting.{Stepped}
 use Rattle.acting.specs.Running.{runs}
 use Rattle.acting.specs.Floor.{run-long, low}
 use Rattle.step.specs.Steps.{Floored, Waking}

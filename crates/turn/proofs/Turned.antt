@@ -1,7 +1,7 @@
 -- The lines of a turn fit into its journal and its text, and it tells the run that was made. Assumes nothing.
 use Prim.Native.Nat.{ℕ, _*_, _/_, _≤_}
 use native.Mathlib.Omega.{arith}
-use mathlib.Core.Path.{_≡_, refl, sym, _∙_, ap}
+use mathlib.Core.Path.{_≡_, sym, _∙_, ap}
 use mathlib.Core.List.{List, map}
 use lib.ListN.{length}
 use borrow.Author.Tests.{leb-true}

@@ -4,7 +4,7 @@ use native.Mathlib.Omega.{arith}
 use mathlib.Core.Path.{_≡_, refl, sym, _∙_, ap}
 use mathlib.Core.List.{List, [], _∷_, _++_, append-assoc}
 use lib.ListN.{length, getD, set, take, drop, length-append, List·getD-append}
-use lib.Seq.{getD-append-add, take-append-le, take-append-seam, drop-append-add, take-append-add, drop-append-seam}
+use lib.Seq.{getD-append-add, take-append-seam, drop-append-add, take-append-add, drop-append-seam}
 use lib.Seq.{set-append-left}
 use Rattle.semantics.specs.Words.{sum, collect}
 use Rattle.promises.specs.Laws.{AllOf}

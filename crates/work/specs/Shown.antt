@@ -3,21 +3,20 @@ use Prim.Native.Nat.{ℕ, zero, suc, _+_, _-_, _*_, _≤_, _<_}
 use native.Mathlib.Omega.{arith}
 use mathlib.Core.Path.{_≡_, refl, sym, _∙_, ap}
 use mathlib.Core.List.{List, [], _∷_, _++_, map}
-use mathlib.Core.Bool.{Bool}
-use lib.ListN.{length, getD, set, take, drop, replicate, length-append, length-replicate, length-map, length-set}
-use lib.ListN.{List·getD-append, List·getD-map}
-use lib.Seq.{set-append-left, map-set-same}
+use lib.ListN.{length, getD, set, replicate, length-append, length-replicate, length-map, length-set}
+use lib.ListN.{List·getD-append}
+use lib.Seq.{set-append-left}
 use lib.IntN.{ℤ, pos}
 use Rattle.semantics.specs.Words.{if_then_else_, collect}
-use Rattle.semantics.specs.State.{State, Process, Frame, Waiter, Floor, nobody, isFree, process, put, at-clock, with-last}
-use Rattle.semantics.specs.State.{with-free, with-bins, with-globals, with-floor, with-processes}
-use Rattle.promises.specs.Laws.{AllOf, all-map, _&_}
+use Rattle.semantics.specs.State.{State, Process, Frame, Waiter, nobody, isFree, process, put}
+use Rattle.semantics.specs.State.{with-free, with-bins, with-globals}
+use Rattle.promises.specs.Laws.{all-map, _&_}
 use Rattle.number.specs.Code.{code}
 use Rattle.line.specs.Lines.{pad, eventKey, waiterWord, dataOf}
 use Rattle.places.specs.Places.{lives, livingOf}
-use Rattle.work.specs.Laid.{laid, Wide, laid-at, laid-set, laid-part, laid-replaced, laid-length}
-use Rattle.work.specs.Laid.{Even, even-length, even-at, even-set, even-part, even-replaced}
-use Rattle.work.specs.Work.{frameWord, stacked, processParts, processWidths, processRow, floorWord, waitersRow}
+use Rattle.work.specs.Laid.{laid, Wide, laid-at, laid-set, laid-length}
+use Rattle.work.specs.Laid.{Even, even-length, even-at, even-set}
+use Rattle.work.specs.Work.{frameWord, stacked, processParts, processWidths, processRow, waitersRow}
 use Rattle.work.specs.Work.{workParts, workWidths}
 use Rattle.work.specs.Work.{headOf, slaveWord, workOf, ProcessSized, WaitersSized, Sized}
 

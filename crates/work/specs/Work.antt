@@ -1,11 +1,10 @@
 -- The state of a run as one row of numbers, the work, which the engine reads and writes in place; and how large a state may be
 -- to be shown by it. Assumes nothing.
-use Prim.Native.Nat.{ℕ, zero, suc, _+_, _*_, _≤_, _<_}
+use Prim.Native.Nat.{ℕ, _+_, _*_, _≤_, _<_}
 use mathlib.Core.Path.{_≡_}
 use mathlib.Core.List.{List, [], _∷_, _++_, map}
 use mathlib.Core.Bool.{Bool, true, false}
 use lib.ListN.{length}
-use lib.IntN.{ℤ}
 use Rattle.semantics.specs.Words.{collect}
 use Rattle.semantics.specs.Numbers as No
 use Rattle.semantics.specs.State.{State, Process, Frame, Slave, Waiter, Event, Notice, wakes, returnsR, returnsB}

@@ -1,6 +1,5 @@
 -- `turn::turn` meets its contract: its lines fit, and are those of the run. Assumes nothing.
 use Rattle.text.specs.Writable.{run-writable}
-use native.Mathlib.Omega.{arith}
 use Rattle.turn.proofs.Turned.{fits-journal, fits-text, answered}
 use borrow.Author.Needs.{needs}
 use Rattle.turn.proofs.turn.Statement.{statement}
