@@ -8,7 +8,8 @@ A file crates/NAME/must-fail/*.edit has an edit to a paragraph: its name and wha
 `new:`. The gate makes all edits of a file in one copy of the crate and checks that once, which is refused if one of them is; so
 the check's log is read here. Edits of one file are in functions of which none comes to another, and each function's own proof
 must be refused at a fact: not because something else was refused, nor because the edited code asks for other facts than those
-that the proof names. An edit of a contract or a definition has a file to itself.
+that the proof names, as far as antt's words tell. An edit of a contract or a definition has a file to itself, and a fact refused
+anywhere in its crate will do.
 
 An edit of a function or a constant that isn't public is one of every public function that comes to it inside its crate.
 """
@@ -23,8 +24,9 @@ SOURCE = 'src/lib.rt'
 HEAD = '''# Must-fail edits
 
 One wrong answer each. The gate applies the edits of a file to a copy of its crate, and passes only if the check then refuses the
-proof of each function that was edited, at a fact. Every public function has two or more. `python3 -B tests/edits.py write` writes
-this page from `crates/*/must-fail`; its head says how the edits of one file are kept apart.
+proof of each function whose code was edited, at a fact; or, of an edited contract or definition, some fact. Every public function
+has two or more. `python3 -B tests/edits.py write` writes this page from `crates/*/must-fail`; its head says how the edits of one
+file are kept apart.
 '''
 ITEM = re.compile(r'^(pub )?(?:extern "C" )?(fn|const) (\w+)', re.M)
 # What antt says of a fact or a term, and where; what it says where only something else was refused; and where there is something
