@@ -123,7 +123,7 @@ class Source:
 
 
 class Log:
-    """What the gate's check said of a copy with the edits of a file: in which functions it refused a fact, and which had others."""
+    """What the gate's check said of a copy with the edits of a file: where it refused a fact, and where there were others."""
 
     def __init__(self, crate, tried, source):
         self.copy = f'/must-fail/{crate}/{tried}/'
