@@ -29,11 +29,11 @@ has two or more. `python3 -B tests/edits.py write` writes this page from `crates
 file are kept apart.
 '''
 ITEM = re.compile(r'^(pub )?(?:extern "C" )?(fn|const) (\w+)', re.M)
-# What antt says of a fact or a term, and where; what it says where only something else was refused; and where there is something
-# else to prove than the proof names.
+# What antt says of a fact or a term, and where; what it says where only something else was refused; and what it says where there
+# are other facts to prove than the proof names: a name is missing, or the declaration that lists them all is refused for itself.
 SAID = re.compile(r'^(?:note: )?(.+?):(\d+):\d+: (?:error: |it is not proved )(.*)$', re.M)
 BESIDE = re.compile(r'was not admitted')
-OTHER = re.compile(r'is not in scope|expected type `tie\.Need-')
+OTHER = re.compile(r'is not in scope|^`[^`]*-spec`: ')
 
 
 class Edit:
