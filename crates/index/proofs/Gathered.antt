@@ -69,9 +69,10 @@ rows-show bs =
 
 shows : (k : ℕ) (bs : List ℕ) → Judged k bs → Shows k bs (rowOf k .says bs)
 shows k bs j =
-    let r = its-row (RowShows bs) (rows-show bs) k (j .grouped) in
-    (ap acts (r .1) ∙ r .0 .0,
-    (ap (λ x. eqb x 6) (r .1) ∙ r .0 .1 .0, ap (λ x. given (eqb x 5) (u16 bs 0)) (r .1) ∙ r .0 .1 .1))
+    let r = its-row (RowShows bs) (rows-show bs) k (j .grouped) in (
+      ap acts (r .1) ∙ r .0 .0,
+      (ap (λ x. eqb x 6) (r .1) ∙ r .0 .1 .0, ap (λ x. given (eqb x 5) (u16 bs 0)) (r .1) ∙ r .0 .1 .1),
+    )
 
 -- What the records make, one by one: opened by these two alone, since `gather` opens the whole table.
 pub gather-none : gather [] ≡ record { model = noModel; loose = [] }
