@@ -2,7 +2,7 @@
 
     python3 -B bench/check.py     prints a table for docs/FIGURES.md
 
-It needs target/bin/checks (`rt check checks`), an x86-64 machine and valgrind.
+It needs target/bin/try_cases (`rt check try_cases`), an x86-64 machine and valgrind.
 
 The program is run on one file many times over, in three forms: the file; the file behind a record whose kind isn't in the table,
 which is refused at once, so that only reading it is left; and that record alone. The program does a check and a bound of each
@@ -64,7 +64,7 @@ def once(command, records, times):
 
 
 def main():
-    command = [str(ROOT / 'target' / 'bin' / 'checks')]
+    command = [str(ROOT / 'target' / 'bin' / 'try_cases')]
     print('| File | Bytes | Check and bound, ms | Instructions | Reading once | Ratio |')
     print('|---|---|---|---|---|---|')
     for name, records, answer in HOSTILE + LONGEST:

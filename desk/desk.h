@@ -1,5 +1,5 @@
 /* The booking desk's functions of the library desk. A model file is handed over as its bytes and their number; nothing of it is
- * written, and any bytes get an answer. What each answer means is proved in crates/desk; the words are document 01's. */
+ * written, and any bytes get an answer. What each answer means is proved in crates/desk_c; the words are document 01's. */
 #ifndef BUNGALISTOR_DESK_H
 #define BUNGALISTOR_DESK_H
 

@@ -1,4 +1,4 @@
-"""The engine's source as Rust, for a compiler that counts coverage: every crate that `desk` stands on is a module of one file.
+"""The engine's source as Rust, for a compiler that counts coverage: every crate that `desk_c` stands on is a module of one file.
 
     python3 -B fuzz/engine.py OUT [EDIT]    writes OUT; EDIT is a must-fail edit of the source, CRATE/NAME, and is made first
 
@@ -25,7 +25,7 @@ def edited(texts, name):
 
 
 def main(out, edit=None):
-    texts = native.sources('desk')
+    texts = native.sources('desk_c')
     pathlib.Path(out).write_text(native.modules(edited(texts, edit) if edit else texts))
 
 

@@ -1,7 +1,7 @@
 #!/usr/bin/env python3
-"""Model files with the answer that document 01 gives each: what the program `checks` of the gate runs check and bound on.
+"""Model files with the answer that document 01 gives each: what the program `try_cases` of the gate runs check and bound on.
 
-    python3 tests/cases.py            writes crates/checks/data/cases.bin and crates/checks/stdout
+    python3 tests/cases.py            writes crates/try_cases/data/cases.bin and crates/try_cases/stdout
     python3 tests/cases.py --check    fails if these two files are not what it would write
     python3 tests/cases.py --list     prints each case's number, answer and name
     python3 tests/cases.py --files D  writes each case's model file to the folder D, for another program to read
@@ -813,7 +813,7 @@ CASES = (WEIGHTS + NONE + OVER + HOSTILE + SHORT + KIND + PLACE + MANY + SIZE + 
 
 # ---- the files
 
-CRATE = pathlib.Path(__file__).resolve().parent.parent / 'crates' / 'checks'
+CRATE = pathlib.Path(__file__).resolve().parent.parent / 'crates' / 'try_cases'
 ORDINALS = ('first', 'second', 'third', 'fourth', 'fifth', 'sixth', 'seventh', 'eighth', 'ninth', 'tenth')
 
 

@@ -1,3 +1,3 @@
 #!/usr/bin/env bash
-# The committed cases of the program `checks`, and what it must print, are those of the table tests/cases.py.
+# The committed cases of the program `try_cases`, and what it must print, are those of the table tests/cases.py.
 exec python3 -B "$(dirname "$0")/cases.py" --check

@@ -7,7 +7,7 @@ set -u
 cd "$(dirname "$0")/.." || exit 1
 
 if [ "$(uname -m)" = x86_64 ]; then
-  rt staticlib desk > target/staticlib.log 2>&1 || { cat target/staticlib.log; exit 1; }
+  rt staticlib desk_c > target/staticlib.log 2>&1 || { cat target/staticlib.log; exit 1; }
   library=target/staticlib
   echo "the proved library, as compiled for x86-64"
 else

@@ -63,7 +63,8 @@ def edits_of(crate):
 
 
 def crates():
-    return [line.split(':')[0] for line in (ROOT / 'crates.txt').read_text().splitlines()]
+    lines = (ROOT / 'crates.txt').read_text().splitlines()
+    return [line.split(':')[0] for line in lines if line and line[0] != '#']
 
 
 def uses(body, name):

@@ -1,7 +1,7 @@
 """The engine as Rust, for a machine on which what Rattle builds can't run, or runs under an emulator only.
 
     python3 -B tests/native.py         the program `plan`: target/native/plan/target/release/plan
-    python3 -B tests/native.py desk    the desk's C functions: target/native/desk/target/release/libdesk.a
+    python3 -B tests/native.py desk    the desk's C functions: target/native/desk/target/release/libdesk_c.a
 
 The source of each crate that is needed is taken as it is, as a module, without its contracts; the kit's few functions for input,
 output and copying are written out below. It proves nothing: it is there for bench/steps.py and tests/changed.py, and stands in
@@ -44,7 +44,7 @@ pub mod io {
 }
 '''
 
-# What desk/desk.h declares, over the functions of crate `desk`: a slice is a pointer and a length.
+# What desk/desk.h declares, over the functions of crate `desk_c`: a slice is a pointer and a length.
 DESK = '''
 use std::panic::{catch_unwind, AssertUnwindSafe};
 use std::slice::{from_raw_parts, from_raw_parts_mut};
@@ -52,25 +52,25 @@ use std::slice::{from_raw_parts, from_raw_parts_mut};
 #[no_mangle]
 pub unsafe extern "C" fn desk_check(file: *const u8, length: usize) -> u32 {
     let file = from_raw_parts(file, length);
-    catch_unwind(|| desk::desk_check(file)).unwrap_or(u32::MAX)
+    catch_unwind(|| desk_c::desk_check(file)).unwrap_or(u32::MAX)
 }
 
 #[no_mangle]
 pub unsafe extern "C" fn desk_bound(file: *const u8, length: usize) -> u64 {
     let file = from_raw_parts(file, length);
-    catch_unwind(|| desk::desk_bound(file)).unwrap_or(u64::MAX)
+    catch_unwind(|| desk_c::desk_bound(file)).unwrap_or(u64::MAX)
 }
 
 #[no_mangle]
 pub unsafe extern "C" fn desk_run(file: *const u8, length: usize, limit: u32, journal: *mut u8, room: usize) -> u64 {
     let (file, journal) = (from_raw_parts(file, length), from_raw_parts_mut(journal, room));
-    catch_unwind(AssertUnwindSafe(|| desk::desk_run(file, limit, journal))).unwrap_or(u64::MAX)
+    catch_unwind(AssertUnwindSafe(|| desk_c::desk_run(file, limit, journal))).unwrap_or(u64::MAX)
 }
 
 #[no_mangle]
 pub unsafe extern "C" fn desk_open(file: *const u8, length: usize, run: *mut u64, words: usize) -> u32 {
     let (file, run) = (from_raw_parts(file, length), from_raw_parts_mut(run, words));
-    catch_unwind(AssertUnwindSafe(|| desk::desk_open(file, run))).unwrap_or(u32::MAX)
+    catch_unwind(AssertUnwindSafe(|| desk_c::desk_open(file, run))).unwrap_or(u32::MAX)
 }
 
 #[no_mangle]
@@ -79,7 +79,7 @@ pub unsafe extern "C" fn desk_move(
 ) -> u64 {
     let (file, run) = (from_raw_parts(file, length), from_raw_parts_mut(run, words));
     let journal = from_raw_parts_mut(journal, room);
-    catch_unwind(AssertUnwindSafe(|| desk::desk_move(file, run, limit, journal))).unwrap_or(u64::MAX)
+    catch_unwind(AssertUnwindSafe(|| desk_c::desk_move(file, run, limit, journal))).unwrap_or(u64::MAX)
 }
 '''
 
@@ -111,11 +111,19 @@ def module(text):
     return re.sub(r'(?m)^(pub )?(struct|enum) ', r'#[derive(Clone, Copy)]\n\1\2 ', text)
 
 
+def listed():
+    """What each crate uses, as crates.txt lists it."""
+    rows = [line.partition(':') for line in (ROOT / 'crates.txt').read_text().split('\n') if line and line[0] != '#']
+    return {name: below.split() for name, _, below in rows}
+
+
 def named(*crates):
-    """These crates and those that they stand on, each once, as crates.txt lists them."""
-    rows = [line.partition(':') for line in (ROOT / 'crates.txt').read_text().split('\n') if line]
-    wanted = set(crates).union(*(below.split() for name, _, below in rows if name in crates))
-    return [name for name, _, _ in rows if name in wanted]
+    """These crates and all that they stand on, each once, in the order of crates.txt."""
+    rows, wanted, rest = listed(), set(), set(crates)
+    while rest:
+        wanted |= rest
+        rest = set().union(*(rows.get(name, []) for name in rest)) - wanted
+    return [name for name in rows if name in wanted]
 
 
 def sources(*crates):
@@ -143,7 +151,7 @@ def program(folder=NATIVE / 'plan'):
 def library(folder=NATIVE / 'desk', texts=None, kind='staticlib'):
     """The library of these sources, a static or a shared one; the folder that it is in."""
     crate_type = '\n[lib]\ncrate-type = ["%s"]\n' % kind
-    build(folder, 'desk', modules(texts or sources('desk')) + DESK, crate_type, 'overflow-checks = true\n')
+    build(folder, 'desk_c', modules(texts or sources('desk_c')) + DESK, crate_type, 'overflow-checks = true\n')
     return folder / 'target' / 'release'
 
 

@@ -1,5 +1,5 @@
 //! The second program's state as the row of 10,696 numbers that the desk holds of an open run, and back.
-//! The layout is the one that crates/work/specs/Work.antt describes; no code of the engine is used.
+//! The layout is the one that crates/row_work/specs/Work.antt describes; no code of the engine is used.
 
 use reference::model::{Model, LOCALS};
 use reference::run::{Entered, Event, Process, Returned, Standing, State, PLACES};

@@ -13,19 +13,19 @@ use Rattle.semantics.specs.Words.{if_then_else_}
 use Rattle.semantics.specs.Bytes.{recordsFrom}
 use Rattle.semantics.specs.State.{fresh}
 use Rattle.semantics.specs.Decode.{decode}
-use Rattle.model.specs.Check.{refusalOf}
-use Rattle.model.specs.declared.Refusal.{Refusal}
-use Rattle.model.proofs.Answer.{accepts}
+use Rattle.file_check.specs.Check.{refusalOf}
+use Rattle.file_check.specs.declared.Refusal.{Refusal}
+use Rattle.file_check.proofs.Answer.{accepts}
 use Rattle.promises.specs.Laws.{and-true}
-use Rattle.index.specs.Index.{Readable}
-use Rattle.index.proofs.Standing.{accepted-by}
-use Rattle.work.specs.Work.{workOf}
-use Rattle.map.specs.Map.{Mapped}
-use Rattle.map.specs.MapOf.{mapOf}
-use Rattle.begins.specs.Fresh.{Loaded}
-use Rattle.acting.specs.Acting.{Open}
-use Rattle.acting.proofs.Fresh.{fresh-open}
-use Rattle.whole.proofs.Says.{all-bytes}
+use Rattle.file_index.specs.Index.{Readable}
+use Rattle.file_index.proofs.Standing.{accepted-by}
+use Rattle.row_work.specs.Work.{workOf}
+use Rattle.file_map.specs.Map.{Mapped}
+use Rattle.file_map.specs.MapOf.{mapOf}
+use Rattle.row_begin_end.specs.Fresh.{Loaded}
+use Rattle.act_floor.specs.Acting.{Open}
+use Rattle.act_floor.proofs.Fresh.{fresh-open}
+use Rattle.run_file.proofs.Says.{all-bytes}
 use Rattle.plan.specs.Given.{Accepted}
 
 -- A file that the check doesn't refuse is accepted.

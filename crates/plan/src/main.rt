@@ -3,7 +3,7 @@
 // One byte more is read than a model may have, so that a file of over 65,535 bytes is refused like any other. The run is made in
 // turns of 62 steps: a step writes at most 66 lines and the journal has room for 4,096, so that 30 is never met. What a turn
 // wrote is printed in one piece, and the journal is empty again.
-use bound::Bounded;
+use file_bound::Bounded;
 ghost use mathlib.Core.Path.{_≡_};
 ghost use Prim.Native.Nat.{min};
 ghost use lib.ListN.{length};
@@ -12,7 +12,7 @@ ghost use Rattle.plan.specs.Given.{Accepted};
 // The number of the answer LIMIT.
 const LIMIT: u32 = 2;
 
-// The bound in one word, as `text::ending` takes it.
+// The bound in one word, as `plan_text::ending` takes it.
 fn bound_word(bounded: Bounded) -> u64 {
     match bounded {
         Bounded::At(n) => n as u64,
@@ -37,21 +37,21 @@ fn print_run(s: &[u8], bound: u64, out: &mut [u8])
     requires { ⌜ Accepted (now s) ⌝ }
     requires { ⌜ length (now out) ≡ 163840 ⌝ }
 {
-    let map = map::map_of(s);
+    let map = file_map::map_of(s);
     let mut w = [0u64; 10696];
     let mut journal = [0u8; 65536];
-    begins::fresh(s, &map.words, &mut w);
+    row_begin_end::fresh(s, &map.words, &mut w);
     let mut steps: u32 = 0;
     let mut answer: u32 = LIMIT;
     while (answer == LIMIT) & (steps < 1000000) {
         let limit = turn_steps(1000000 - steps);
-        let turn = turn::turn(s, &map.words, &mut w, limit, &mut journal, out);
+        let turn = plan_turn::turn(s, &map.words, &mut w, limit, &mut journal, out);
         let bytes = turn.bytes;
         print(&out[..bytes]);
         steps += turn.steps;
         answer = turn.answer;
     }
-    let bytes = text::ending(answer, steps, bound, out);
+    let bytes = plan_text::ending(answer, steps, bound, out);
     print(&out[..bytes]);
 }
 
@@ -59,13 +59,13 @@ fn print_run(s: &[u8], bound: u64, out: &mut [u8])
 fn plan(s: &[u8], out: &mut [u8])
     requires { ⌜ length (now out) ≡ 163840 ⌝ }
 {
-    let refusal = model::check(s);
+    let refusal = file_check::check(s);
     if refusal.number != 0 {
-        let bytes = text::refusal(refusal.number, refusal.place, out);
+        let bytes = plan_text::refusal(refusal.number, refusal.place, out);
         print(&out[..bytes]);
         return;
     }
-    let bound = bound_word(bound::bound(s));
+    let bound = bound_word(file_bound::bound(s));
     print_run(s, bound, out);
 }
 

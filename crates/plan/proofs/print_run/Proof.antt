@@ -4,10 +4,10 @@ use native.Mathlib.Omega.{arith}
 use mathlib.Core.Path.{_≡_, sym, _∙_}
 use lib.ListN.{length, length-replicate}
 use lib.Seq.{length-take-le}
-use Rattle.acting.specs.Acting.{Open}
-use Rattle.acting.specs.Running.{runs}
-use Rattle.acting.specs.Floor.{run-long}
-use Rattle.turn.proofs.Turned.{still-open, few-steps, all-steps}
+use Rattle.act_floor.specs.Acting.{Open}
+use Rattle.act_floor.specs.Running.{runs}
+use Rattle.act_floor.specs.Floor.{run-long}
+use Rattle.plan_turn.proofs.Turned.{still-open, few-steps, all-steps}
 use Rattle.plan.proofs.Opening.{reads, loaded, opened, leftOf, falls}
 use borrow.Author.Needs.{needs}
 use Rattle.plan.proofs.print_run.Statement.{statement}

@@ -1,0 +1,51 @@
+-- An open run in the engine's hands, and what a step makes of the work and the journal. Assumes nothing.
+use Prim.Native.Nat.{ℕ, _+_, _*_, _≤_}
+use mathlib.Core.Path.{_≡_}
+use mathlib.Core.List.{List}
+use mathlib.Core.Option.{some}
+use lib.ListN.{length}
+use Rattle.semantics.specs.Words.{Outcome, ok, fails}
+use Rattle.semantics.specs.Model.{Action, Model}
+use Rattle.semantics.specs.State.{State, held, process}
+use Rattle.semantics.specs.Claim.{standsIn}
+use Rattle.semantics.specs.Walk.{Next}
+use Rattle.semantics.specs.Run.{goesOn, before}
+use Rattle.promises.specs.Fit.{Fit, Nested}
+use Rattle.promises.specs.Sound.{Sound}
+use Rattle.row_work.specs.Work.{workOf}
+use Rattle.row_work.specs.Sized.{Rounds}
+use Rattle.file_map.specs.Map.{Mapped}
+use Rattle.base_journal.specs.Wrote.{wroteAt}
+
+-- A sound run of an accepted model: w shows its state, and map and bs are its model's.
+pub record Open (bs map w : List ℕ) : Type 0 where
+  pub model : Model
+  pub fits : Fit model
+  pub nested : Nested model
+  pub few-rounds : Rounds model
+  pub mapped : Mapped bs model map
+  pub is : State
+  pub shows : w ≡ workOf is
+  pub sound : Sound model is
+
+-- It goes on: it is not closed, and somebody has the floor or is in the event list.
+pub record Going (bs map w : List ℕ) : Type 0 where
+  pub running : Open bs map w
+  pub goes-on : before (running .is) ≡ goesOn
+
+-- In it the process in place p has the floor and stands at the action x.
+pub record Acting (bs map w : List ℕ) (p : ℕ) (x : Action) : Type 0 where
+  pub running : Open bs map w
+  pub on-floor : running .is .floor ≡ held p
+  pub stands : standsIn (running .model) (process (running .is) p .frames) ≡ some x
+
+-- Room for a line for each of the 64 places and two more.
+abbrev pub Roomy : ℕ → List ℕ → Type 0
+Roomy at out = 16 * (at + 66) ≤ length out
+
+-- The step o was made: `fault` is 0 or its fault, `lines` is how many lines it wrote, from line `at` on. A fault leaves all as
+-- it was.
+abbrev pub Stepped : Outcome Next → (fault lines : ℕ) (w w′ : List ℕ) (at : ℕ) (out out′ : List ℕ) → Type 0
+Stepped (ok n) fault lines w w′ at out out′ =
+    (fault ≡ 0) × ((lines ≡ length (n .lines)) × ((w′ ≡ workOf (n .state)) × (out′ ≡ wroteAt at (n .lines) out)))
+Stepped (fails k) fault lines w w′ at out out′ = (fault ≡ k) × ((lines ≡ 0) × ((w′ ≡ w) × (out′ ≡ out)))

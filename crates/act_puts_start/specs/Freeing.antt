@@ -1,0 +1,28 @@
+-- Slaves that were let go, in the middle of a step. Assumes nothing.
+use Prim.Native.Nat.{ℕ, _+_, _≤_, _<_}
+use mathlib.Core.Path.{_≡_}
+use mathlib.Core.List.{List}
+use lib.ListN.{length, take}
+use Rattle.semantics.specs.Model.{Model}
+use Rattle.semantics.specs.State.{State}
+use Rattle.promises.specs.Laws.{over, once}
+use Rattle.promises.specs.Fit.{Fit, Nested}
+use Rattle.promises.specs.Sound.{onFloor, Held}
+use Rattle.row_work.specs.Work.{workOf, FloorSized}
+use Rattle.row_work.specs.Sized.{Rounds}
+
+-- The n processes whose places `places` begins with were slaves of sync i, and are in hand.
+pub record Freeing (w : List ℕ) (i : ℕ) (places : List ℕ) (n : ℕ) : Type 0 where
+  pub model : Model
+  pub fits : Fit model
+  pub nested : Nested model
+  pub few-rounds : Rounds model
+  pub is : State
+  pub shows : w ≡ workOf is
+  pub gone : List ℕ
+  pub holds : Held model is (is .blocked) (λ k. over (once k) gone + onFloor k (is .floor)) (λ j. 0)
+  pub floor-ok : FloorSized (is .floor)
+  pub many : length gone ≡ n
+  pub inside : n ≤ length places
+  pub places-are : take n places ≡ gone
+  pub sync-low : i < 32

@@ -1,0 +1,234 @@
+// What a process on the floor hands over: shares to one that it starts, and slaves that it lets go.
+ghost use mathlib.Core.Path.{_≡_};
+ghost use mathlib.Core.List.{[], _∷_};
+ghost use mathlib.Core.Bool.{_&&_};
+ghost use Prim.Native.Nat.{_+_, _*_, _≤_, _<_};
+ghost use lib.Dec.{ltb};
+ghost use lib.ListN.{length, getD};
+ghost use lib.IntN.{pos};
+ghost use Rattle.semantics.specs.Model.{PUTS};
+ghost use Rattle.semantics.specs.Words.{all};
+ghost use Rattle.semantics.specs.Bytes.{u32};
+ghost use Rattle.semantics.specs.Record.{shareOf};
+ghost use Rattle.semantics.specs.State.{process, living, wake};
+ghost use Rattle.semantics.specs.Walk.{line};
+ghost use Rattle.semantics.specs.Step.{freeAll, puts, start};
+ghost use Rattle.base_journal.specs.Wrote.{wroteAt};
+ghost use Rattle.row_work.specs.Work.{workOf, Doing, Done};
+ghost use Rattle.row_process.specs.Process.{Shown, Lives};
+ghost use Rattle.row_lists.specs.Lists.{Any};
+ghost use Rattle.act_floor.specs.Acting.{Roomy, Stepped};
+ghost use Rattle.act_floor.specs.Running.{On, made, runs};
+ghost use Rattle.act_puts_start.specs.Freeing.{Freeing};
+ghost use Rattle.act_puts_start.specs.Shares.{has, Offering, Moves, moves, Moving};
+ghost use Rattle.act_puts_start.specs.Hands.{Starting};
+use act_floor::Went;
+
+// The code of 0.
+const ZERO: u32 = 2147483648;
+
+fn wide(x: u32) -> u64
+    ensures { λ r. ⌜ (r ≡ x) × (r < 4294967296) ⌝ }
+{
+    x as u64
+}
+
+// ---- what is read
+
+// The last number given.
+fn last_of(w: &[u64]) -> u64
+    requires { ⌜ Shown (now w) Any ⌝ }
+    ensures { λ r. ⌜ ((v : Shown (now (w .entry)) Any) → r ≡ v .is .last) × (r ≤ 2147483647) ⌝ }
+{
+    w[2]
+}
+
+// ---- shares
+
+// Whether the process in place p has the share whose 6 bytes are i.
+fn has_share<'a>(i: &'a [u8], w: &'a [u64], p: usize) -> bool
+    requires { ⌜ Shown (now w) (λ s. (p < 64) × (shareOf (now i) .of < length (process s p .held))) × (6 ≤ length (now i)) ⌝ }
+    ensures { λ r. ⌜ ((v : Shown (now (w .entry)) (λ s. (p < 64) × (shareOf (now (i .entry)) .of < length (process s p .held))))
+        → r ≡ has (process (v .is) p) (shareOf (now (i .entry)))) ⌝ }
+{
+    let of = file_fields::u16_at(i, 0) as usize;
+    let amount = wide(file_fields::u32_at(i, 2));
+    amount <= row_process::held_of(w, p, of)
+}
+
+// Whether it has all shares of `body`.
+fn has_shares<'a>(body: &'a [u8], w: &'a [u64], p: usize) -> bool
+    requires { ⌜ Offering (now body) (now w) p ⌝ }
+    ensures { λ r. ⌜ ((v : Offering (now (body .entry)) (now (w .entry)) p)
+        → r ≡ all (has (process (v .shown .is) p)) (v .shares)) ⌝ }
+{
+    let mut left = file_fields::u16_at(body, 6);
+    let mut rest = &body[8..];
+    while 0 < left {
+        if !has_share(&rest[..6], w, p) {
+            return false;
+        }
+        rest = &rest[6..];
+        left = left - 1;
+    }
+    true
+}
+
+// The process in place p gives that share away, or takes it up.
+fn move_share<'a>(i: &'a [u8], w: &'a mut [u64], p: usize, away: bool)
+    requires { ⌜ Doing (now w) (Moves p away (shareOf (now i))) (moves p away (shareOf (now i))) × (6 ≤ length (now i)) ⌝ }
+    ensures { λ _. ⌜ Done (now (w .entry)) (Moves p away (shareOf (now (i .entry)))) (moves p away (shareOf (now (i .entry))))
+        (now (w .exit)) ⌝ }
+{
+    let of = file_fields::u16_at(i, 0) as usize;
+    let amount = wide(file_fields::u32_at(i, 2));
+    if away {
+        row_process::give_back(w, p, of, amount);
+        return;
+    }
+    row_process::take_up(w, p, of, amount);
+}
+
+// All shares of `body`.
+fn move_shares<'a>(body: &'a [u8], w: &'a mut [u64], p: usize, away: bool)
+    requires { ⌜ Moving (now body) (now w) p away ⌝ }
+    ensures { λ _. ⌜ ((v : Moving (now (body .entry)) (now (w .entry)) p away) → now (w .exit) ≡ workOf (v .goal)) ⌝ }
+{
+    let mut left = file_fields::u16_at(body, 6);
+    let mut rest = &body[8..];
+    while 0 < left {
+        move_share(&rest[..6], w, p, away);
+        rest = &rest[6..];
+        left = left - 1;
+    }
+}
+
+// ---- START
+
+// When the new process enters.
+fn time_of<'a>(body: &'a [u8], w: &'a [u64]) -> u64
+    requires { ⌜ Shown (now w) Any × (6 ≤ length (now body)) ⌝ }
+    ensures { λ r. ⌜ ((v : Shown (now (w .entry)) Any) → r ≡ v .is .clock + u32 (now (body .entry)) 2) ⌝ }
+{
+    act_floor::clock_of(w) + wide(file_fields::u32_at(body, 2))
+}
+
+// Whether one more can begin: there is a place and a number for it.
+fn can_begin(w: &[u64]) -> bool
+    requires { ⌜ Shown (now w) Any ⌝ }
+    ensures { λ r. ⌜ ((v : Shown (now (w .entry)) Any) → r ≡ (ltb (living (v .is)) 64 && ltb (v .is .last) 2147483647)) ⌝ }
+{
+    (base_places::living_count(w[4]) < 64) & (last_of(w) < 2147483647)
+}
+
+// The line of the one that begins next.
+fn note_start<'a>(w: &'a [u64], out: &'a mut [u8], at: usize, class: u32)
+    requires { ⌜ Shown (now w) Any × ((16 * at + 16 ≤ length (now out)) × (class < 65536)) ⌝ }
+    ensures { λ _. ⌜ ((v : Shown (now (w .entry)) Any) → now (out .exit)
+        ≡ wroteAt at (line (v .is) (v .is .last + 1) 1 (pos class) ∷ []) (now (out .entry))) ⌝ }
+{
+    let clock = act_floor::clock_of(w) as u32;
+    let number = last_of(w) as u32 + 1;
+    base_journal::write_line(out, at, 1, clock, number, ZERO + class);
+}
+
+// The body block of a class.
+fn body_of(map: &[u32], class: u32) -> u64
+    requires { ⌜ 1281 + class < length (now map) ⌝ }
+    ensures { λ r. ⌜ r ≡ getD (now (map .entry)) (1281 + class) 0 ⌝ }
+{
+    wide(map[1281 + class as usize])
+}
+
+pub fn start<'a>(
+    body: &'a [u8],
+    map: &'a [u32],
+    w: &'a mut [u64],
+    out: &'a mut [u8],
+    at: usize,
+    p: usize,
+) -> Went
+    requires { ⌜ Starting (now body) (now map) (now w) p ⌝ }
+    requires { ⌜ Roomy at (now out) ⌝ }
+    ensures { λ r. ⌜ ((v : Starting (now (body .entry)) (now (map .entry)) (now (w .entry)) p)
+        → Stepped (made (runs (v .acting .running)) p (λ m s q. start m s p q (v .class) (v .offset) (v .shares)))
+        (r .fault) (r .lines) (now (w .entry)) (now (w .exit)) at (now (out .entry)) (now (out .exit))) ⌝ }
+{
+    let time = time_of(body, w);
+    if 2000000000 < time {
+        return Went {
+            fault: 23,
+            lines: 0,
+        };
+    }
+    if !has_shares(body, w, p) {
+        return Went {
+            fault: 24,
+            lines: 0,
+        };
+    }
+    if !can_begin(w) {
+        return Went {
+            fault: 27,
+            lines: 0,
+        };
+    }
+    let class = file_fields::u16_at(body, 0);
+    note_start(w, out, at, class);
+    move_shares(body, w, p, true);
+    row_process::past(w, p);
+    let block = body_of(map, class);
+    let place = row_begin_end::begin(w, block, time);
+    move_shares(body, w, place, false);
+    Went { fault: 0, lines: 1 }
+}
+
+// ---- PUTS
+
+// The one in place r, which was a slave of sync i, enters the event list now.
+fn free_one<'a>(w: &'a mut [u64], out: &'a mut [u8], at: usize, i: u64, r: usize)
+    requires { ⌜ Doing (now w) (Lives r) (λ s. wake (s .clock) r s) × ((16 * at + 16 ≤ length (now out)) × (i < 32)) ⌝ }
+    ensures { λ _. ⌜ Done (now (w .entry)) (Lives r) (λ s. wake (s .clock) r s) (now (w .exit)) ⌝ }
+    ensures { λ _. ⌜ ((d : Doing (now (w .entry)) (Lives r) (λ s. wake (s .clock) r s)) → now (out .exit)
+        ≡ wroteAt at (line (d .is) (process (d .is) r .number) 8 (pos i) ∷ []) (now (out .entry))) ⌝ }
+{
+    let clock = act_floor::clock_of(w);
+    let number = row_process::number_of(w, r) as u32;
+    base_journal::write_line(out, at, 8, clock as u32, number, ZERO + i as u32);
+    row_lists::wake(w, clock, r);
+}
+
+// The first n of `places`, one after the other.
+fn free_all<'a>(w: &'a mut [u64], out: &'a mut [u8], at: usize, i: u64, places: &'a [u64], n: usize)
+    requires { ⌜ Freeing (now w) i (now places) n ⌝ }
+    requires { ⌜ 16 * (at + n) ≤ length (now out) ⌝ }
+    ensures { λ _. ⌜ ((v : Freeing (now (w .entry)) i (now (places .entry)) n)
+        → (now (w .exit) ≡ workOf (freeAll i (v .gone) (v .is) .state))
+        × (now (out .exit) ≡ wroteAt at (freeAll i (v .gone) (v .is) .lines) (now (out .entry)))) ⌝ }
+{
+    let mut k = 0;
+    while k < n {
+        let r = places[k] as usize;
+        free_one(w, out, at + k, i, r);
+        k += 1;
+    }
+}
+
+pub fn puts<'a>(w: &'a mut [u64], out: &'a mut [u8], at: usize, p: usize, i: u64, n: usize) -> Went
+    requires { ⌜ On (now w) p (PUTS i n) ⌝ }
+    requires { ⌜ Roomy at (now out) ⌝ }
+    ensures { λ r. ⌜ ((v : On (now (w .entry)) p (PUTS i n)) → Stepped (made (v .running) p (λ m s q. puts m s p q i n))
+        (r .fault) (r .lines) (now (w .entry)) (now (w .exit)) at (now (out .entry)) (now (out .exit))) ⌝ }
+{
+    if row_slaves::owned(w, p, i) < n {
+        return Went {
+            fault: 25,
+            lines: 0,
+        };
+    }
+    let mut places = [0u64; 64];
+    row_slaves::release(w, p, i, n, &mut places);
+    row_process::past(w, p);
+    free_all(w, out, at, i, &places, n);
+    Went { fault: 0, lines: n }
+}

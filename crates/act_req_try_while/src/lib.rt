@@ -1,0 +1,87 @@
+// REQ, TRY and WHILE of the process on the floor: it takes a branch, or is blocked, or passes on.
+ghost use Rattle.semantics.specs.Model.{WHILE};
+ghost use Rattle.semantics.specs.Step.{request, while};
+ghost use Rattle.act_floor.specs.Acting.{Roomy, Stepped};
+ghost use Rattle.act_req_try_while.specs.Asks.{Requesting, Looping, Branching, Branched, state, made, taken};
+use act_floor::Went;
+
+// The code of 0.
+const ZERO: u32 = 2147483648;
+
+// The branch of action a that the process in place p may take is taken, if there is one; whether there was.
+fn take_branch<'a>(
+    s: &'a [u8],
+    map: &'a [u32],
+    w: &'a mut [u64],
+    out: &'a mut [u8],
+    at: usize,
+    p: usize,
+    a: usize,
+    enters: bool,
+) -> bool
+    requires { ⌜ Branching (now s) (now map) (now w) p a enters ⌝ }
+    requires { ⌜ Roomy at (now out) ⌝ }
+    ensures { λ r. ⌜ ((v : Branching (now (s .entry)) (now (map .entry)) (now (w .entry)) p a enters)
+        → Branched (taken (v .asked)) r p (state (v .asked)) (now (w .entry)) (now (w .exit))
+        at (now (out .entry)) (now (out .exit))) ⌝ }
+{
+    let ahead = row_lists::place_in_front(w, p);
+    let n = row_grant::choice(s, map, w, a, ahead);
+    let first = file_map::number_at(map, 1345 + a);
+    let many = file_map::number_at(map, 1346 + a) - first;
+    if many <= n {
+        return false;
+    }
+    act_floor::note(w, p, out, at, 4, ZERO + n as u32);
+    row_grant::grant(s, map, w, p, first + n, enters);
+    true
+}
+
+// REQ, or TRY, which enters a block.
+pub fn request<'a>(
+    s: &'a [u8],
+    map: &'a [u32],
+    w: &'a mut [u64],
+    out: &'a mut [u8],
+    at: usize,
+    p: usize,
+    a: usize,
+    enters: bool,
+) -> Went
+    requires { ⌜ Requesting (now s) (now map) (now w) p a enters ⌝ }
+    requires { ⌜ Roomy at (now out) ⌝ }
+    ensures { λ r. ⌜ ((v : Requesting (now (s .entry)) (now (map .entry)) (now (w .entry)) p a enters)
+        → Stepped (made (v .asked) (λ m s q. request m s p q (v .action)))
+        (r .fault) (r .lines) (now (w .entry)) (now (w .exit)) at (now (out .entry)) (now (out .exit))) ⌝ }
+{
+    if take_branch(s, map, w, out, at, p, a, enters) {
+        return Went { fault: 0, lines: 1 };
+    }
+    act_floor::note(w, p, out, at, 3, ZERO);
+    row_lists::join_blocked(w, p);
+    act_floor::leave_floor(w);
+    Went { fault: 0, lines: 1 }
+}
+
+// WHILE.
+pub fn pass_or_enter<'a>(
+    s: &'a [u8],
+    map: &'a [u32],
+    w: &'a mut [u64],
+    out: &'a mut [u8],
+    at: usize,
+    p: usize,
+    a: usize,
+) -> Went
+    requires { ⌜ Looping (now s) (now map) (now w) p a ⌝ }
+    requires { ⌜ Roomy at (now out) ⌝ }
+    ensures { λ r. ⌜ ((v : Looping (now (s .entry)) (now (map .entry)) (now (w .entry)) p a)
+        → Stepped (made (v .asked) (λ m s q. while m s p q (WHILE (v .looped) (v .claim))))
+        (r .fault) (r .lines) (now (w .entry)) (now (w .exit)) at (now (out .entry)) (now (out .exit))) ⌝ }
+{
+    if take_branch(s, map, w, out, at, p, a, true) {
+        return Went { fault: 0, lines: 1 };
+    }
+    row_process::past(w, p);
+    Went { fault: 0, lines: 0 }
+}

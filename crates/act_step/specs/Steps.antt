@@ -1,0 +1,88 @@
+-- Where a step stands: the process that has the floor, the record that it meets, and what was first in the event list.
+-- Assumes nothing.
+use Prim.Native.Nat.{ℕ, _+_}
+use mathlib.Core.Path.{_≡_}
+use mathlib.Core.List.{List}
+use mathlib.Core.Bool.{false}
+use mathlib.Core.Option.{some}
+use lib.ListN.{getD, getElem?}
+use lib.IntN.{ℤ}
+use Rattle.semantics.specs.Words.{Outcome}
+use Rattle.semantics.specs.Model.{Action, Model, block}
+use Rattle.semantics.specs.State.{State, Notice, empty, held, process, with-floor}
+use Rattle.semantics.specs.Walk.{Next}
+use Rattle.semantics.specs.Step.{act}
+use Rattle.promises.specs.Fit.{Fit, Nested}
+use Rattle.promises.specs.Sound.{noticed, gives, NoticeOk, Held, Sound}
+use Rattle.file_index.specs.Ties.{kindAt, bodyAt, ActionAt}
+use Rattle.base_ordered.specs.Lines.{dataOf}
+use Rattle.row_work.specs.Work.{workOf, NoticeSized}
+use Rattle.row_work.specs.Sized.{Rounds}
+use Rattle.file_map.specs.Map.{Mapped}
+use Rattle.act_floor.specs.Acting.{Open, Acting}
+use Rattle.act_req_try_while.specs.Asks.{Asked}
+
+-- The process in place p has the floor.
+pub record Floored (bs map w : List ℕ) (p : ℕ) : Type 0 where
+  pub running : Open bs map w
+  pub on-floor : running .is .floor ≡ held p
+
+-- It stands at an action, whose number in the map is a;
+pub record Stands (bs map w : List ℕ) (p a : ℕ) : Type 0 where
+  pub action : Action
+  pub asked : Asked bs map w p a action
+
+-- or whose record is of kind k and has this body;
+pub record Meets (body bs map w : List ℕ) (p k : ℕ) : Type 0 where
+  pub action : Action
+  pub acting : Acting bs map w p action
+  pub inside : ℕ  -- which block
+  pub index : ℕ
+  pub there : getElem? (block (acting .running .model) inside) index ≡ some action
+  pub place : ℕ
+  pub here : ActionAt bs place action
+  pub kind-is : k ≡ kindAt bs place
+  pub body-is : body ≡ bodyAt bs place
+
+-- or both.
+pub record MeetsAt (body bs map w : List ℕ) (p k a : ℕ) : Type 0 where
+  pub meets : Meets body bs map w p k
+  pub number-is : a ≡ getD map (meets .inside) 0 + meets .index
+
+-- What the definitions make of it.
+abbrev pub acted : {bs map w : List ℕ} {p : ℕ} {x : Action} → Acting bs map w p x → Outcome Next
+acted {p = p} {x} v = act (v .running .model) (v .running .is) p (process (v .running .is) p) x
+
+abbrev pub doing : {body bs map w : List ℕ} {p k : ℕ} → Meets body bs map w p k → Outcome Next
+doing v = acted (v .acting)
+
+-- Nobody has the floor, and the process in place p is in no list: it may take it.
+pub record Waking (bs map w : List ℕ) (p : ℕ) : Type 0 where
+  pub model : Model
+  pub fits : Fit model
+  pub nested : Nested model
+  pub few-rounds : Rounds model
+  pub mapped : Mapped bs model map
+  pub is : State
+  pub shows : w ≡ workOf is
+  pub not-closed : is .closed ≡ false
+  pub nobody-has : is .floor ≡ empty
+  pub sound : Sound model (with-floor is (held p))
+
+-- A notice, by its word, was first in the event list and is out of it: what it tells is in hand, and nobody has the floor.
+pub record Occurring (bs map w : List ℕ) (word : ℕ) : Type 0 where
+  pub model : Model
+  pub fits : Fit model
+  pub nested : Nested model
+  pub few-rounds : Rounds model
+  pub mapped : Mapped bs model map
+  pub is : State
+  pub shows : w ≡ workOf is
+  pub notice : Notice
+  pub word-is : word ≡ dataOf notice
+  pub notice-small : NoticeSized notice
+  pub not-closed : is .closed ≡ false
+  pub nobody-has : is .floor ≡ empty
+  pub holds : Held model is (is .blocked) (λ k. noticed k notice) (λ j. gives j notice)
+  pub priority : ℤ
+  pub tells : NoticeOk model (is .last) (is .processes) priority notice

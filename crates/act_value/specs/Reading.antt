@@ -1,0 +1,93 @@
+-- What the value of an expression is read from, and what has been read of it: its nodes in prefix order, against the pile.
+-- Assumes nothing.
+use Prim.Native.Nat.{ℕ, _+_, _-_, _≤_, _<_}
+use mathlib.Core.Path.{_≡_, _∙_, ap}
+use mathlib.Core.List.{List, [], _∷_, _++_, map}
+use mathlib.Core.Bool.{Bool, true}
+use mathlib.Core.Option.{Option, none, some}
+use lib.ListN.{length, getD, drop, replicate}
+use lib.IntN.{ℤ, _+ℤ_, _-ℤ_, _*ℤ_}
+use Rattle.semantics.specs.Words.{if_then_else_, Outcome, ok, fails}
+use Rattle.semantics.specs.Numbers as No
+use Rattle.semantics.specs.Model.{Model, Expr}
+use Rattle.semantics.specs.Bytes.{u16, u32, signed}
+use Rattle.semantics.specs.Record.{nodes, pile, theTree, expression, sized, valid, expressionIn}
+use Rattle.semantics.specs.Value.{inRange}
+use Rattle.promises.specs.Laws.{AllOf}
+use Rattle.promises.specs.Fit.{I32, ExprFit}
+use Rattle.base_number.specs.Code.{code, valueIn, outcomeOf, smaller, larger}
+use Rattle.base_number.specs.Laws.{told}
+use Rattle.base_number.specs.declared.Value.{Value}
+use Rattle.act_value.specs.Parts.{evalIn, evalIn-ranged}
+use Rattle.act_value.specs.declared.Node.{Node}
+use Rattle.act_value.specs.declared.Tree.{Tree}
+
+-- A list in a row of n places: what is not used is a.
+abbrev pub pad : {A : Type 0} → ℕ → A → List A → List A
+pad n a xs = xs ++ replicate (n - length xs) a
+
+-- The bytes bs are an expression of the model, the rows show its variables gs and a process's locals ls by their codes, and
+-- t is the clock. (That the ops are known and the operands right is not needed to read the nodes one after the other, but may be
+-- where it is done in another way.)
+pub record Readable (bs globals locals : List ℕ) (t : ℕ) : Type 0 where
+  pub model : Model
+  pub gs : List ℤ
+  pub ls : List ℤ
+  pub is-sized : sized expression bs ≡ true
+  pub is-valid : valid expression bs ≡ true
+  pub fits : ExprFit model (expressionIn bs)
+  pub few-vars : length (model .vars) ≤ 32
+  pub vars-many : length gs ≡ length (model .vars)
+  pub locals-many : length ls ≡ No.locals
+  pub globals-ok : AllOf I32 gs
+  pub locals-ok : AllOf I32 ls
+  pub clock-ok : t ≤ No.latest
+  pub shows-globals : globals ≡ pad 32 0 (map code gs)
+  pub shows-locals : locals ≡ pad 8 0 (map code ls)
+
+-- The number at i of a row is there, and is a code.
+pub record HasCode (row : List ℕ) (i : ℕ) : Type 0 where
+  pub there : i < length row
+  pub is-code : getD row i 0 < 4_294_967_296
+
+-- The code of a leaf's value, by its op and operand.
+unfoldable pub leafCode : List ℕ → List ℕ → ℕ → ℕ → ℕ → ℕ
+leafCode globals locals t op v =
+    getD (code (signed v) ∷ getD globals v 0 ∷ getD locals v 0 ∷ []) op (2_147_483_648 + t)
+
+-- The value of an op 3 to 7 over the values of its operands; given that both have one.
+abbrev pub twoBy : ℕ → ℤ → ℤ → Outcome ℤ
+twoBy i x y =
+    getD (inRange (x +ℤ y) ∷ inRange (x -ℤ y) ∷ inRange (x *ℤ y) ∷ ok (smaller x y) ∷ []) i (ok (larger x y))
+
+unfoldable pub ofTwo : ℕ → ℤ → ℤ → Outcome ℤ
+ofTwo op x y = twoBy (op - 3) x y
+
+abbrev pub given : Bool → Outcome ℤ → Outcome ℤ
+given t o = if t then o else fails No.SUM
+
+-- What is left of a pile below its first tree.
+abbrev pub theRest : Option (List Expr) → Option (List Expr)
+theRest none = none
+theRest (some []) = some []
+theRest (some (e ∷ es)) = some es
+
+-- What stands at node k of bs.
+pub record Stands (bs : List ℕ) (k : ℕ) (r : Node) : Type 0 where
+  pub has-op : r .op ≡ u16 (getD (nodes bs) k []) 0
+  pub has-operand : r .operand ≡ u32 (getD (nodes bs) k []) 2
+
+-- The tree that begins at node k of ns has been read: its value, and the node after it, from where on the rest is piled.
+pub record Read (gs ls : List ℤ) (t : ℕ) (ns : List (List ℕ)) (k : ℕ) (r : Tree) : Type 0 where
+  pub has : r .value ≡ valueIn (evalIn gs ls t (theTree (pile (drop k ns))))
+  pub onward : k < r .next
+  pub inside : r .next ≤ length ns
+  pub rest : pile (drop (r .next) ns) ≡ theRest (pile (drop k ns))
+
+-- What a caller learns from the answer r of `evaluate`: the outcome that the definitions have.
+pub answered : {bs globals locals : List ℕ} {t : ℕ} (w : Readable bs globals locals t) (r : Value) →
+    r ≡ valueIn (evalIn (w .gs) (w .ls) t (expressionIn bs)) → outcomeOf r ≡ evalIn (w .gs) (w .ls) t (expressionIn bs)
+answered {bs} {t = t} w r e =
+    ap outcomeOf e
+    ∙ told _
+    (evalIn-ranged (w .model) (w .gs) (w .ls) t (w .globals-ok) (w .locals-ok) (w .clock-ok) (expressionIn bs) (w .fits))

@@ -1,0 +1,146 @@
+// The value of an expression, from the bytes of its nodes, by recursion over them.
+ghost use mathlib.Core.Path.{_≡_};
+ghost use Prim.Native.Nat.{_≤_, _<_, _/_};
+ghost use lib.ListN.{length, getD};
+ghost use lib.IntN.{negℤ};
+ghost use Rattle.semantics.specs.Numbers as No;
+ghost use Rattle.semantics.specs.Record.{nodes, expressionIn};
+ghost use Rattle.semantics.specs.Value.{inRange};
+ghost use Rattle.file_check_tails.specs.Tails.{arity};
+ghost use Rattle.base_number.specs.Code.{valueOf, valueIn};
+ghost use Rattle.act_value.specs.Parts.{evalIn};
+ghost use Rattle.act_value.specs.Reading.{Readable, Stands, Read, HasCode, leafCode, ofTwo, given};
+use base_number::Value;
+
+// How many operands each op takes.
+const OPERANDS: [u32; 10] = [0, 0, 0, 2, 2, 2, 2, 2, 0, 1];
+
+struct Node {
+    op: u32,
+    operand: u32,
+}
+
+// A tree that has been read: its value, and the node after it.
+struct Tree {
+    value: Value,
+    next: usize,
+}
+
+fn node_at(bs: &[u8], k: usize) -> Node
+    requires { ⌜ k < length (now bs) / 6 ⌝ }
+    ensures { λ r. ⌜ Stands (now (bs .entry)) k r ⌝ }
+{
+    let from = 6 * k;
+    let to = from + 6;
+    let node = &bs[from..to];
+    let op = file_fields::u16_at(node, 0);
+    let operand = file_fields::u32_at(node, 2);
+    Node { op, operand }
+}
+
+// How many trees an op takes for its operands; an unknown op is a leaf.
+fn operands(op: u32) -> u32
+    ensures { λ r. ⌜ r ≡ arity op ⌝ }
+{
+    let at = op as usize;
+    if at < 10 {
+        return OPERANDS[at];
+    }
+    0
+}
+
+// The code that stands in a row of numbers.
+fn code_at(row: &[u64], i: u32) -> u32
+    requires { ⌜ HasCode (now row) i ⌝ }
+    ensures { λ r. ⌜ r ≡ getD (now (row .entry)) i 0 ⌝ }
+{
+    row[i as usize] as u32
+}
+
+// The code of a leaf's value.
+fn leaf<'a>(globals: &'a [u64], locals: &'a [u64], clock: u32, op: u32, operand: u32) -> u32
+    requires { ⌜ (clock ≤ No.latest) × ((op ≡ 1 → HasCode (now globals) operand) × (op ≡ 2 → HasCode (now locals) operand)) ⌝ }
+    ensures { λ r. ⌜ r ≡ leafCode (now (globals .entry)) (now (locals .entry)) clock op operand ⌝ }
+{
+    match op {
+        0 => base_number::from_twos(operand),
+        1 => code_at(globals, operand),
+        2 => code_at(locals, operand),
+        _ => 2147483648 + clock,
+    }
+}
+
+// An op 3 to 7 on the values of its operands, where both have one.
+fn of_two(op: u32, both: bool, x: u32, y: u32) -> Value
+    requires { ⌜ 3 ≤ op ⌝ }
+    ensures { λ r. ⌜ r ≡ valueIn (given both (ofTwo op (valueOf x) (valueOf y))) ⌝ }
+{
+    if !both {
+        return Value { ok: false, code: 0 };
+    }
+    match op {
+        3 => base_number::add(x, y),
+        4 => base_number::subtract(x, y),
+        5 => base_number::multiply(x, y),
+        6 => Value {
+            ok: true,
+            code: base_number::lesser(x, y),
+        },
+        _ => Value {
+            ok: true,
+            code: base_number::greater(x, y),
+        },
+    }
+}
+
+fn negated(has: bool, x: u32) -> Value
+    ensures { λ r. ⌜ r ≡ valueIn (given has (inRange (negℤ (valueOf x)))) ⌝ }
+{
+    if has {
+        base_number::negate(x)
+    } else {
+        Value { ok: false, code: 0 }
+    }
+}
+
+// The tree that begins at the k-th node.
+fn tree_at<'a>(bs: &'a [u8], globals: &'a [u64], locals: &'a [u64], clock: u32, k: usize) -> Tree
+    requires { ⌜ Readable (now bs) (now globals) (now locals) clock × (k < length (now bs) / 6) ⌝ }
+    ensures { λ r. ⌜ ((w : Readable (now (bs .entry)) (now (globals .entry)) (now (locals .entry)) clock) →
+        Read (w .gs) (w .ls) clock (nodes (now (bs .entry))) k r) ⌝ }
+{
+    let node = node_at(bs, k);
+    let many = operands(node.op);
+    if many == 0 {
+        let code = leaf(globals, locals, clock, node.op, node.operand);
+        return Tree {
+            value: Value { ok: true, code },
+            next: k + 1,
+        };
+    }
+    let first = tree_at(bs, globals, locals, clock, k + 1);
+    if many == 1 {
+        let value = negated(first.value.ok, first.value.code);
+        return Tree {
+            value,
+            next: first.next,
+        };
+    }
+    let second = tree_at(bs, globals, locals, clock, first.next);
+    let both = first.value.ok & second.value.ok;
+    let value = of_two(node.op, both, first.value.code, second.value.code);
+    Tree {
+        value,
+        next: second.next,
+    }
+}
+
+// The value of the expression that stands in bs.
+pub fn evaluate<'a>(bs: &'a [u8], globals: &'a [u64], locals: &'a [u64], clock: u32) -> Value
+    requires { ⌜ Readable (now bs) (now globals) (now locals) clock ⌝ }
+    ensures { λ r. ⌜ ((w : Readable (now (bs .entry)) (now (globals .entry)) (now (locals .entry)) clock) →
+        r ≡ valueIn (evalIn (w .gs) (w .ls) clock (expressionIn (now (bs .entry))))) ⌝ }
+{
+    let whole = tree_at(bs, globals, locals, clock, 0);
+    whole.value
+}

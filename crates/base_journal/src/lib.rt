@@ -1,0 +1,46 @@
+// The journal as bytes: a line of it written into a lent slice, 16 bytes for each line.
+ghost use mathlib.Core.Path.{_≡_};
+ghost use Prim.Native.Nat.{_+_, _*_, _%_, _≤_, _<_};
+ghost use lib.ListN.{length};
+ghost use lib.Seq.{sets};
+ghost use Rattle.semantics.specs.Journal.{le16, le32, lineBytes};
+ghost use Rattle.base_number.specs.Code.{valueOf};
+
+fn low_byte(n: u32) -> u8
+    ensures { λ r. ⌜ r ≡ n % 256 ⌝ }
+{
+    (n % 256) as u8
+}
+
+// The low 16 bits of `n`, the lowest byte first.
+fn write_16(out: &mut [u8], at: usize, n: u32)
+    requires { ⌜ at + 2 ≤ length (now out) ⌝ }
+    ensures { λ _. ⌜ now (out .exit) ≡ sets (now (out .entry)) at (le16 n) ⌝ }
+{
+    out[at] = low_byte(n);
+    out[at + 1] = low_byte(n / 256);
+}
+
+// `n`, the lowest byte first.
+fn write_32(out: &mut [u8], at: usize, n: u32)
+    requires { ⌜ at + 4 ≤ length (now out) ⌝ }
+    ensures { λ _. ⌜ now (out .exit) ≡ sets (now (out .entry)) at (le32 n) ⌝ }
+{
+    write_16(out, at, n);
+    write_16(out, at + 2, n / 65536);
+}
+
+// A line at its place, counted in lines. The kind has 16 bits, and `value` is a code.
+pub fn write_line(out: &mut [u8], at: usize, kind: u32, time: u32, process: u32, value: u32)
+    requires { ⌜ 16 * at + 16 ≤ length (now out) ⌝ }
+    requires { ⌜ kind < 65536 ⌝ }
+    ensures { λ _. ⌜ now (out .exit) ≡ sets (now (out .entry)) (16 * at)
+        (lineBytes (record { time = time; process = process; kind = kind; value = valueOf value })) ⌝ }
+{
+    let start = 16 * at;
+    write_16(out, start, 14);
+    write_16(out, start + 2, kind);
+    write_32(out, start + 4, time);
+    write_32(out, start + 8, process);
+    write_32(out, start + 12, base_number::to_twos(value));
+}

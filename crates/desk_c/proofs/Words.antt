@@ -1,0 +1,146 @@
+-- What the numbers for C say, by what check, bound, run and opening answer. Assumes nothing.
+use Prim.Native.Nat.{ℕ, _+_, _≤_}
+use mathlib.Core.Path.{_≡_, refl, _∙_, ap}
+use mathlib.Core.List.{List}
+use mathlib.Core.Bool.{Bool, true, false}
+use lib.ListN.{length}
+use lib.Dec.{eqb}
+use native.Mathlib.Omega.{arith}
+use Rattle.semantics.specs.Model.{Model}
+use Rattle.semantics.specs.Decode.{Checked, refused, accepted, andThen, decode}
+use Rattle.semantics.specs.Words.{passed, if_then_else_}
+use Rattle.semantics.specs.Numbers as No
+use Rattle.semantics.specs.State.{fresh}
+use Rattle.semantics.specs.Bound as definition
+use Rattle.semantics.specs.Bound.{NONE, OVER, AT, boundIs}
+use Rattle.semantics.specs.Run.{Answer, CLOSED, IDLE, LIMIT, FAULT}
+use Rattle.semantics.specs.Desk.{Told, checkFile, boundFile, runFile}
+use Rattle.file_check.specs.Check.{refusalOf}
+use Rattle.file_check.specs.declared.Refusal.{Refusal}
+use Rattle.file_check.proofs.Pass.{Number}
+use Rattle.file_check.proofs.Stated.{Stated, decode-stated}
+use Rattle.file_bound.specs.declared.Bounded.{Bounded}
+use Rattle.file_bound.specs.Answer.{boundedOf}
+use Rattle.run_limit.specs.declared.Ran.{Ran}
+use Rattle.run_limit.specs.Ran.{answerOf}
+use Rattle.run_file.specs.declared.Whole.{Whole}
+use Rattle.run_file.specs.Whole.{toldAs, wholeOf}
+use Rattle.row_work.specs.Work.{workOf}
+use Rattle.run_row.specs.Open.{openedAs, opensAs, openRow, TellsOpened}
+use Rattle.run_row.specs.Call.{Called, TellsCall}
+use Rattle.desk_c.specs.Word.{refusal, checkWord, boundWord, toldWord, runWord, moveWord}
+
+-- The number and the place of a refusal fit into its word, and so does 20.
+abbrev pub Fit : ℕ → ℕ → Type 0
+Fit n p = (n ≤ 20) × (p ≤ 65_535)
+
+stated-fit : (n p : ℕ) → Number n × (p ≤ 65_535) → Fit n p
+stated-fit n p h = (omega (arith, h .0 .1), h .1)
+
+-- CHECK, r.
+module _ (bs : List ℕ) (r : Refusal) (e : r ≡ refusalOf (decode bs)) where
+  pub check-small : Fit (r .number) (r .place)
+  check-small = go (decode bs) (decode-stated bs) e
+    where
+      go : (p : Checked Model) → Stated 65_535 p → r ≡ refusalOf p → Fit (r .number) (r .place)
+      go (refused n p) q e = rw e (stated-fit n p q)
+      go (accepted m) q e = rw e (omega arith, omega arith)
+
+  pub check-says : refusal (r .number) (r .place) ≡ checkWord (checkFile bs)
+  unfolding checkFile
+  check-says = go (decode bs) e
+    where
+      go : (p : Checked Model) → r ≡ refusalOf p → refusal (r .number) (r .place) ≡ checkWord (andThen p λ m. accepted passed)
+      go (refused n p) e = rw e
+      go (accepted m) e = rw e
+
+-- A REFUSAL is as decode states it, whatever is told of an accepted model.
+told-stated : {A : Type 0} (p : Checked Model) (f : Model → A) → Stated 65_535 p
+    → Stated 65_535 (andThen p λ m. accepted (f m))
+told-stated (refused n p) f h = h
+told-stated (accepted m) f h = tt
+
+-- BOUND, b.
+abbrev pub word : Bounded → ℕ
+word (Bounded.At n) = n
+word Bounded.None = 4_294_967_296
+word Bounded.Over = 8_589_934_592
+word (Bounded.Refused n p) = 12_884_901_888 + refusal n p
+
+abbrev pub Small : Bounded → Type 0
+Small (Bounded.At n) = Unit {0}
+Small Bounded.None = Unit {0}
+Small Bounded.Over = Unit {0}
+Small (Bounded.Refused n p) = Fit n p
+
+answer-word : (p : Checked definition.Bounded) → word (boundedOf p) ≡ boundWord p
+answer-word (refused n p) = refl
+answer-word (accepted NONE) = refl
+answer-word (accepted OVER) = refl
+answer-word (accepted (AT n)) = refl
+
+answer-small : (p : Checked definition.Bounded) → Stated 65_535 p → Small (boundedOf p)
+answer-small (refused n p) h = stated-fit n p h
+answer-small (accepted NONE) h = tt
+answer-small (accepted OVER) h = tt
+answer-small (accepted (AT n)) h = tt
+
+module _ (bs : List ℕ) (b : Bounded) (e : b ≡ boundedOf (boundFile bs)) where
+  pub bound-says : word b ≡ boundWord (boundFile bs)
+  bound-says = ap word e ∙ answer-word (boundFile bs)
+
+  pub bound-small : Small b
+  unfolding boundFile
+  bound-small = rw e (answer-small (boundFile bs) (told-stated (decode bs) boundIs (decode-stated bs)))
+
+-- RUN, w.
+abbrev pub ranWord : Whole → ℕ
+ranWord (Whole.Ran a steps) = toldWord (answerOf a) steps
+ranWord (Whole.Refused n p) = 12_884_901_888 + refusal n p
+
+abbrev pub RanSmall : Whole → Type 0
+RanSmall (Whole.Ran a steps) = Unit {0}
+RanSmall (Whole.Refused n p) = Fit n p
+
+-- An answer comes back from the code's enum as it was.
+told-same : (a : Answer) → answerOf (toldAs a) ≡ a
+told-same CLOSED = refl
+told-same IDLE = refl
+told-same LIMIT = refl
+told-same (FAULT k) = refl
+
+whole-word : (p : Checked Told) → ranWord (wholeOf p) ≡ runWord p
+whole-word (refused n p) = refl
+whole-word (accepted t) = ap (λ a. toldWord a (t .steps)) (told-same (t .answer))
+
+whole-small : (p : Checked Told) → Stated 65_535 p → RanSmall (wholeOf p)
+whole-small (refused n p) h = stated-fit n p h
+whole-small (accepted t) h = tt
+
+module _ (bs : List ℕ) (limit : ℕ) (j : List ℕ) (w : Whole) (e : w ≡ wholeOf (runFile bs limit j)) where
+  pub run-says : ranWord w ≡ runWord (runFile bs limit j)
+  run-says = ap ranWord e ∙ whole-word (runFile bs limit j)
+
+  pub run-small : RanSmall w
+  unfolding runFile
+  run-small = rw e (whole-small (runFile bs limit j) (told-stated (decode bs) _ (decode-stated bs)))
+
+-- OPENING, r.
+opens-small : (w : List ℕ) (p : Checked Model) → Stated 65_535 p → Fit (opensAs w p .number) (opensAs w p .place)
+opens-small w (refused n p) h = stated-fit n p h
+opens-small w (accepted m) h = by (eqb (length w) 10_696)
+  where
+    by : (b : Bool)
+        → let o = if b then openedAs 0 0 (workOf (fresh m)) else openedAs No.STATE 0 w in Fit (o .number) (o .place)
+    by true = (omega arith, omega arith)
+    by false = (omega arith, omega arith)
+
+pub open-small : (bs w : List ℕ) (r : Refusal) (w′ : List ℕ) → TellsOpened (openRow bs w) r w′ → Fit (r .number) (r .place)
+unfolding openRow
+open-small bs w r w′ t = rw (t .number-is, t .place-is) (opens-small w (decode bs) (decode-stated bs))
+
+-- MOVING ON, r.
+pub move-says : (d : Called) (r : Ran) (w′ j j′ : List ℕ) → TellsCall d r w′ j j′
+    → toldWord (answerOf (r .answer)) (r .steps) ≡ moveWord d
+move-says d r w′ j j′ t =
+    ap (λ a. toldWord a (r .steps)) (t .answer-is) ∙ ap (toldWord (d .answer)) (t .steps-are)

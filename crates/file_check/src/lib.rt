@@ -1,0 +1,200 @@
+// Checks 1 to 10 of a model file: from any bytes to the number and the place of a refusal, or accepted.
+ghost use mathlib.Core.Path.{_≡_};
+ghost use mathlib.Core.Bool.{_&&_};
+ghost use Prim.Native.Nat.{_+_, _≤_, _<_};
+ghost use lib.ListN.{length};
+ghost use Rattle.semantics.specs.Bytes.{u16, recordsFrom};
+ghost use Rattle.semantics.specs.Decode.{firstPass, noneSeen, opened as blocksAfter, secondPass};
+ghost use lib.Dec.{eqb, ltb};
+ghost use Rattle.semantics.specs.Decode.{gather, thirdPass, decode};
+ghost use Rattle.file_index.specs.Index.{Readable};
+ghost use Rattle.file_depth.specs.Deep.{Graph, Known, namesIn, depthOf, measured};
+ghost use Rattle.semantics.specs.Words.{if_then_else_};
+ghost use Rattle.file_check.specs.Check.{refusalOf, firstOf, spanOf, Named};
+
+// The number, 1 to 10, and the byte place of the record; 0 and 0: accepted.
+pub struct Refusal {
+    pub number: u32,
+    pub place: usize,
+}
+
+pub struct First {
+    pub number: u32,
+    pub place: usize,
+    pub seen: [u32; 17],
+}
+
+// How many bytes the record at the front has; 0 where the bytes end inside it, or its length is under 2.
+fn span(bs: &[u8]) -> usize
+    ensures { λ r. ⌜ r ≡ spanOf (now (bs .entry)) ⌝ }
+{
+    let x = file_reader::read(bs, 0);
+    if x.whole { x.next } else { 0 }
+}
+
+// Record by record: 1 to 7.
+fn first_pass(s: &[u8]) -> First
+    ensures { λ r. ⌜ r ≡ firstOf (firstPass noneSeen (recordsFrom 0 (now (s .entry)))) ⌝ }
+{
+    let mut rest = s;
+    let mut seen = [0u32; 17];
+    while 0 < rest.len() {
+        let at = s.len() - rest.len();
+        let size = span(rest);
+        if size == 0 {
+            return First {
+                number: 1,
+                place: at,
+                seen: [0u32; 17],
+            };
+        }
+        let kind = file_fields::u16_at(rest, 2);
+        let n = file_check_record::judge(seen, kind, &rest[4..size]);
+        if n != 0 {
+            return First {
+                number: n,
+                place: at,
+                seen: [0u32; 17],
+            };
+        }
+        let g = file_check_record::group_of(kind);
+        seen[g] = seen[g] + 1;
+        rest = &rest[size..];
+    }
+    First {
+        number: 0,
+        place: 0,
+        seen: seen,
+    }
+}
+
+// How many BLOCKs stand before the next record.
+fn opened(own: u32, kind: u32) -> u32
+    requires { ⌜ own < 65536 ⌝ }
+    ensures { λ r. ⌜ (r ≡ blocksAfter own kind) × (r ≤ own + 1) ⌝ }
+{
+    if kind == 6 { own + 1 } else { own }
+}
+
+// If all pass, record by record: 8 and 9; `n` has how many records of each group there are.
+fn second_pass(s: &[u8], n: [u32; 17]) -> Refusal
+    requires { ⌜ Readable (now s) ⌝ }
+    ensures { λ r. ⌜ r ≡ refusalOf (secondPass n 0 (recordsFrom 0 (now (s .entry)))) ⌝ }
+{
+    let mut rest = s;
+    let mut own: u32 = 0;
+    while 0 < rest.len() {
+        let at = s.len() - rest.len();
+        let size = span(rest);
+        let kind = file_fields::u16_at(rest, 2);
+        let x = file_check_record::name(n, own, kind, &rest[4..size]);
+        if x != 0 {
+            return Refusal {
+                number: x,
+                place: at,
+            };
+        }
+        own = opened(own, kind);
+        rest = &rest[size..];
+    }
+    Refusal {
+        number: 0,
+        place: 0,
+    }
+}
+
+// Whether the record is a CLASS whose body nests over 8 blocks, itself included. The memo has the depths found already.
+fn too_deep<'a>(
+    kind: u32,
+    bs: &'a [u8],
+    first: &'a [u16; 257],
+    from: &'a [u16; 1025],
+    goes: &'a [u16; 4096],
+    blocks: usize,
+    memo: &mut [u16; 256],
+) -> bool
+    requires { ⌜ Graph (now first) (now from) (now goes) blocks ⌝ }
+    requires { ⌜ (kind ≡ 5 → (2 ≤ length (now bs)) × (u16 (now bs) 0 < blocks)) ⌝ }
+    requires { ⌜ Known (depthOf (namesIn (now first) (now from) (now goes)) blocks) blocks (now memo) ⌝ }
+    ensures { λ r. ⌜ Known (depthOf (namesIn (now (first .entry)) (now (from .entry)) (now (goes .entry))) blocks) blocks
+        (now (memo .exit)) ⌝ }
+    ensures { λ r. ⌜ now (memo .exit) ≡ (if eqb kind 5 then measured
+        (namesIn (now (first .entry)) (now (from .entry)) (now (goes .entry)))
+        (depthOf (namesIn (now (first .entry)) (now (from .entry)) (now (goes .entry))) blocks)
+        blocks (u16 (now (bs .entry)) 0) (now (memo .entry)) else now (memo .entry)) ⌝ }
+    ensures { λ r. ⌜ r ≡ (eqb kind 5 && ltb 8
+        (depthOf (namesIn (now (first .entry)) (now (from .entry)) (now (goes .entry))) blocks (u16 (now (bs .entry)) 0))) ⌝ }
+{
+    if kind == 5 {
+        let b = file_fields::u16_at(bs, 0) as usize;
+        let d = file_depth::depth(first, from, goes, blocks, memo, b);
+        return 8 < d;
+    }
+    false
+}
+
+// Then class by class: 10.
+fn third_pass(s: &[u8]) -> Refusal
+    requires { ⌜ Named (now s) ⌝ }
+    ensures { λ r. ⌜ r ≡ refusalOf
+        (thirdPass (gather (recordsFrom 0 (now (s .entry))) .model) (recordsFrom 0 (now (s .entry)))) ⌝ }
+{
+    let x = file_index::index_of(s);
+    let body = x.body;
+    let g = file_index::graph_of(s, false, body);
+    let first = x.first;
+    let from = g.from;
+    let goes = g.goes;
+    let blocks = x.blocks;
+    let mut memo = [0u16; 256];
+    let mut rest = s;
+    while 0 < rest.len() {
+        let at = s.len() - rest.len();
+        let size = span(rest);
+        let kind = file_fields::u16_at(rest, 2);
+        if too_deep(
+            kind,
+            &rest[4..size],
+            &first,
+            &from,
+            &goes,
+            blocks,
+            &mut memo,
+        ) {
+            return Refusal {
+                number: 10,
+                place: at,
+            };
+        }
+        rest = &rest[size..];
+    }
+    Refusal {
+        number: 0,
+        place: 0,
+    }
+}
+
+// The checks in their order; over 65,535 bytes are 4 at place 0, first of all.
+pub fn check(s: &[u8]) -> Refusal
+    ensures { λ r. ⌜ r ≡ refusalOf (decode (now (s .entry))) ⌝ }
+{
+    if 65535 < s.len() {
+        return Refusal {
+            number: 4,
+            place: 0,
+        };
+    }
+    let f = first_pass(s);
+    if f.number != 0 {
+        return Refusal {
+            number: f.number,
+            place: f.place,
+        };
+    }
+    let n = f.seen;
+    let g = second_pass(s, n);
+    if g.number != 0 {
+        return g;
+    }
+    third_pass(s)
+}

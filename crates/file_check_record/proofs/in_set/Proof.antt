@@ -1,0 +1,56 @@
+-- `file_check_record::in_set` meets its contract. Assumes nothing.
+use borrow.Author.Needs.{needs}
+use mathlib.Core.Path.{_≡_}
+use native.Mathlib.Omega.{arith}
+use Rattle.file_check_record.proofs.Rules.{in-set-is}
+use Rattle.file_check_record.proofs.Table.{field-in}
+use Rattle.file_check_record.proofs.in_set.Statement.{statement}
+use Rattle.file_check_record.proofs.in_set.Tie as tie
+use Rattle.file_check_record.specs.Rows.{columnOf, fieldSize, fieldAt}
+use Rattle.semantics.specs.Record.{rowOf}
+
+entry-requires : tie.Need-entry-requires
+entry-requires c κs = search needs
+
+entry-requires-2 : tie.Need-entry-requires-2
+entry-requires-2 c κs = search needs
+
+cast-at : tie.Need-cast-at
+cast-at c = search needs
+
+entry-requires-3 : tie.Need-entry-requires-3
+entry-requires-3 c κs = search needs
+
+entry-requires-4 : tie.Need-entry-requires-4
+entry-requires-4 c κs = search needs
+
+number-at-requires : tie.Need-number-at-requires
+unfolding columnOf
+number-at-requires c κs = let k = c .before .before .before .before .before .args .kind in
+    let z : c .before .before .before .entry .result ≡ fieldSize (rowOf k .field) = c .before .before .before .entry
+    .ensures in
+    let a : c .before .before .entry2 .result ≡ fieldAt (rowOf k .field) = c .before .before .entry2 .ensures in
+    omega (arith, z, a, field-in k, c .before .before .before .before .before .pre)
+
+returns : tie.Need-returns
+unfolding columnOf
+returns c = rw (
+  in-set-is,
+  ← c .before .before .before .before .entry .ensures,
+  ← c .before .before .before .entry2 .ensures,
+  ← c .before .before .entry3 .ensures,
+  ← c .before .entry4 .ensures,
+  ← c .number-at .ensures,
+)
+
+pub in-set-spec : {M : Type 1} → statement M
+in-set-spec =
+    tie.close
+    (tie.spec
+    entry-requires
+    entry-requires-2
+    cast-at
+    entry-requires-3
+    entry-requires-4
+    number-at-requires
+    returns)

@@ -1,0 +1,185 @@
+-- What the kind of a fine record tells of its body, and how many blocks it names. Assumes nothing.
+use mathlib.Core.Path.{_≡_, refl, _∙_, ap}
+use mathlib.Core.List.{List, [], _∷_}
+use mathlib.Core.Bool.{Bool, true, false}
+use Prim.Native.Nat.{ℕ, zero, suc, _+_, _≤_}
+use native.Mathlib.Omega.{arith}
+use borrow.Author.Tests.{leb-true, leb-false, eqb-true, ne-eqb}
+use lib.Dec.{eqb, leb}
+use lib.ListN.{length, getD, drop, length-map}
+use Rattle.semantics.specs.Words.{within}
+use Rattle.semantics.specs.Bytes.{u16}
+use Rattle.semantics.specs.Record.{item, listSized, listValid, branchesFrom, branchesFit, Tail, branches, claim, sized, valid}
+use Rattle.semantics.specs.Record.{rowOf}
+use Rattle.promises.specs.Laws.{and-true, if-has}
+use Rattle.file_index.specs.Index.{Judged, given, acts, branchBlocks, goesIn}
+use Rattle.file_index.specs.Branches.{Offered, offered, offeredAt, offeredTry, offeredIn}
+use Rattle.file_index.proofs.Records.{sized-by}
+use Rattle.file_index.proofs.Filled.{given-few}
+
+-- BODIES by kind.
+head-5 : rowOf 5 .head ≡ 2
+unfolding rowOf
+head-5 = refl
+
+head-20 : rowOf 20 .head ≡ 4
+unfolding rowOf
+head-20 = refl
+
+head-27 : rowOf 27 .head ≡ 2
+unfolding rowOf
+head-27 = refl
+
+head-28 : rowOf 28 .head ≡ 6
+unfolding rowOf
+head-28 = refl
+
+head-25 : rowOf 25 .head ≡ 0
+unfolding rowOf
+head-25 = refl
+
+head-26 : rowOf 26 .head ≡ 0
+unfolding rowOf
+head-26 = refl
+
+tail-25 : rowOf 25 .tail ≡ claim
+unfolding rowOf
+tail-25 = refl
+
+tail-26 : rowOf 26 .tail ≡ branches
+unfolding rowOf
+tail-26 = refl
+
+tail-27 : rowOf 27 .tail ≡ claim
+unfolding rowOf
+tail-27 = refl
+
+module _ {k : ℕ} {bs : List ℕ} (g : Judged k bs) where
+  pub head-at : {j h : ℕ} → rowOf j .head ≡ h → k ≡ j → h ≤ length bs
+  head-at i e = omega (arith, sized-by (rowOf k) bs (g .body-judged) .head-there, i, ap (λ x. rowOf x .head) e)
+
+  pub class-head : k ≡ 5 → 2 ≤ length bs
+  class-head = head-at head-5
+
+  pub do-head : k ≡ 20 → 4 ≤ length bs
+  do-head = head-at head-20
+
+  pub while-head : k ≡ 27 → 2 ≤ length bs
+  while-head = head-at head-27
+
+  pub start-head : k ≡ 28 → 6 ≤ length bs
+  start-head = head-at head-28
+
+  tail-at : {j h : ℕ} {t : Tail} → rowOf j .head ≡ h → rowOf j .tail ≡ t → k ≡ j →
+      (sized t (drop h bs) ≡ true) × (valid t (drop h bs) ≡ true)
+  tail-at i j e =
+      let s = sized-by (rowOf k) bs (g .body-judged) in
+      let x = ap (λ x. rowOf x .head) e ∙ i in
+      let y = ap (λ x. rowOf x .tail) e ∙ j in
+      (rw (x, y) at (s .tail-sized), rw (x, y) at (s .tail-valid))
+
+  pub req-sized : k ≡ 25 → (listSized item bs ≡ true) × (listValid item bs ≡ true)
+  req-sized = tail-at head-25 tail-25
+
+  pub try-sized : k ≡ 26 → (sized branches bs ≡ true) × (valid branches bs ≡ true)
+  try-sized = tail-at head-26 tail-26
+
+  pub while-sized : k ≡ 27 → (listSized item (drop 2 bs) ≡ true) × (listValid item (drop 2 bs) ≡ true)
+  while-sized = tail-at head-27 tail-27
+
+  -- the branches are counted, at most 4, and end with the body
+  pub try-fits : k ≡ 26 → (2 ≤ length bs) × ((u16 bs 0 ≤ 4) × (branchesFit (u16 bs 0) (drop 2 bs) ≡ true))
+  try-fits e =
+      let s = try-sized e in
+      let a = and-true (leb 2 (length bs)) _ (s .0) in
+      let v = and-true (within 1 4 (u16 bs 0)) _ (s .1) in
+      let w = and-true (leb 1 (u16 bs 0)) _ (v .0) in
+      (leb-true 2 (length bs) (a .0), (leb-true (u16 bs 0) 4 (w .1), a .1))
+
+-- NAMES: at most 4 blocks.
+branches-many : (n : ℕ) (bs : List ℕ) → length (branchesFrom n bs) ≡ n
+unfolding branchesFrom
+branches-many zero bs = refl
+branches-many (suc n) bs = ap suc (branches-many n _)
+
+blocks-many : (bs : List ℕ) → length (branchBlocks bs) ≡ u16 bs 0
+unfolding branchBlocks
+blocks-many bs = length-map (branchesFrom (u16 bs 0) (drop 2 bs)) _ ∙ branches-many (u16 bs 0) (drop 2 bs)
+
+pub goes-few : (start : Bool) (bodies : List ℕ) (k : ℕ) (bs : List ℕ) → Judged k bs → length (goesIn start bodies k bs) ≤ 4
+unfolding goesIn
+goes-few start bodies k bs g =
+    if-has (λ (l : List ℕ). length l ≤ 4) (eqb k 20) (λ e. omega arith)
+    (λ e. if-has (λ (l : List ℕ). length l ≤ 4) (eqb k 27) (λ f. omega arith)
+    (λ f. if-has (λ (l : List ℕ). length l ≤ 4) (eqb k 26)
+    (λ i. omega (arith, blocks-many bs, try-fits g (eqb-true k 26 i) .1 .0))
+    (λ i. if-has (λ (l : List ℕ). length l ≤ 4) (eqb k 28)
+    (λ j. omega (arith, given-few start (getD bodies (u16 bs 0) 0))) (λ j. omega arith))))
+
+-- BRANCHES: at most 4.
+offered-many : (at : ℕ) (bs : List (List ℕ)) → length (offeredAt at bs) ≡ length bs
+unfolding offeredAt
+offered-many at [] = refl
+offered-many at (b ∷ bs) = ap suc (offered-many (at + length b) bs)
+
+pub try-many : (at : ℕ) (bs : List ℕ) → length (offeredTry at bs) ≡ u16 bs 0
+unfolding offeredTry
+try-many at bs =
+    offered-many (at + 2) (branchesFrom (u16 bs 0) (drop 2 bs)) ∙ branches-many (u16 bs 0) (drop 2 bs)
+
+pub offered-few : (at k : ℕ) (bs : List ℕ) → Judged k bs → length (offeredIn at k bs) ≤ 4
+unfolding offeredIn
+offered-few at k bs g =
+    if-has (λ (l : List Offered). length l ≤ 4) (eqb k 25) (λ e. omega arith)
+    (λ e. if-has (λ (l : List Offered). length l ≤ 4) (eqb k 26)
+    (λ f. omega (arith, try-many at bs, try-fits g (eqb-true k 26 f) .1 .0))
+    (λ f. if-has (λ (l : List Offered). length l ≤ 4) (eqb k 27) (λ i. omega arith) (λ i. omega arith)))
+
+-- NAMES, kind by kind.
+module _ (start : Bool) (bodies : List ℕ) (k : ℕ) (bs : List ℕ) where
+  pub goes-do : k ≡ 20 → goesIn start bodies k bs ≡ u16 bs 2 ∷ []
+  unfolding goesIn
+  goes-do e = rw e
+
+  pub goes-while : k ≡ 27 → goesIn start bodies k bs ≡ u16 bs 0 ∷ []
+  unfolding goesIn
+  goes-while e = rw e
+
+  pub goes-try : k ≡ 26 → goesIn start bodies k bs ≡ branchBlocks bs
+  unfolding goesIn
+  goes-try e = rw e
+
+  pub goes-start : k ≡ 28 → goesIn start bodies k bs ≡ given start (getD bodies (u16 bs 0) 0)
+  unfolding goesIn
+  goes-start e = rw e
+
+  pub goes-other : (k ≡ 20 → ⊥) → (k ≡ 27 → ⊥) → (k ≡ 26 → ⊥) → (k ≡ 28 → ⊥) → goesIn start bodies k bs ≡ []
+  unfolding goesIn
+  goes-other e f g h = rw (ne-eqb k 20 e, ne-eqb k 27 f, ne-eqb k 26 g, ne-eqb k 28 h)
+
+  pub goes-none : acts k ≡ false → goesIn start bodies k bs ≡ []
+  goes-none e =
+      let h = leb-false 16 k e in
+      goes-other (λ f. omega arith) (λ f. omega arith) (λ f. omega arith) (λ f. omega arith)
+
+-- BRANCHES, kind by kind.
+module _ (at k : ℕ) (bs : List ℕ) where
+  pub offered-req : k ≡ 25 → offeredIn at k bs ≡ offered at bs ∷ []
+  unfolding offeredIn
+  offered-req e = rw e
+
+  pub offered-try : k ≡ 26 → offeredIn at k bs ≡ offeredTry at bs
+  unfolding offeredIn
+  offered-try e = rw e
+
+  pub offered-while : k ≡ 27 → offeredIn at k bs ≡ offered (at + 2) (drop 2 bs) ∷ []
+  unfolding offeredIn
+  offered-while e = rw e
+
+  pub offered-other : (k ≡ 25 → ⊥) → (k ≡ 26 → ⊥) → (k ≡ 27 → ⊥) → offeredIn at k bs ≡ []
+  unfolding offeredIn
+  offered-other e f g = rw (ne-eqb k 25 e, ne-eqb k 26 f, ne-eqb k 27 g)
+
+  pub offered-none : acts k ≡ false → offeredIn at k bs ≡ []
+  offered-none e =
+      let h = leb-false 16 k e in offered-other (λ f. omega arith) (λ f. omega arith) (λ f. omega arith)

@@ -1,0 +1,166 @@
+-- The loop that makes the graph: how far it has come, and one turn of it. Assumes nothing.
+use mathlib.Core.Path.{_≡_, refl, sym, _∙_, ap}
+use mathlib.Core.List.{List, [], _∷_, map}
+use mathlib.Core.Bool.{Bool}
+use Prim.Native.Nat.{ℕ, _+_, _-_, _≤_, _<_}
+use native.Mathlib.Omega.{arith}
+use lib.ListN.{length, take, drop, set, length-map}
+use lib.Seq.{sets}
+use Rattle.semantics.specs.Words.{if_then_else_, collect}
+use Rattle.semantics.specs.Bytes.{Raw, recordsFrom, spans, u16}
+use Rattle.file_index.specs.Index.{Act, Readable, given, acts, actsOf, ownIn, timesIn, goesIn, goesBy, runs, graphOf}
+use Rattle.file_index.proofs.Records.{On, left, on-all, left-all, left-none, here, on-next}
+use Rattle.file_index.proofs.Filled.{Fills, Next, fills-length, next-room, next-filled, zeros, zeros-length, zeros-none}
+use Rattle.file_index.proofs.Filled.{zeros-filled, given-count, given-if}
+use Rattle.file_index.proofs.Limits.{few-acts, few-goes, runs-count}
+use Rattle.file_index.proofs.Bodies.{goes-none}
+use Rattle.file_index.proofs.Turns.{acts-turn, lists-turn, from-turn}
+
+-- The tables of the records rs.
+abbrev ownsOf : List Raw → List ℕ
+ownsOf rs = map (λ a. ownIn (a .kind)) (actsOf rs)
+
+abbrev timesOf : List Raw → List ℕ
+timesOf rs = map (λ a. timesIn (a .kind) (a .body)) (actsOf rs)
+
+abbrev fromsOf : Bool → List ℕ → ℕ → List Raw → List ℕ
+fromsOf start bodies n rs = runs (λ a. length (goesBy start bodies a)) n (actsOf rs)
+
+abbrev namesOf : Bool → List ℕ → List Raw → List ℕ
+namesOf start bodies rs = collect (goesBy start bodies) (actsOf rs)
+
+-- Each array has the front of its table; the tables of the rest are still to come.
+pub record Graphing (s : List ℕ) (start : Bool) (bodies own times from goes : List ℕ) (actions ends : ℕ) (rest : List ℕ)
+    : Type 0 where
+  pub on : On s rest
+  pub owns : Fills (zeros 1_024) 0 (ownsOf (recordsFrom 0 s)) own actions (ownsOf (left s rest))
+  pub timed : Fills (zeros 1_024) 0 (timesOf (recordsFrom 0 s)) times actions (timesOf (left s rest))
+  pub froms : Fills (zeros 1_025) 0 (fromsOf start bodies 0 (recordsFrom 0 s)) from actions
+      (fromsOf start bodies ends (left s rest))
+  pub names : Fills (zeros 4_096) 0 (namesOf start bodies (recordsFrom 0 s)) goes ends (namesOf start bodies (left s rest))
+
+pub graph-starts : (s : List ℕ) (start : Bool) (bodies : List ℕ) → Readable s →
+    Graphing s start bodies (zeros 1_024) (zeros 1_024) (zeros 1_025) (zeros 4_096) 0 0 s
+graph-starts s start bodies r =
+    let xs : List Act = actsOf (recordsFrom 0 s) in
+    let few = few-acts s r in
+    record {
+      on = on-all s r;
+      owns = zeros-none 1_024 _ _ (omega (arith, length-map xs (λ a. ownIn (a .kind)))) (ap ownsOf (left-all s));
+      timed = zeros-none 1_024 _ _ (omega (arith, length-map xs (λ a. timesIn (a .kind) (a .body)))) (ap timesOf (left-all s));
+      froms =
+          zeros-none 1_025 _ _ (omega (arith, runs-count (λ a. length (goesBy start bodies a)) 0 xs))
+          (ap (fromsOf start bodies 0) (left-all s));
+      names = zeros-none 4_096 _ _ (few-goes s r start bodies) (ap (namesOf start bodies) (left-all s));
+    }
+
+module _ {s : List ℕ} {start : Bool} {bodies own times from goes : List ℕ} {actions ends : ℕ} {rest : List ℕ}
+    (x : Graphing s start bodies own times from goes actions ends rest) where
+  pub own-long : 1_024 ≡ length own
+  own-long = sym (fills-length (x .owns) ∙ zeros-length 1_024)
+
+  pub times-long : 1_024 ≡ length times
+  times-long = sym (fills-length (x .timed) ∙ zeros-length 1_024)
+
+  pub from-long : 1_025 ≡ length from
+  from-long = sym (fills-length (x .froms) ∙ zeros-length 1_025)
+
+  pub goes-long : 4_096 ≡ length goes
+  goes-long = sym (fills-length (x .names) ∙ zeros-length 4_096)
+
+  pub ends-few : ends ≤ 4_096
+  ends-few = omega (arith, x .names .count, x .names .fits, zeros-length 4_096)
+
+  -- The record that stands here has z bytes and is of kind k.
+  module _ (h : 0 < length rest) {z k : ℕ} (e : z ≡ spans rest) (i : k ≡ u16 rest 2) where
+    abbrev bs : List ℕ
+    bs = take (z - 4) (drop 4 rest)
+
+    abbrev at : ℕ
+    at = length s - length rest
+
+    abbrev next : List Raw
+    next = left s (take (length rest - z) (drop z rest))
+
+    owns-on : Next (zeros 1_024) 0 (ownsOf (recordsFrom 0 s)) own actions (given (acts k) (ownIn k)) (ownsOf next)
+    owns-on =
+        record { fills = rw (here h (x .on) e i, acts-turn at k bs next (λ a. ownIn (a .kind))) at (x .owns) }
+
+    timed-on : Next (zeros 1_024) 0 (timesOf (recordsFrom 0 s)) times actions (given (acts k) (timesIn k bs)) (timesOf next)
+    timed-on =
+        record {
+          fills = rw (here h (x .on) e i, acts-turn at k bs next (λ a. timesIn (a .kind) (a .body))) at (x .timed);
+        }
+
+    froms-on : Next (zeros 1_025) 0 (fromsOf start bodies 0 (recordsFrom 0 s)) from actions (given (acts k) ends)
+        (fromsOf start bodies (ends + length (goesIn start bodies k bs)) next)
+    froms-on =
+        record {
+          fills = rw (
+            here h (x .on) e i,
+            from-turn at k bs next (goesBy start bodies) (goes-none start bodies k bs) ends,
+          ) at (x .froms);
+        }
+
+    names-on : Next (zeros 4_096) 0 (namesOf start bodies (recordsFrom 0 s)) goes ends (goesIn start bodies k bs)
+        (namesOf start bodies next)
+    names-on =
+        record {
+          fills = rw (
+            here h (x .on) e i,
+            lists-turn at k bs next (goesBy start bodies) (goes-none start bodies k bs),
+          ) at (x .names);
+        }
+
+    pub from-room : actions + length (given (acts k) ends) ≤ length from
+    from-room = next-room froms-on
+
+    pub goes-room : ends + length (goesIn start bodies k bs) ≤ length goes
+    goes-room = next-room names-on
+
+    pub times-room : {w : ℕ} → w ≡ timesIn k bs → actions + length (given (acts k) w) ≤ length times
+    times-room l = rw l (next-room timed-on)
+
+    -- as many are written in each
+    same-count : (v w : ℕ) → actions + length (given (acts k) v) ≡ actions + length (given (acts k) w)
+    same-count v w = given-count (acts k) v actions ∙ sym (given-count (acts k) w actions)
+
+    module _ {v : ℕ} (j : v ≡ (if acts k then ownIn k else 0)) where
+      same-own : given (acts k) v ≡ given (acts k) (ownIn k)
+      same-own = ap (given (acts k)) j ∙ given-if (acts k) (ownIn k) 0
+
+      pub own-room : actions + length (given (acts k) v) ≤ length own
+      own-room = rw same-own (next-room owns-on)
+
+      pub graph-turn : {w : ℕ} → w ≡ timesIn k bs →
+          Graphing s start bodies (sets own actions (given (acts k) v)) (sets times actions (given (acts k) w))
+          (sets from actions (given (acts k) ends)) (sets goes ends (goesIn start bodies k bs))
+          (actions + length (given (acts k) ends)) (ends + length (goesIn start bodies k bs))
+          (take (length rest - z) (drop z rest))
+      graph-turn l =
+          record {
+            on = on-next h (x .on) e i;
+            owns = rw (same-own, same-count ends (ownIn k)) (next-filled owns-on);
+            timed = rw (l, same-count ends (timesIn k bs)) (next-filled timed-on);
+            froms = next-filled froms-on;
+            names = next-filled names-on;
+          }
+
+  -- Nothing is left.
+  module _ (h : length rest ≡ 0) where
+    froms-last : Next (zeros 1_025) 0 (fromsOf start bodies 0 (recordsFrom 0 s)) from actions (ends ∷ []) []
+    unfolding runs actsOf
+    froms-last = record { fills = rw (left-none s rest h) at (x .froms) }
+
+    pub last-room : actions < 1_025
+    last-room = omega (arith, next-room froms-last, from-long)
+
+    pub graph-ends : record { own = own; times = times; from = set from actions ends; goes = goes }
+        ≡ graphOf start bodies (recordsFrom 0 s)
+    unfolding graphOf actsOf
+    graph-ends =
+        let o = zeros-filled 1_024 (ap ownsOf (left-none s rest h)) (x .owns) in
+        let t = zeros-filled 1_024 (ap timesOf (left-none s rest h)) (x .timed) in
+        let f = zeros-filled 1_025 refl (next-filled froms-last) in
+        let n = zeros-filled 4_096 (ap (namesOf start bodies) (left-none s rest h)) (x .names) in
+        rw (o .1, t .1, f .1, n .1)

@@ -1,0 +1,128 @@
+-- The loop that makes the index: how far it has come, and one turn of it. Assumes nothing.
+use mathlib.Core.Path.{_≡_, refl, sym, _∙_, ap}
+use mathlib.Core.List.{List, [], _∷_, map}
+use Prim.Native.Nat.{ℕ, _+_, _-_, _≤_, _<_}
+use native.Mathlib.Omega.{arith}
+use lib.Dec.{eqb}
+use lib.ListN.{length, take, drop, set, length-map}
+use lib.Seq.{sets}
+use Rattle.semantics.specs.Words.{if_then_else_}
+use Rattle.semantics.specs.Bytes.{Raw, recordsFrom, spans, u16}
+use Rattle.file_index.specs.Index.{Readable, given, acts, actsOf, firstsOf, bodiesOf, indexOf}
+use Rattle.file_index.proofs.Records.{On, left, on-all, left-all, left-none, here, on-next}
+use Rattle.file_index.proofs.Filled.{Fills, Next, fills-length, next-room, next-filled, zeros, zeros-length, zeros-none}
+use Rattle.file_index.proofs.Filled.{zeros-filled, given-count, given-if}
+use Rattle.file_index.proofs.Limits.{few-bodies, few-firsts, few-acts}
+use Rattle.file_index.proofs.Turns.{acts-turn}
+
+abbrev placesOf : List Raw → List ℕ
+placesOf rs = map (λ a. a .place) (actsOf rs)
+
+few-places : (s : List ℕ) → Readable s → length (placesOf (recordsFrom 0 s)) ≤ 1_024
+few-places s r = omega (arith, length-map (actsOf (recordsFrom 0 s)) (λ a. a .place), few-acts s r)
+
+-- Each array has the front of its table; the tables of the rest are still to come.
+pub record Indexing (s first place body : List ℕ) (blocks actions classes : ℕ) (rest : List ℕ) : Type 0 where
+  pub on : On s rest
+  pub firsts : Fills (zeros 257) 0 (firstsOf 0 (recordsFrom 0 s)) first blocks (firstsOf actions (left s rest))
+  pub places : Fills (zeros 1_024) 0 (placesOf (recordsFrom 0 s)) place actions (placesOf (left s rest))
+  pub bodies : Fills (zeros 64) 0 (bodiesOf (recordsFrom 0 s)) body classes (bodiesOf (left s rest))
+
+pub index-starts : (s : List ℕ) → Readable s → Indexing s (zeros 257) (zeros 1_024) (zeros 64) 0 0 0 s
+index-starts s r =
+    record {
+      on = on-all s r;
+      firsts = zeros-none 257 _ _ (few-firsts s r) (ap (firstsOf 0) (left-all s));
+      places = zeros-none 1_024 _ _ (few-places s r) (ap placesOf (left-all s));
+      bodies = zeros-none 64 _ _ (few-bodies s r) (ap bodiesOf (left-all s));
+    }
+
+module _ {s first place body : List ℕ} {blocks actions classes : ℕ} {rest : List ℕ}
+    (x : Indexing s first place body blocks actions classes rest) where
+  pub first-long : 257 ≡ length first
+  first-long = sym (fills-length (x .firsts) ∙ zeros-length 257)
+
+  pub place-long : 1_024 ≡ length place
+  place-long = sym (fills-length (x .places) ∙ zeros-length 1_024)
+
+  pub body-long : 64 ≡ length body
+  body-long = sym (fills-length (x .bodies) ∙ zeros-length 64)
+
+  pub actions-few : actions ≤ 1_024
+  actions-few = omega (arith, x .places .count, x .places .fits, zeros-length 1_024)
+
+  -- The record that stands here has z bytes and is of kind k.
+  module _ (h : 0 < length rest) {z k : ℕ} (e : z ≡ spans rest) (i : k ≡ u16 rest 2) where
+    abbrev bs : List ℕ
+    bs = take (z - 4) (drop 4 rest)
+
+    abbrev at : ℕ
+    at = length s - length rest
+
+    abbrev next : List Raw
+    next = left s (take (length rest - z) (drop z rest))
+
+    firsts-on : Next (zeros 257) 0 (firstsOf 0 (recordsFrom 0 s)) first blocks (given (eqb k 6) actions)
+        (firstsOf (if acts k then actions + 1 else actions) next)
+    unfolding firstsOf
+    firsts-on = record { fills = rw (here h (x .on) e i) at (x .firsts) }
+
+    places-on : Next (zeros 1_024) 0 (placesOf (recordsFrom 0 s)) place actions (given (acts k) at) (placesOf next)
+    places-on =
+        record { fills = rw (here h (x .on) e i, acts-turn at k bs next (λ a. a .place)) at (x .places) }
+
+    bodies-on : Next (zeros 64) 0 (bodiesOf (recordsFrom 0 s)) body classes (given (eqb k 5) (u16 bs 0)) (bodiesOf next)
+    unfolding bodiesOf
+    bodies-on = record { fills = rw (here h (x .on) e i) at (x .bodies) }
+
+    pub first-room : blocks + length (given (eqb k 6) actions) ≤ length first
+    first-room = next-room firsts-on
+
+    pub place-room : actions + length (given (acts k) at) ≤ length place
+    place-room = next-room places-on
+
+    module _ {v : ℕ} (j : v ≡ (if eqb k 5 then u16 bs 0 else 0)) where
+      same-body : given (eqb k 5) v ≡ given (eqb k 5) (u16 bs 0)
+      same-body = ap (given (eqb k 5)) j ∙ given-if (eqb k 5) (u16 bs 0) 0
+
+      pub body-room : classes + length (given (eqb k 5) v) ≤ length body
+      body-room = rw same-body (next-room bodies-on)
+
+      pub index-turn : Indexing s (sets first blocks (given (eqb k 6) actions)) (sets place actions (given (acts k) at))
+          (sets body classes (given (eqb k 5) v)) (blocks + length (given (eqb k 6) actions))
+          (actions + length (given (acts k) at)) (classes + length (given (eqb k 5) v))
+          (take (length rest - z) (drop z rest))
+      index-turn =
+          record {
+            on = on-next h (x .on) e i;
+            firsts = rw (given-count (acts k) at actions) (next-filled firsts-on);
+            places = next-filled places-on;
+            bodies = rw same-body (next-filled bodies-on);
+          }
+
+  -- Nothing is left.
+  module _ (h : length rest ≡ 0) where
+    firsts-last : Next (zeros 257) 0 (firstsOf 0 (recordsFrom 0 s)) first blocks (actions ∷ []) []
+    unfolding firstsOf
+    firsts-last = record { fills = rw (left-none s rest h) at (x .firsts) }
+
+    pub last-room : blocks < 257
+    last-room = omega (arith, next-room firsts-last, first-long)
+
+    pub index-ends : record {
+      blocks = blocks;
+      actions = actions;
+      classes = classes;
+      first = set first blocks actions;
+      place = place;
+      body = body;
+    }
+        ≡ indexOf (recordsFrom 0 s)
+    unfolding indexOf actsOf bodiesOf
+    index-ends =
+        let f = zeros-filled 257 refl (next-filled firsts-last) in
+        let p = zeros-filled 1_024 (ap placesOf (left-none s rest h)) (x .places) in
+        let b = zeros-filled 64 (ap bodiesOf (left-none s rest h)) (x .bodies) in
+        let n : blocks ≡ length (firstsOf 0 (recordsFrom 0 s)) - 1 = omega (arith, f .0) in
+        let a : actions ≡ length (actsOf (recordsFrom 0 s)) = p .0 ∙ length-map (actsOf (recordsFrom 0 s)) (λ a. a .place) in
+        rw (f .1, p .1, b .1, n, a, b .0)

@@ -1,0 +1,204 @@
+-- The records of a file that the first pass accepts, one after the other: each is whole, of a kind, and judged.
+-- Assumes nothing.
+use mathlib.Core.Path.{_≡_, refl, sym, _∙_, ap}
+use mathlib.Core.List.{List, [], _∷_}
+use mathlib.Core.Bool.{Bool, true, false, _&&_}
+use Prim.Native.Nat.{ℕ, zero, suc, _+_, _-_, _≤_, _<_}
+use native.Mathlib.Omega.{arith}
+use borrow.Author.Tests.{leb-true, ltb-true, eqb-true, eqb-false, ne-eqb}
+use lib.Dec.{eqb, leb, ltb}
+use lib.ListN.{length, getD, take, drop, length-drop}
+use Rattle.semantics.specs.Words.{Outcome, ok, fails, Passed, passed, need, _>>_}
+use Rattle.semantics.specs.Numbers as No
+use Rattle.semantics.specs.Bytes.{Raw, raw, torn, cut, recordsFrom, whole, spans, u16}
+use Rattle.semantics.specs.Record.{Row, sized, valid, inSet, rowOf, bodyJudged}
+use Rattle.semantics.specs.Decode.{refused, accepted, placed, judged, saw, firstPass, noneSeen}
+use Rattle.promises.specs.Laws.{and-true, not-ok, needed-two}
+use Rattle.promises.specs.Passes.{not-accepted}
+use Rattle.file_check_parts.proofs.Laws.{rest-of}
+use Rattle.file_index.specs.Index.{Judged, Readable}
+
+-- CUTTING. Any number of steps from the number of bytes on cuts the same records.
+cut-none : (n at : ℕ) (bs : List ℕ) → length bs ≡ 0 → cut n at bs ≡ []
+unfolding cut
+cut-none zero at bs h = refl
+cut-none (suc n) at bs h = rw h
+
+module _ (at : ℕ) (bs : List ℕ) (h : 0 < length bs) where
+  cut-torn : (n : ℕ) → length bs ≤ n → whole bs ≡ false → cut n at bs ≡ torn at ∷ []
+  unfolding cut
+  cut-torn zero l w = absurd (omega arith)
+  cut-torn (suc n) l w = rw (ne-eqb (length bs) 0 (λ (q : length bs ≡ 0). omega arith), w)
+
+  cut-whole : (n : ℕ) → whole bs ≡ true →
+      cut (suc n) at bs ≡ raw at (u16 bs 2) (take (spans bs - 4) (drop 4 bs)) ∷ cut n (at + spans bs) (drop (spans bs) bs)
+  unfolding cut
+  cut-whole n w = rw (ne-eqb (length bs) 0 (λ (q : length bs ≡ 0). omega arith), w)
+
+enough : (n m at : ℕ) (bs : List ℕ) → length bs ≤ n → length bs ≤ m → cut n at bs ≡ cut m at bs
+enough zero m at bs h k = cut-none zero at bs (omega arith) ∙ sym (cut-none m at bs (omega arith))
+enough (suc n) zero at bs h k = cut-none (suc n) at bs (omega arith) ∙ sym (cut-none zero at bs (omega arith))
+enough (suc n) (suc m) at bs h k =
+    let z : ℕ = spans bs in
+    go (eqb (length bs) 0) refl (whole bs) refl
+    (λ l. enough n m (at + z) (drop z bs) (omega (arith, length-drop z bs)) (omega (arith, length-drop z bs)))
+  where
+    go : (t : Bool) → eqb (length bs) 0 ≡ t → (u : Bool) → whole bs ≡ u →
+        (0 < length bs → cut n (at + spans bs) (drop (spans bs) bs) ≡ cut m (at + spans bs) (drop (spans bs) bs)) →
+        cut (suc n) at bs ≡ cut (suc m) at bs
+    go true e u w i =
+        let l = eqb-true (length bs) 0 e in cut-none (suc n) at bs l ∙ sym (cut-none (suc m) at bs l)
+    go false e true w i =
+        let f = eqb-false (length bs) 0 e in
+        let l : 0 < length bs = omega arith in
+        cut-whole at bs l n w ∙ ap (λ rs. raw at (u16 bs 2) (take (spans bs - 4) (drop 4 bs)) ∷ rs) (i l)
+        ∙ sym (cut-whole at bs l m w)
+    go false e false w i =
+        let f = eqb-false (length bs) 0 e in
+        let l : 0 < length bs = omega arith in
+        cut-torn at bs l (suc n) h w ∙ sym (cut-torn at bs l (suc m) k w)
+
+records-none : (at : ℕ) (bs : List ℕ) → length bs ≡ 0 → recordsFrom at bs ≡ []
+unfolding recordsFrom
+records-none at bs h = cut-none (length bs) at bs h
+
+pub records-torn : (at : ℕ) (bs : List ℕ) → 0 < length bs → whole bs ≡ false → recordsFrom at bs ≡ torn at ∷ []
+unfolding recordsFrom
+records-torn at bs h w = cut-torn at bs h (length bs) (omega arith) w
+
+pub records-whole : (at : ℕ) (bs : List ℕ) → 0 < length bs → whole bs ≡ true →
+    recordsFrom at bs
+    ≡ raw at (u16 bs 2) (take (spans bs - 4) (drop 4 bs)) ∷ recordsFrom (at + spans bs) (drop (spans bs) bs)
+unfolding recordsFrom
+records-whole at bs h w =
+    enough (length bs) (suc (length bs)) at bs (omega arith) (omega arith)
+    ∙ cut-whole at bs h (length bs) w
+    ∙ ap (λ rs. raw at (u16 bs 2) (take (spans bs - 4) (drop 4 bs)) ∷ rs)
+    (enough (length bs) (length (drop (spans bs) bs)) (at + spans bs) (drop (spans bs) bs)
+    (omega (arith, length-drop (spans bs) bs)) (omega arith))
+
+-- FINE RECORDS.
+abbrev pub Fine : List Raw → Type 0
+Fine [] = Unit {0}
+Fine (torn at ∷ rs) = ⊥
+Fine (raw at k bs ∷ rs) = Judged k bs × Fine rs
+
+needed-then : (j : ℕ) (b : Bool) (o : Outcome Passed) → _>>_ (need j b) o ≡ ok passed → (b ≡ true) × (o ≡ ok passed)
+unfolding _>>_ need
+needed-then j true o e = (refl, e)
+needed-then j false o e = not-ok e
+
+-- What checks 2 to 4 say of a record, and that 5 to 7 pass.
+pub record Counted (seen : List ℕ) (k : ℕ) (bs : List ℕ) : Type 0 where
+  pub fine : Judged k bs
+  pub placed-is : placed (rowOf k .group) (getD seen 6 0) ≡ true
+  pub roomy : getD seen (rowOf k .group) 0 < rowOf k .most
+
+counted-by : (seen : List ℕ) (k : ℕ) (bs : List ℕ) → judged seen k bs ≡ ok passed → Counted seen k bs
+unfolding judged
+counted-by seen k bs e =
+    let a = needed-then No.KIND (ltb 0 (rowOf k .group)) _ e in
+    let b = needed-then No.PLACE (placed (rowOf k .group) (getD seen 6 0)) _ (a .1) in
+    let c = needed-then No.MANY (ltb (getD seen (rowOf k .group) 0) (rowOf k .most)) _ (b .1) in
+    record {
+      fine = record { grouped = ltb-true 0 (rowOf k .group) (a .0); body-judged = c .1 };
+      placed-is = b .0;
+      roomy = ltb-true (getD seen (rowOf k .group) 0) (rowOf k .most) (c .0);
+    }
+
+pub passed-on : (at k : ℕ) (bs : List ℕ) (rs : List Raw) (seen n : List ℕ) → firstPass seen (raw at k bs ∷ rs) ≡ accepted n →
+    Counted seen k bs × (firstPass (saw seen k) rs ≡ accepted n)
+unfolding firstPass
+passed-on at k bs rs seen n e = go (judged seen k bs) refl e
+  where
+    go : (o : Outcome Passed) → judged seen k bs ≡ o →
+        (elim o [ fails x ↦ refused x at | ok y ↦ firstPass (saw seen k) rs ]) ≡ accepted n →
+        Counted seen k bs × (firstPass (saw seen k) rs ≡ accepted n)
+    go (ok passed) q i = (counted-by seen k bs q, i)
+    go (fails x) q i = not-accepted i
+
+pub fine-all : (seen : List ℕ) (rs : List Raw) (n : List ℕ) → firstPass seen rs ≡ accepted n → Fine rs
+unfolding firstPass
+fine-all seen [] n e = tt
+fine-all seen (torn at ∷ rs) n e = not-accepted e
+fine-all seen (raw at k bs ∷ rs) n e =
+    let a = passed-on at k bs rs seen n e in (a .0 .fine, fine-all (saw seen k) rs n (a .1))
+
+-- What checks 5 and 6 say of a body.
+pub record Sized (r : Row) (bs : List ℕ) : Type 0 where
+  pub head-there : r .head ≤ length bs
+  pub tail-sized : sized (r .tail) (drop (r .head) bs) ≡ true
+  pub tail-valid : valid (r .tail) (drop (r .head) bs) ≡ true
+
+pub sized-by : (r : Row) (bs : List ℕ) → bodyJudged r bs ≡ ok passed → Sized r bs
+unfolding bodyJudged
+sized-by r bs e =
+    let a = needed-then No.SIZE (leb (r .head) (length bs) && sized (r .tail) (drop (r .head) bs)) _ e in
+    let t = needed-two No.VALUE No.TWICE _ _ (a .1) in
+    let s = and-true (leb (r .head) (length bs)) _ (a .0) in
+    let v = and-true (inSet (r .field) bs) _ (t .0) in
+    record { head-there = leb-true (r .head) (length bs) (s .0); tail-sized = s .1; tail-valid = v .1 }
+
+-- ROUND A LOOP over the file s: what is left of it, and its records.
+abbrev pub left : List ℕ → List ℕ → List Raw
+left s rest = recordsFrom (length s - length rest) rest
+
+pub record On (s rest : List ℕ) : Type 0 where
+  pub short : length rest ≤ length s
+  pub fine : Fine (left s rest)
+
+whole-by : (at : ℕ) (bs : List ℕ) (t : Bool) → 0 < length bs → whole bs ≡ t → Fine (recordsFrom at bs) → t ≡ true
+whole-by at bs true h e f = refl
+whole-by at bs false h e f = absurd (rw (records-torn at bs h e) at f)
+
+pub left-all : (s : List ℕ) → left s s ≡ recordsFrom 0 s
+left-all s = let z : length s - length s ≡ 0 = omega arith in ap (λ at. recordsFrom at s) z
+
+pub left-none : (s rest : List ℕ) → length rest ≡ 0 → left s rest ≡ []
+left-none s rest h = records-none (length s - length rest) rest h
+
+pub on-all : (s : List ℕ) → Readable s → On s s
+on-all s r =
+    record {
+      short = omega arith;
+      fine = rw (left-all s) (fine-all noneSeen (recordsFrom 0 s) (r .accepts .0) (r .accepts .1));
+    }
+
+-- A record stands at the front of the rest.
+module _ {s rest : List ℕ} (h : 0 < length rest) (o : On s rest) where
+  pub whole-is : whole rest ≡ true
+  whole-is = whole-by (length s - length rest) rest (whole rest) h refl (o .fine)
+
+  span-is : (2 ≤ u16 rest 0) × (spans rest ≤ length rest)
+  span-is =
+      let a = and-true (leb 2 (u16 rest 0)) _ whole-is in
+      (leb-true 2 (u16 rest 0) (a .0), leb-true (spans rest) (length rest) (a .1))
+
+  pub four-there : 4 ≤ length rest
+  four-there = let w = span-is in omega arith
+
+  -- It has z bytes.
+  module _ {z : ℕ} (e : z ≡ spans rest) where
+    abbrev rest′ : List ℕ
+    rest′ = take (length rest - z) (drop z rest)
+
+    pub span-fits : (4 ≤ z) × (z ≤ length rest)
+    span-fits = let w = span-is in (omega arith, omega arith)
+
+    pub shorter : 4 + length rest′ ≤ length rest
+    shorter = let w = span-fits in rw (rest-of z rest) (omega (arith, length-drop z rest))
+
+    -- It is of kind k.
+    module _ {k : ℕ} (i : k ≡ u16 rest 2) where
+      pub here : left s rest ≡ raw (length s - length rest) k (take (z - 4) (drop 4 rest)) ∷ left s rest′
+      here =
+          let w = span-fits in
+          let y : ℕ = spans rest in
+          let j : length s - length rest + y ≡ length s - length (drop y rest) = omega (arith, length-drop y rest, o .short) in
+          rw (rest-of z rest, e, i) (records-whole (length s - length rest) rest h whole-is ∙ rw j)
+
+      pub judged-here : Judged k (take (z - 4) (drop 4 rest))
+      judged-here = (rw here at (o .fine)) .0
+
+      pub on-next : On s rest′
+      on-next = record { short = omega (arith, shorter, o .short); fine = (rw here at (o .fine)) .1 }

@@ -1,0 +1,61 @@
+-- What a record of a kind declares, and that it has the bytes for it. Assumes nothing.
+use Prim.Native.Nat.{ℕ, _≤_, _<_}
+use native.Mathlib.Omega.{arith}
+use mathlib.Core.Path.{_≡_, refl}
+use mathlib.Core.List.{List}
+use mathlib.Core.Bool.{Bool, true, false, _||_}
+use lib.Dec.{eqb}
+use borrow.Author.Tests.{eqb-true, eqb-false, eq-eqb, ne-eqb}
+use lib.ListN.{length}
+use Rattle.semantics.specs.Words.{if_then_else_}
+use Rattle.semantics.specs.Bytes.{u32, i32}
+use Rattle.semantics.specs.Record.{rowOf}
+use Rattle.base_number.specs.Code.{code}
+use Rattle.file_index.specs.Index.{Judged}
+use Rattle.file_index.proofs.Bodies.{head-at}
+use Rattle.row_begin_end.specs.Fresh.{amountIn}
+
+head-1 : rowOf 1 .head ≡ 4
+unfolding rowOf
+head-1 = refl
+
+head-2 : rowOf 2 .head ≡ 4
+unfolding rowOf
+head-2 = refl
+
+head-4 : rowOf 4 .head ≡ 4
+unfolding rowOf
+head-4 = refl
+
+head-7 : rowOf 7 .head ≡ 6
+unfolding rowOf
+head-7 = refl
+
+module _ (k : ℕ) (bs : List ℕ) where
+  pub var-there : Judged k bs → k ≡ 4 → 4 ≤ length bs
+  var-there j = head-at j head-4
+
+  pub entity-there : Judged k bs → k ≡ 7 → 6 ≤ length bs
+  entity-there j = head-at j head-7
+
+  pub var-is : k ≡ 4 → amountIn k bs ≡ code (i32 bs 0)
+  var-is e = rw (eq-eqb k 4 e)
+
+  -- A RES or a BIN.
+  module _ (low : 1 ≤ k) (high : k < 3) where
+    pub amount-there : Judged k bs → 4 ≤ length bs
+    amount-there j = by (eqb k 1) refl
+      where
+        by : (t : Bool) → eqb k 1 ≡ t → 4 ≤ length bs
+        by true e = head-at j head-1 (eqb-true k 1 e)
+        by false e = let n = eqb-false k 1 e in head-at j head-2 (omega arith)
+
+    pub amount-is : amountIn k bs ≡ u32 bs 0
+    amount-is = rw (ne-eqb k 4 (λ e. omega arith)) (by (eqb k 1) refl)
+      where
+        by : (t : Bool) → eqb k 1 ≡ t → (if t || eqb k 2 then u32 bs 0 else 0) ≡ u32 bs 0
+        by true e = refl
+        by false e = let n = eqb-false k 1 e in rw (eq-eqb k 2 (omega arith))
+
+  pub none-is : (k ≡ 1 → ⊥) → (k ≡ 2 → ⊥) → (k ≡ 4 → ⊥) → amountIn k bs ≡ 0
+  none-is a b c = rw (ne-eqb k 1 a, ne-eqb k 2 b, ne-eqb k 4 c)

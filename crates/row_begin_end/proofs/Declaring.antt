@@ -1,0 +1,160 @@
+-- Round the loop that writes what is declared. Assumes nothing.
+use Prim.Native.Nat.{ℕ, _+_, _-_, _≤_, _<_}
+use native.Mathlib.Omega.{arith}
+use mathlib.Core.Path.{_≡_, refl, sym, subst, _∙_, ap}
+use mathlib.Core.List.{List, [], _++_, map}
+use mathlib.Core.Bool.{Bool}
+use lib.Dec.{eqb}
+use lib.ListN.{length, take, drop, length-map}
+use lib.Seq.{sets, length-sets}
+use Rattle.semantics.specs.Model.{Model}
+use Rattle.semantics.specs.Bytes.{spans, u16}
+use Rattle.semantics.specs.Decode.{gather}
+use Rattle.semantics.specs.State.{bare}
+use Rattle.promises.specs.Fit.{Fit}
+use Rattle.promises.specs.Accepted.{accepted-fit}
+use Rattle.base_number.specs.Code.{code}
+use Rattle.row_work.specs.Work.{workOf}
+use Rattle.row_work.specs.Shown.{work-long}
+use Rattle.file_index.specs.Index.{given, Wrote}
+use Rattle.file_index.proofs.Filled.{given-few}
+use Rattle.file_index.proofs.Gathered.{gather-none}
+use Rattle.file_index.proofs.Records.{On, on-all, left, left-all, left-none, on-next}
+use Rattle.file_index.proofs.Standing.{accepted-by}
+use Rattle.row_begin_end.specs.Fresh.{amountIn, Declaring}
+use Rattle.row_begin_end.proofs.Declared.{Adds, front-adds}
+use Rattle.row_begin_end.proofs.Partly.{partly, Left, left-next, partly-sized, nothing-yet, all-declared}
+use Rattle.row_begin_end.proofs.Partly.{free-noted, bins-noted, vars-noted}
+
+-- The first i resources, j bins and k variables are written, and the records of the rest declare the others.
+pub record Declared (m : Model) (bs w : List ℕ) (free bins vars : ℕ) (rest : List ℕ) : Type 0 where
+  pub on : On bs rest
+  pub i : ℕ
+  pub j : ℕ
+  pub k : ℕ
+  pub free-is : free ≡ 8 + i
+  pub bins-is : bins ≡ 40 + j
+  pub vars-is : vars ≡ 72 + k
+  pub shows : w ≡ workOf (partly m i j k)
+  pub totals-left : Left (m .totals) i (gather (left bs rest) .model .totals)
+  pub amounts-left : Left (m .amounts) j (gather (left bs rest) .model .amounts)
+  pub vars-left : Left (map code (m .vars)) k (map code (gather (left bs rest) .model .vars))
+
+module _ {bs w : List ℕ} (d : Declaring bs w) where
+  fits : Fit (d .model)
+  fits = accepted-fit bs (d .model) (d .is-accepted)
+
+  pub declare-starts : Declared (d .model) bs w 8 40 72 bs
+  declare-starts =
+      let a = accepted-by bs (d .model) (d .is-accepted) in
+      let m = d .model in
+      let g : gather (left bs bs) .model ≡ m = ap (λ rs. gather rs .model) (left-all bs) ∙ a .is in
+      record {
+        on = on-all bs (a .readable);
+        i = 0;
+        j = 0;
+        k = 0;
+        free-is = refl;
+        bins-is = refl;
+        vars-is = refl;
+        shows = d .is-vacant ∙ nothing-yet m fits;
+        totals-left = record { few = omega arith; left-is = ap (λ x. x .totals) (sym g) };
+        amounts-left = record { few = omega arith; left-is = ap (λ x. x .amounts) (sym g) };
+        vars-left = record { few = omega arith; left-is = ap (λ x. map code (x .vars)) (sym g) };
+      }
+
+-- ROUND THE LOOP.
+module _ {bs w₀ : List ℕ} (d : Declaring bs w₀) {w : List ℕ} {free bins vars : ℕ} {rest : List ℕ}
+    (v : Declared (d .model) bs w free bins vars rest) where
+  abbrev m : Model
+  m = d .model
+
+  abbrev f : Fit m
+  f = fits d
+
+  pub declared-long : length w ≡ 10_696
+  declared-long = ap length (v .shows) ∙ work-long (partly m (v .i) (v .j) (v .k)) (partly-sized m f (v .i) (v .j) (v .k))
+
+  few-vars : length (map code (m .vars)) ≤ 32
+  few-vars = let a : length (map code (m .vars)) ≡ length (m .vars) = length-map (m .vars) code in omega (arith, f .few-vars)
+
+  -- There is room for one more of each.
+  pub free-room : (b : Bool) (a : ℕ) → free + length (given b a) ≤ length w
+  free-room b a = omega (arith, given-few b a, v .totals-left .few, f .few-totals, v .free-is, declared-long)
+
+  module _ {xs x : List ℕ} {n : ℕ} (r : Wrote free xs w n x) where
+    first-long : length x ≡ length w
+    first-long = ap length (r .after-is) ∙ length-sets w free xs
+
+    pub bins-room : (b : Bool) (a : ℕ) → bins + length (given b a) ≤ length x
+    bins-room b a = omega (arith, given-few b a, v .amounts-left .few, f .few-amounts, v .bins-is, declared-long, first-long)
+
+    pub vars-room : {ys y : List ℕ} {k : ℕ} → Wrote bins ys x k y → (b : Bool) (a : ℕ) → vars + length (given b a) ≤ length y
+    vars-room {ys} {y} {k} s b a =
+        let l : length y ≡ length x = ap length (s .after-is) ∙ length-sets x bins ys in
+        omega (arith, given-few b a, v .vars-left .few, few-vars, v .vars-is, declared-long, first-long)
+
+  -- A record of z bytes and kind k stands in front, and a is what it declares.
+  module _ (h : 0 < length rest) {z : ℕ} (e : z ≡ spans rest) {k : ℕ} (q : k ≡ u16 rest 2) {a : ℕ}
+      (g : a ≡ amountIn k (take (z - 4) (drop 4 rest))) where
+    abbrev next : List ℕ
+    next = take (length rest - z) (drop z rest)
+
+    abbrev body : List ℕ
+    body = take (z - 4) (drop 4 rest)
+
+    adding : Adds k body (gather (left bs next)) (gather (left bs rest))
+    adding = front-adds h (v .on) e q
+
+    totals : Left (m .totals) (v .i) (given (eqb k 1) a ++ gather (left bs next) .model .totals)
+    totals = rw g (subst (Left (m .totals) (v .i)) (adding .totals-are) (v .totals-left))
+
+    amounts : Left (m .amounts) (v .j) (given (eqb k 2) a ++ gather (left bs next) .model .amounts)
+    amounts = rw g (subst (Left (m .amounts) (v .j)) (adding .amounts-are) (v .amounts-left))
+
+    values : Left (map code (m .vars)) (v .k) (given (eqb k 4) a ++ map code (gather (left bs next) .model .vars))
+    values = rw g (subst (Left (map code (m .vars)) (v .k)) (adding .vars-are) (v .vars-left))
+
+    pub declare-turn : {free' bins' vars' : ℕ} {x y u : List ℕ} → Wrote free (given (eqb k 1) a) w free' x
+        → Wrote bins (given (eqb k 2) a) x bins' y → Wrote vars (given (eqb k 4) a) y vars' u
+        → Declared m bs u free' bins' vars' next
+    declare-turn {x = x} {y = y} {u = u} r s t =
+        let i' : ℕ = v .i + length (given (eqb k 1) a) in
+        let j' : ℕ = v .j + length (given (eqb k 2) a) in
+        let k' : ℕ = v .k + length (given (eqb k 4) a) in
+        let x-is : x ≡ workOf (partly m i' (v .j) (v .k)) =
+        r .after-is ∙ ap (λ n. sets w n (given (eqb k 1) a)) (v .free-is)
+        ∙ ap (λ l. sets l (8 + v .i) (given (eqb k 1) a)) (v .shows)
+        ∙ free-noted m f (v .i) (v .j) (v .k) (eqb k 1) a _ totals in
+        let y-is : y ≡ workOf (partly m i' j' (v .k)) =
+        s .after-is ∙ ap (λ n. sets x n (given (eqb k 2) a)) (v .bins-is)
+        ∙ ap (λ l. sets l (40 + v .j) (given (eqb k 2) a)) x-is
+        ∙ bins-noted m f i' (v .j) (v .k) (eqb k 2) a _ amounts in
+        let u-is : u ≡ workOf (partly m i' j' k') =
+        t .after-is ∙ ap (λ n. sets y n (given (eqb k 4) a)) (v .vars-is)
+        ∙ ap (λ l. sets l (72 + v .k) (given (eqb k 4) a)) y-is
+        ∙ vars-noted m f i' j' (v .k) (eqb k 4) a _ values in
+        record {
+          on = on-next h (v .on) e q;
+          i = i';
+          j = j';
+          k = k';
+          free-is = omega (arith, r .next-is, v .free-is);
+          bins-is = omega (arith, s .next-is, v .bins-is);
+          vars-is = omega (arith, t .next-is, v .vars-is);
+          shows = u-is;
+          totals-left = left-next (m .totals) (v .i) (given (eqb k 1) a) _ totals;
+          amounts-left = left-next (m .amounts) (v .j) (given (eqb k 2) a) _ amounts;
+          vars-left = left-next (map code (m .vars)) (v .k) (given (eqb k 4) a) _ values;
+        }
+
+  pub declare-ends : length rest ≡ 0 → w ≡ workOf (bare m)
+  declare-ends h =
+      let g : gather (left bs rest) .model .totals ≡ [] = rw (left-none bs rest h, gather-none) in
+      let n : gather (left bs rest) .model .amounts ≡ [] = rw (left-none bs rest h, gather-none) in
+      let c : map code (gather (left bs rest) .model .vars) ≡ [] = rw (left-none bs rest h, gather-none) in
+      v .shows
+      ∙ ap workOf
+      (all-declared m f (v .i) (v .j) (v .k) (subst (Left (m .totals) (v .i)) g (v .totals-left))
+      (subst (Left (m .amounts) (v .j)) n (v .amounts-left))
+      (subst (Left (map code (m .vars)) (v .k)) c (v .vars-left)))

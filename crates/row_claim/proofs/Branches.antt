@@ -1,0 +1,127 @@
+-- The branches of an action one after the other: what the map has of them, and one branch further. Assumes nothing.
+use Prim.Native.Nat.{ℕ, zero, suc, _+_, _-_, _≤_, _<_}
+use native.Mathlib.Numerals.{add-one}
+use native.Mathlib.Omega.{arith}
+use mathlib.Core.Path.{_≡_, refl, sym, _∙_, ap}
+use mathlib.Core.List.{List, [], _∷_}
+use mathlib.Core.Bool.{Bool, true, false}
+use mathlib.Core.Option.{none, some}
+use lib.ListN.{length, getD, drop, getElem?}
+use Rattle.semantics.specs.State.{State}
+use Rattle.semantics.specs.Claim.{Offer, waits, goes, met, firstMet}
+use Rattle.promises.specs.Laws.{all-at, drop-some, drop-none}
+use Rattle.row_claim.specs.Asking.{ClaimAt, Meeting, Asking, choiceOf}
+
+-- What stands at index k of a list; behind its end nothing does.
+record There {A : Type 0} (xs : List A) (k : ℕ) : Type 0 where
+  one : A
+  there-is : getElem? xs k ≡ some one
+
+there : {A : Type 0} (xs : List A) (k : ℕ) → k < length xs → There xs k
+there [] k h = absurd (omega arith)
+there (x ∷ xs) zero h = record { one = x; there-is = refl }
+there (x ∷ xs) (suc k) h = let t = there xs k (omega arith) in record { one = t .one; there-is = t .there-is }
+
+nothing-there : {A : Type 0} (xs : List A) (k : ℕ) → length xs ≤ k → getElem? xs k ≡ none
+nothing-there [] k h = refl
+nothing-there (x ∷ xs) zero h = absurd (omega arith)
+nothing-there (x ∷ xs) (suc k) h = nothing-there xs k (omega arith)
+
+-- The first of the offers is met, or not.
+module _ (s : State) (k : ℕ) (o : Offer) (os : List Offer) where
+  first-goes : met s (o .claim) ≡ true → firstMet s k (o ∷ os) ≡ goes k o
+  unfolding firstMet
+  first-goes e = rw (e, firstMet)
+
+  first-waits : met s (o .claim) ≡ false → firstMet s k (o ∷ os) ≡ firstMet s (k + 1) os
+  unfolding firstMet
+  first-waits e = rw (add-one k, e, firstMet)
+
+-- The choice that k stands for.
+chosen : (os : List Offer) (k : ℕ) (o : Offer) → getElem? os k ≡ some o → choiceOf k os ≡ goes k o
+chosen os k o e = rw (e, choiceOf)
+
+not-chosen : (os : List Offer) (k : ℕ) → getElem? os k ≡ none → choiceOf k os ≡ waits
+not-chosen os k e = rw (e, choiceOf)
+
+module _ (bs map w : List ℕ) (a : ℕ) (v : Asking bs map w a) where
+  -- The first that is met is the first from branch k on.
+  abbrev pub FirstFrom : ℕ → Type 0
+  FirstFrom k = firstMet (v .is) 0 (v .asks) ≡ firstMet (v .is) k (drop k (v .asks))
+
+  -- Where the map has its branches.
+  module _ (from to : ℕ) (p : from ≡ getD map (1_345 + a) 0) (q : to ≡ getD map (1_346 + a) 0) where
+    pub many-are : to ≡ from + length (v .asks)
+    many-are =
+        let e : 1_346 + a ≡ 1_345 + (a + 1) = omega arith in
+        let t = ap (λ i. getD map i 0) e ∙ v .asks-at .to-is in
+        omega (arith, t)
+
+    pub few-are : to ≤ 4_096
+    few-are = let m = many-are in let f = v .asks-at .from-few in omega (arith, f)
+
+    pub none-met : (k : ℕ) → k ≤ to - from → to - from ≤ k → FirstFrom k
+        → (firstMet (v .is) 0 (v .asks) ≡ choiceOf (to - from) (v .asks)) × (to - from ≤ length (v .asks))
+    unfolding firstMet
+    none-met k l g f =
+        let m = many-are in
+        let e : getElem? (v .asks) k ≡ none = nothing-there (v .asks) k (omega arith) in
+        let j : k ≡ to - from = omega arith in (
+          f
+              ∙ ap (firstMet (v .is) k) (drop-none (v .asks) k e)
+              ∙ sym (not-chosen (v .asks) k e)
+              ∙ ap (λ i. choiceOf i (v .asks)) j,
+          omega arith,
+        )
+
+    -- Branch k.
+    module _ (k : ℕ) (h : k < to - from) where
+      pub in-asks : k < length (v .asks)
+      in-asks = let m = many-are in omega arith
+
+      offer : Offer
+      offer = there (v .asks) k in-asks .one
+
+      offer-is : getElem? (v .asks) k ≡ some offer
+      unfolding offer
+      offer-is = there (v .asks) k in-asks .there-is
+
+      onward : drop k (v .asks) ≡ offer ∷ drop (k + 1) (v .asks)
+      onward = drop-some (v .asks) k offer offer-is
+
+      module _ (at : ℕ) (s : at ≡ getD map (2_370 + (from + k)) 0) where
+        claim-there : ClaimAt bs at (offer .claim)
+        claim-there =
+            let o = v .asks-at .each k offer offer-is in
+            rw (s ∙ ap (λ j. getD map (2_370 + (j + k)) 0) p)
+            (record { inside = o .inside; items-few = o .items-few; items-valid = o .items-valid; claim-is = o .claim-is })
+
+        pub its-claim : Meeting bs at w
+        its-claim =
+            record {
+              model = v .model;
+              is = v .is;
+              shows = v .shows;
+              sized = v .sized;
+              declares = v .declares;
+              claim = offer .claim;
+              claim-at = claim-there;
+              items-fit = all-at _ (v .asks) k offer (v .asks-fit) offer-is;
+            }
+
+        -- The answer r for its claim: it is the first, or the first is behind it.
+        module _ (r : Bool) (told : (d : Meeting bs at w) → r ≡ met (d .is) (d .claim)) (f : FirstFrom k) where
+          answered : r ≡ met (v .is) (offer .claim)
+          unfolding its-claim
+          answered = told its-claim
+
+          pub is-first : r ≡ true → firstMet (v .is) 0 (v .asks) ≡ choiceOf k (v .asks)
+          is-first e =
+              f
+              ∙ ap (firstMet (v .is) k) onward
+              ∙ first-goes (v .is) k offer (drop (k + 1) (v .asks)) (sym answered ∙ e)
+              ∙ sym (chosen (v .asks) k offer offer-is)
+
+          pub is-behind : r ≡ false → FirstFrom (k + 1)
+          is-behind e =
+              f ∙ ap (firstMet (v .is) k) onward ∙ first-waits (v .is) k offer (drop (k + 1) (v .asks)) (sym answered ∙ e)

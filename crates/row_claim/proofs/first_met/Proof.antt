@@ -1,0 +1,112 @@
+-- `row_claim::first_met` meets its contract. The invariant: the first that is met is the first from branch k on. Assumes nothing.
+use Prim.Native.Nat.{_-_, _≤_}
+use native.Mathlib.Omega.{arith}
+use mathlib.Core.Path.{refl}
+use Rattle.row_claim.specs.Asking.{Asking}
+use Rattle.row_claim.proofs.Branches.{FirstFrom, many-are, few-are, none-met, in-asks, its-claim, is-first, is-behind}
+use Rattle.row_claim.proofs.first_met.Statement.{statement}
+use Rattle.row_claim.proofs.first_met.Tie as tie
+
+abbrev Inv-loop : tie.InvT-loop
+Inv-loop s map w a from many k₀ k = (k ≤ many) × ((v : Asking s map w a) → FirstFrom s map w a v k)
+
+abbrev μ-loop : tie.MeasureT-loop
+μ-loop s map w a from many k₀ k = many - k
+
+add-number-at : tie.Need-add-number-at Inv-loop μ-loop
+add-number-at c = omega (arith, c .before .before .before .pre .few)
+
+number-at-requires : tie.Need-number-at-requires Inv-loop μ-loop
+number-at-requires c κs = let v = c .before .before .before .pre in omega (arith, v .few, v .long)
+
+add-number-at-2 : tie.Need-add-number-at-2 Inv-loop μ-loop
+add-number-at-2 c = omega (arith, c .before .before .before .before .pre .few)
+
+number-at-requires-2 : tie.Need-number-at-requires-2 Inv-loop μ-loop
+number-at-requires-2 c κs = let v = c .before .before .before .before .pre in omega (arith, v .few, v .long)
+
+sub-many : tie.Need-sub-many Inv-loop μ-loop
+sub-many c = let v = c .before .before .before .before .before .pre in
+    omega (arith, many-are _ _ _ _ v _ _ (c .before .number-at .ensures) (c .number-at2 .ensures))
+
+loop-holds : tie.Need-loop-holds Inv-loop μ-loop
+loop-holds c = (omega arith, λ v. refl)
+
+add-number-at-3 : tie.Need-add-number-at-3 Inv-loop μ-loop
+add-number-at-3 c = let v = c .before .before .before .before .before .before .before .pre in
+    let p = c .before .before .before .number-at .ensures in
+    let q = c .before .before .number-at2 .ensures in
+    omega (arith, few-are _ _ _ _ v _ _ p q)
+
+add-number-at-4 : tie.Need-add-number-at-4 Inv-loop μ-loop
+add-number-at-4 c = let v = c .before .before .before .before .before .before .before .pre in
+    let p = c .before .before .before .number-at .ensures in
+    let q = c .before .before .number-at2 .ensures in
+    omega (arith, few-are _ _ _ _ v _ _ p q)
+
+number-at-requires-3 : tie.Need-number-at-requires-3 Inv-loop μ-loop
+number-at-requires-3 c κs = let v = c .before .before .before .before .before .before .before .pre in
+    let p = c .before .before .before .number-at .ensures in
+    let q = c .before .before .number-at2 .ensures in
+    omega (arith, v .long, few-are _ _ _ _ v _ _ p q)
+
+met-requires : tie.Need-met-requires Inv-loop μ-loop
+met-requires c κs = let v = c .before .before .before .before .before .before .before .before .pre in
+    let p = c .before .before .before .before .number-at .ensures in
+    let q = c .before .before .before .number-at2 .ensures in
+    its-claim _ _ _ _ v _ _ p q _ (c .before .loop-test .taken) _ (c .number-at3 .ensures)
+
+returns : tie.Need-returns Inv-loop μ-loop
+returns c = λ v.
+    let p = c .before .before .before .before .before .before .number-at .ensures in
+    let q = c .before .before .before .before .before .number-at2 .ensures in
+    let t = c .before .before .before .loop-test .taken in
+    let e = c .before .before .number-at3 .ensures in
+    let f = c .before .before .before .before .loop .inv .1 v in (
+      is-first _ _ _ _ v _ _ p q _ t _ e _ (c .before .met .ensures) f (c .if1 .taken),
+      omega (arith, in-asks _ _ _ _ v _ _ p q _ t),
+    )
+
+add-k : tie.Need-add-k Inv-loop μ-loop
+add-k c = omega arith
+
+loop-less : tie.Need-loop-less Inv-loop μ-loop
+loop-less c = omega (arith, c .before .before .before .loop-test .taken)
+
+loop-again : tie.Need-loop-again Inv-loop μ-loop
+loop-again c = let p = c .before .before .before .before .before .before .number-at .ensures in
+    let q = c .before .before .before .before .before .number-at2 .ensures in
+    let t = c .before .before .before .loop-test .taken in
+    let e = c .before .before .number-at3 .ensures in
+    let told = c .before .met .ensures in
+    let f = c .before .before .before .before .loop .inv .1 in
+    (omega (arith, t), λ v. is-behind _ _ _ _ v _ _ p q _ t _ e _ told (f v) (c .if1 .left))
+
+returns-2 : tie.Need-returns-2 Inv-loop μ-loop
+returns-2 c = λ v.
+    let l = c .before .loop in
+    let p = c .before .before .before .number-at .ensures in
+    let q = c .before .before .number-at2 .ensures in
+    none-met _ _ _ _ v _ _ p q _ (l .inv .0) (c .loop-test .left) (l .inv .1 v)
+
+pub first-met-spec : {M : Type 1} → statement M
+first-met-spec =
+    tie.close
+    (tie.spec
+    Inv-loop
+    μ-loop
+    add-number-at
+    number-at-requires
+    add-number-at-2
+    number-at-requires-2
+    sub-many
+    loop-holds
+    add-number-at-3
+    add-number-at-4
+    number-at-requires-3
+    met-requires
+    returns
+    add-k
+    loop-less
+    loop-again
+    returns-2)

@@ -1,0 +1,109 @@
+// Claims of the model's bytes held against the work: whether one is met, and which branch is the first.
+ghost use mathlib.Core.Path.{_≡_};
+ghost use Prim.Native.Nat.{_+_, _≤_, _<_};
+ghost use lib.ListN.{length, getD};
+ghost use Rattle.semantics.specs.Record.{relationOf, itemOf};
+ghost use Rattle.semantics.specs.Claim.{holds, itemMet, met, firstMet};
+ghost use Rattle.base_number.specs.Code.{valueOf};
+ghost use Rattle.row_claim.specs.Asking.{Meeting, Asking, choiceOf};
+ghost use Rattle.row_claim.specs.Items.{rowOf, MeetingItem};
+
+fn wide(x: u32) -> u64
+    ensures { λ r. ⌜ r ≡ x ⌝ }
+{
+    x as u64
+}
+
+// ---- one item
+
+// Whether the relation of this number holds between two numbers, given by their codes.
+fn holds(relation: u32, x: u64, y: u64) -> bool
+    ensures { λ r. ⌜ r ≡ holds (relationOf relation) (valueOf x) (valueOf y) ⌝ }
+{
+    match relation {
+        1 => x < y,
+        2 => x <= y,
+        4 => x != y,
+        5 => y <= x,
+        6 => y < x,
+        _ => x == y,
+    }
+}
+
+// Where the row begins that an item of this kind is looked up in: what is free, the bins, how many wait, the variables.
+fn row_of(kind: u32) -> usize
+    ensures { λ r. ⌜ (r ≡ rowOf kind) × (r ≤ 104) ⌝ }
+{
+    match kind {
+        0 => 8,
+        1 => 40,
+        2 => 104,
+        _ => 72,
+    }
+}
+
+// What the work has at this number of the row.
+fn there(w: &[u64], kind: u32, number: u32) -> u64
+    requires { ⌜ (length (now w) ≡ 10696) × (number < 32) ⌝ }
+    ensures { λ r. ⌜ r ≡ getD (now (w .entry)) (rowOf kind + number) 0 ⌝ }
+{
+    let row = row_of(kind);
+    w[row + number as usize]
+}
+
+fn item_met<'a>(i: &'a [u8], w: &'a [u64]) -> bool
+    requires { ⌜ MeetingItem (now i) (now w) × (8 ≤ length (now i)) ⌝ }
+    ensures { λ r. ⌜ ((v : MeetingItem (now (i .entry)) (now (w .entry))) →
+        r ≡ itemMet (v .is) (itemOf (now (i .entry)))) ⌝ }
+{
+    let kind = file_fields::u8_at(i, 0);
+    let relation = file_fields::u8_at(i, 1);
+    let number = file_fields::u16_at(i, 2);
+    let amount = file_fields::u32_at(i, 4);
+    let has = there(w, kind, number);
+    if kind <= 2 {
+        return wide(amount) <= has;
+    }
+    let bound = wide(base_number::from_twos(amount));
+    holds(relation, has, bound)
+}
+
+// ---- the items of a claim
+
+// Whether the claim at byte `at` is met.
+fn met<'a>(s: &'a [u8], at: usize, w: &'a [u64]) -> bool
+    requires { ⌜ Meeting (now s) at (now w) ⌝ }
+    ensures { λ r. ⌜ ((v : Meeting (now (s .entry)) at (now (w .entry))) → r ≡ met (v .is) (v .claim)) ⌝ }
+{
+    let mut left = file_fields::u16_at(s, at);
+    let mut rest = &s[at + 2..];
+    while 0 < left {
+        if !item_met(&rest[..8], w) {
+            return false;
+        }
+        rest = &rest[8..];
+        left = left - 1;
+    }
+    true
+}
+
+// ---- the branches of an action
+
+// The first branch of action a whose claim is met, from 0; as many as there are where none is.
+pub fn first_met<'a>(s: &'a [u8], map: &'a [u32], w: &'a [u64], a: usize) -> usize
+    requires { ⌜ Asking (now s) (now map) (now w) a ⌝ }
+    ensures { λ r. ⌜ ((v : Asking (now (s .entry)) (now (map .entry)) (now (w .entry)) a) →
+        (firstMet (v .is) 0 (v .asks) ≡ choiceOf r (v .asks)) × (r ≤ length (v .asks))) ⌝ }
+{
+    let from = file_map::number_at(map, 1345 + a);
+    let many = file_map::number_at(map, 1346 + a) - from;
+    let mut k = 0;
+    while k < many {
+        let at = file_map::number_at(map, 2370 + (from + k));
+        if met(s, at, w) {
+            return k;
+        }
+        k += 1;
+    }
+    many
+}

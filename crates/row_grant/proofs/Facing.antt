@@ -1,0 +1,226 @@
+-- An action held against the blocked: whether one of them bars it, and which branch is taken. Assumes nothing.
+use Prim.Native.Nat.{ℕ, zero, suc, _+_, _-_, _≤_, _<_}
+use native.Mathlib.Numerals.{add-one}
+use native.Mathlib.Omega.{arith}
+use mathlib.Core.Path.{_≡_, refl, sym, subst, _∙_, ap}
+use mathlib.Core.List.{List, [], _∷_}
+use mathlib.Core.Bool.{Bool, true, false, _||_}
+use mathlib.Core.Option.{none}
+use lib.ListN.{length, getD, take, drop, getElem?}
+use Rattle.semantics.specs.Words.{any}
+use Rattle.semantics.specs.State.{Waiter}
+use Rattle.semantics.specs.Claim.{Offer, offers, bars, asks, barred, Choice, waits, firstMet, choice}
+use Rattle.promises.specs.Laws.{AllOf, all-map}
+use Rattle.promises.specs.Fit.{ItemFit}
+use Rattle.promises.specs.Takes.{OfferOk, offers-ok}
+use Rattle.row_work.specs.Work.{Sized}
+use Rattle.row_work.specs.Sized.{held-sized}
+use Rattle.row_process.specs.Process.{Shown, Lives}
+use Rattle.row_lists.specs.Lists.{IsBlocked}
+use Rattle.file_bars.specs.Barring.{Barring}
+use Rattle.row_claim.specs.Asking.{Asking, choiceOf}
+use Rattle.row_claim.proofs.Branches.{many-are as all-branches}
+use Rattle.row_grant.specs.Grant.{Facing, Faced}
+use Rattle.row_grant.specs.Standing.{Standing, numberIn, asks-are, offers-there, number-low, placeAt, blocked-standing}
+
+-- THE FIRST k of a list of places, from the i-th on: whether one of them passes the test g.
+module _ (g : ℕ → Bool) where
+  abbrev pub anyFrom : ℕ → ℕ → List Waiter → Bool
+  anyFrom i k ws = any (λ w. g (w .place)) (drop i (take k ws))
+
+  next : (i k : ℕ) (ws : List Waiter) → i < k → k ≤ length ws → anyFrom i k ws ≡ g (placeAt ws i) || anyFrom (suc i) k ws
+  next i zero ws h l = absurd (omega arith)
+  next i (suc k) [] h l = absurd (omega arith)
+  next zero (suc k) (w ∷ ws) h l = refl
+  next (suc i) (suc k) (w ∷ ws) h l = next i k ws (omega arith) (omega arith)
+
+  pub none-behind : (k : ℕ) (ws : List Waiter) → anyFrom k k ws ≡ false
+  none-behind zero ws = refl
+  none-behind (suc k) [] = refl
+  none-behind (suc k) (w ∷ ws) = none-behind k ws
+
+-- Behind all offers there is none to take.
+behind-waits : (os : List Offer) → choiceOf (length os) os ≡ waits
+behind-waits os = rw (behind os, choiceOf)
+  where
+    behind : (xs : List Offer) → getElem? xs (length xs) ≡ none
+    behind [] = refl
+    behind (x ∷ xs) = behind xs
+
+module _ {bs row w : List ℕ} {a k : ℕ} (v : Facing bs row w a k) where
+  pub is-sized : Sized (v .is)
+  is-sized = held-sized (v .model) (v .fits) (v .nested) (v .few-rounds) (v .is) (v .holds) (v .floor-ok)
+
+  -- The same, held against fewer.
+  pub nearer : (i : ℕ) → i ≤ k → Facing bs row w a i
+  nearer i h =
+      record {
+        model = v .model;
+        fits = v .fits;
+        nested = v .nested;
+        few-rounds = v .few-rounds;
+        mapped = v .mapped;
+        is = v .is;
+        shows = v .shows;
+        in-hand = v .in-hand;
+        amounts = v .amounts;
+        holds = v .holds;
+        floor-ok = v .floor-ok;
+        ahead = omega (arith, v .ahead);
+        asked = v .asked;
+        asked-at = v .asked-at;
+        asked-low = v .asked-low;
+        asked-fit = v .asked-fit;
+      }
+
+  -- THE i-th of the blocked, in place r,
+  module _ (i : ℕ) (h : i < k) where
+    pub there-is : Shown w (IsBlocked i)
+    there-is = record { is = v .is; shows = v .shows; sized = is-sized; given = omega (arith, v .ahead) }
+
+    pub place-is : (r : ℕ) → ((d : Shown w (IsBlocked i)) → r ≡ placeAt (d .is .blocked) i) → r ≡ placeAt (v .is .blocked) i
+    unfolding there-is
+    place-is r told = told there-is
+
+    module _ (r : ℕ) (e : r ≡ placeAt (v .is .blocked) i) where
+      stands : Standing (v .model) r (v .is)
+      stands =
+          subst (λ p. Standing (v .model) p (v .is)) (sym e)
+          (blocked-standing (v .model) (v .is) (v .holds) i (omega (arith, v .ahead)))
+
+      pub its-place : Shown w (Lives r)
+      its-place = record { is = v .is; shows = v .shows; sized = is-sized; given = stands .lives }
+
+      -- stands at action b, which bars or not.
+      module _ (b : ℕ)
+          (told : (d : Shown w (Lives r)) → b ≡ getD row (d .given .innermost .block) 0 + d .given .innermost .at) where
+        number-is : b ≡ numberIn stands row
+        unfolding its-place
+        number-is = told its-place
+
+        pub its-barring : Barring row b a
+        its-barring =
+            record {
+              bytes = bs;
+              by = offers (stands .action);
+              of = offers (v .asked);
+              long = v .mapped .long;
+              b-few = rw number-is (number-low stands (v .mapped) (v .fits));
+              q-few = v .asked-low;
+              by-at = rw number-is (offers-there stands (v .mapped));
+              of-at = v .asked-at;
+            }
+
+        pub bars-is : (x : Bool) → ((d : Barring row b a) → x ≡ bars (d .by) (d .of))
+            → x ≡ bars (asks (v .model) (v .is) (placeAt (v .is .blocked) i)) (offers (v .asked))
+        unfolding its-barring
+        bars-is x f =
+            f its-barring
+            ∙ ap (λ q. bars q (offers (v .asked))) (sym (asks-are stands) ∙ ap (asks (v .model) (v .is)) e)
+
+  -- ONE AFTER THE OTHER: whether one bars is whether one from the i-th on does.
+  abbrev is-barred : Bool
+  is-barred = barred (v .model) (v .is) (take k (v .is .blocked)) (offers (v .asked))
+
+  abbrev barring : ℕ → Bool
+  barring p = bars (asks (v .model) (v .is) p) (offers (v .asked))
+
+  abbrev pub BarredFrom : ℕ → Type 0
+  BarredFrom i = is-barred ≡ anyFrom barring i k (v .is .blocked)
+
+  module _ (i : ℕ) (h : i < k) (r : Bool)
+      (told : (d : Faced row w a (i + 1))
+      → r ≡ bars (asks (d .1 .model) (d .1 .is) (placeAt (d .1 .is .blocked) i)) (offers (d .1 .asked)))
+      (f : BarredFrom i) where
+    turn : is-barred ≡ r || anyFrom barring (i + 1) k (v .is .blocked)
+    unfolding nearer
+    turn =
+        let e : r ≡ barring (placeAt (v .is .blocked) i) = told (bs, nearer (i + 1) (omega arith)) in
+        f ∙ next barring i k (v .is .blocked) h (v .ahead) ∙ rw (e, add-one i)
+
+    pub one-bars : r ≡ true → true ≡ is-barred
+    one-bars e = sym (rw e at turn)
+
+    pub one-not : r ≡ false → BarredFrom (i + 1)
+    one-not e = rw e at turn
+
+  pub none-bars : (i : ℕ) → i ≤ k → k ≤ i → BarredFrom i → false ≡ is-barred
+  none-bars i l g f =
+      let e : i ≡ k = omega arith in
+      sym (f ∙ ap (λ j. anyFrom barring j k (v .is .blocked)) e ∙ none-behind barring k (v .is .blocked))
+
+  -- WHICH BRANCH.
+  pub asking : Asking bs row w a
+  asking =
+      record {
+        model = v .model;
+        is = v .is;
+        shows = v .shows;
+        sized = is-sized;
+        declares =
+            record {
+              frees-many = v .holds .frees-many;
+              bins-many = v .holds .bins-many;
+              vars-many = v .holds .vars-many;
+              syncs-many = v .holds .syncs-many;
+            };
+        long = v .mapped .long;
+        few = v .asked-low;
+        asks = offers (v .asked);
+        asks-at = v .asked-at;
+        asks-fit =
+            all-map (OfferOk (v .model) (v .asked)) (λ o. AllOf (ItemFit (v .model)) (o .claim)) (λ o b. b .0 .1)
+            (offers (v .asked)) (offers-ok (v .model) (v .asked) (v .asked-fit));
+      }
+
+  abbrev pub Chooses : ℕ → Type 0
+  Chooses r =
+      (choice (v .model) (v .is) (take k (v .is .blocked)) (offers (v .asked)) ≡ choiceOf r (offers (v .asked)))
+      × (r ≤ length (offers (v .asked)))
+
+  abbrev first : Choice
+  first = firstMet (v .is) 0 (offers (v .asked))
+
+  free-chooses : is-barred ≡ false → choice (v .model) (v .is) (take k (v .is .blocked)) (offers (v .asked)) ≡ first
+  unfolding choice
+  free-chooses e = rw (e, choice)
+
+  barred-waits : is-barred ≡ true → choice (v .model) (v .is) (take k (v .is .blocked)) (offers (v .asked)) ≡ waits
+  unfolding choice
+  barred-waits e = rw (e, choice)
+
+  -- As many branches as there are stand for waiting: one is barred,
+  module _ (from to : ℕ) (p : from ≡ getD row (1_345 + a) 0) (q : to ≡ getD row (1_346 + a) 0) where
+    pub many-are : to ≡ from + length (offers (v .asked))
+    unfolding asking
+    many-are = all-branches bs row w a asking from to p q
+
+    many-wait : choiceOf (to - from) (offers (v .asked)) ≡ waits
+    many-wait =
+        let e : to - from ≡ length (offers (v .asked)) = omega (arith, many-are) in
+        ap (λ n. choiceOf n (offers (v .asked))) e ∙ behind-waits (offers (v .asked))
+
+    pub barred-taken : true ≡ is-barred → Chooses (to - from)
+    barred-taken e = (barred-waits (sym e) ∙ sym many-wait, omega (arith, many-are))
+
+  module _ (r : ℕ)
+      (told : (d : Asking bs row w a) → (firstMet (d .is) 0 (d .asks) ≡ choiceOf r (d .asks)) × (r ≤ length (d .asks))) where
+    first-is : (first ≡ choiceOf r (offers (v .asked))) × (r ≤ length (offers (v .asked)))
+    unfolding asking
+    first-is = told asking
+
+    -- or none is met, barred or not.
+    module _ (from to : ℕ) (p : from ≡ getD row (1_345 + a) 0) (q : to ≡ getD row (1_346 + a) 0) where
+      pub none-taken : to - from ≤ r → Chooses (to - from)
+      none-taken h = by is-barred refl
+        where
+          by : (t : Bool) → is-barred ≡ t → Chooses (to - from)
+          by true e = barred-taken from to p q (sym e)
+          by false e =
+              let m = many-are from to p q in
+              let s : r ≡ to - from = omega (arith, m, first-is .1) in
+              (free-chooses e ∙ first-is .0 ∙ ap (λ n. choiceOf n (offers (v .asked))) s, omega (arith, m))
+
+    -- Else the first that is met is taken.
+    pub first-taken : false ≡ is-barred → Chooses r
+    first-taken e = (free-chooses (sym e) ∙ first-is .0, first-is .1)

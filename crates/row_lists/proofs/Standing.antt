@@ -1,0 +1,27 @@
+-- What is read of a process in a work that shows the state. Assumes nothing.
+use Prim.Native.Nat.{ℕ, _+_, _*_, _<_}
+use native.Mathlib.Omega.{arith}
+use mathlib.Core.Path.{_≡_, _∙_, ap}
+use mathlib.Core.List.{List}
+use lib.ListN.{getD}
+use Rattle.semantics.specs.State.{State, nobody, process}
+use Rattle.promises.specs.Laws.{all-get}
+use Rattle.base_number.specs.Code.{code}
+use Rattle.base_number.specs.Laws.{code-fits}
+use Rattle.row_work.specs.Work.{processRow, ProcessSized}
+use Rattle.row_work.specs.Shown.{process-at}
+use Rattle.row_process.specs.Process.{Shown}
+
+module _ {w : List ℕ} {P : State → Type 0} (v : Shown w P) (p : ℕ) where
+  abbrev s : State
+  s = v .is
+
+  pub is-sized : ProcessSized (process s p)
+  is-sized = all-get ProcessSized (s .processes) p nobody (v .sized .processes-ok) (omega arith)
+
+  pub priority-is : p < 64 → getD w (2_504 + 128 * p + 1) 0 ≡ code (process s p .priority)
+  unfolding processRow
+  priority-is l = ap (λ x. getD x (2_504 + 128 * p + 1) 0) (v .shows) ∙ process-at s (v .sized) p 1 l (omega arith)
+
+  pub priority-low : code (process s p .priority) < 4_294_967_296
+  priority-low = code-fits (process s p .priority) (is-sized .priority-ok)

@@ -1,0 +1,109 @@
+-- What is read of a process in a work that shows the state, and what a number written there makes of it. Assumes nothing.
+use Prim.Native.Nat.{ℕ, _+_, _*_, _≤_, _<_}
+use native.Mathlib.Omega.{arith}
+use mathlib.Core.Path.{_≡_, refl, sym, subst, _∙_, ap}
+use mathlib.Core.List.{List, _∷_}
+use lib.ListN.{length, getD, set}
+use Rattle.semantics.specs.Words.{isEmpty}
+use Rattle.semantics.specs.State.{State, Process, Frame, isFree, process, put, with-priority, with-locals, with-frames}
+use Rattle.promises.specs.Laws.{AllOf}
+use Rattle.base_number.specs.Code.{code, valueOf}
+use Rattle.base_number.specs.Laws.{code-fits, code-valueOf}
+use Rattle.row_work.specs.Work.{frameWord, processRow, workOf, ProcessSized, FrameSized}
+use Rattle.row_work.specs.Shown.{work-long, process-at, process-set}
+use Rattle.row_process.specs.Process.{Shown, Lives, changed}
+use Rattle.row_process.specs.Rows.{priority-set, local-set, top-at, top-set}
+use Rattle.row_process.specs.Put.{process-sized}
+
+pub is-long : {w : List ℕ} {P : State → Type 0} → Shown w P → length w ≡ 10_696
+is-long v = ap length (v .shows) ∙ work-long (v .is) (v .sized)
+
+-- THE ROW of the process in place p.
+module _ {w : List ℕ} {P : State → Type 0} (v : Shown w P) (p : ℕ) where
+  abbrev q : Process
+  q = process (v .is) p
+
+  pub is-sized : ProcessSized q
+  is-sized = process-sized (v .is) p (v .sized)
+
+  module _ (l : p < 64) where
+    pub word-is : (j : ℕ) → j < 128 → getD w (2_504 + 128 * p + j) 0 ≡ getD (processRow q) j 0
+    word-is j h = ap (λ x. getD x (2_504 + 128 * p + j) 0) (v .shows) ∙ process-at (v .is) (v .sized) p j l h
+
+    pub word-set : (j : ℕ) → j < 128 → (x : ℕ) (r : Process) → set (processRow q) j x ≡ processRow r → isFree r ≡ isFree q
+        → set w (2_504 + 128 * p + j) x ≡ workOf (put p r (v .is))
+    word-set j h x r e f =
+        ap (λ y. set y (2_504 + 128 * p + j) x) (v .shows) ∙ process-set (v .is) (v .sized) p j l h x r e f
+
+    -- Its first four words.
+    pub number-is : getD w (2_504 + 128 * p + 0) 0 ≡ q .number
+    unfolding processRow
+    number-is = word-is 0 (omega arith)
+
+    pub priority-is : getD w (2_504 + 128 * p + 1) 0 ≡ code (q .priority)
+    unfolding processRow
+    priority-is = word-is 1 (omega arith)
+
+    pub priority-low : getD w (2_504 + 128 * p + 1) 0 < 4_294_967_296
+    priority-low = rw priority-is (code-fits (q .priority) (is-sized .priority-ok))
+
+    pub depth-is : getD w (2_504 + 128 * p + 2) 0 ≡ length (q .frames)
+    unfolding processRow
+    depth-is = word-is 2 (omega arith)
+
+    pub depth-few : getD w (2_504 + 128 * p + 2) 0 ≤ 8
+    depth-few = rw depth-is (is-sized .frames-few)
+
+    pub slaves-are : getD w (2_504 + 128 * p + 3) 0 ≡ length (q .slaves)
+    unfolding processRow
+    slaves-are = word-is 3 (omega arith)
+
+    -- Its priority and a local, written.
+    pub priority-written : (c : ℕ)
+        → set w (2_504 + 128 * p + 1) c ≡ workOf (changed p (λ r. with-priority r (valueOf c)) (v .is))
+    priority-written c =
+        word-set 1 (omega arith) c (with-priority q (valueOf c))
+        (ap (set (processRow q) 1) (sym (code-valueOf c)) ∙ priority-set q is-sized (valueOf c)) refl
+
+    pub local-there : (i : ℕ) → i < length (q .locals) → 4 + i < 128
+    local-there i h = omega (arith, is-sized .locals-few)
+
+    pub local-written : (i c : ℕ) → i < length (q .locals)
+        → set w (2_504 + 128 * p + (4 + i)) c ≡ workOf (changed p (λ r. with-locals r (set (r .locals) i (valueOf c))) (v .is))
+    local-written i c h =
+        word-set (4 + i) (local-there i h) c (with-locals q (set (q .locals) i (valueOf c)))
+        (ap (set (processRow q) (4 + i)) (sym (code-valueOf c)) ∙ local-set q is-sized i (valueOf c) h) refl
+
+-- THE INNERMOST BLOCK of a process that lives, which is in n blocks.
+module _ {w : List ℕ} {P : State → Type 0} (v : Shown w P) {p : ℕ} (l : Lives p (v .is)) where
+  pub around-few : length (l .around) < 8
+  around-few = let a = is-sized v p .frames-few in let b = ap length (l .frames-are) in omega (arith, b)
+
+  pub top-sized : FrameSized (l .innermost)
+  top-sized = subst (AllOf FrameSized) (l .frames-are) (is-sized v p .frames-ok) .0
+
+  module _ (n : ℕ) (e : n ≡ length (process (v .is) p .frames)) where
+    pub top-place : 43 + n ≡ 44 + length (l .around)
+    top-place = let b = e ∙ ap length (l .frames-are) in omega (arith, b)
+
+    pub top-is : getD w (2_504 + 128 * p + (43 + n)) 0 ≡ frameWord (l .innermost)
+    top-is =
+        ap (λ j. getD w (2_504 + 128 * p + j) 0) top-place
+        ∙ word-is v p (l .in-places) (44 + length (l .around)) (let a = around-few in omega arith)
+        ∙ top-at (process (v .is) p) (is-sized v p) (l .innermost) (l .around) (l .frames-are)
+
+    pub top-written : (x : ℕ) (g : Frame) → x ≡ frameWord g
+        → set w (2_504 + 128 * p + (43 + n)) x ≡ workOf (changed p (λ r. with-frames r (g ∷ l .around)) (v .is))
+    top-written x g k =
+        ap (set w (2_504 + 128 * p + (43 + n))) k
+        ∙ ap (λ j. set w (2_504 + 128 * p + j) (frameWord g)) top-place
+        ∙ word-set v p (l .in-places) (44 + length (l .around)) (let a = around-few in omega arith) (frameWord g)
+        (with-frames (process (v .is) p) (g ∷ l .around))
+        (top-set (process (v .is) p) (is-sized v p) (l .innermost) (l .around) (l .frames-are) g)
+        (sym (ap isEmpty (l .frames-are)))
+
+  -- Its blocks as the definitions name them.
+  pub by-blocks : (f : List Frame → List Frame)
+      → workOf (changed p (λ r. with-frames r (f (l .innermost ∷ l .around))) (v .is))
+      ≡ workOf (changed p (λ r. with-frames r (f (r .frames))) (v .is))
+  by-blocks f = ap (λ fs. workOf (put p (with-frames (process (v .is) p) (f fs)) (v .is))) (sym (l .frames-are))

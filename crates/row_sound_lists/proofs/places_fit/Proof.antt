@@ -1,0 +1,38 @@
+-- `row_sound_lists::places_fit` meets its contract: turn by turn. Assumes nothing.
+use Prim.Native.Nat.{_-_, _≤_}
+use native.Mathlib.Omega.{arith}
+use mathlib.Core.Path.{_≡_}
+use borrow.Author.Needs.{needs}
+use Rattle.row_sound_lists.specs.Tests.{each, placeFits}
+use Rattle.row_sound_lists.proofs.Loops.{each-none, each-on, each-done}
+use Rattle.row_sound_lists.proofs.places_fit.Statement.{statement}
+use Rattle.row_sound_lists.proofs.places_fit.Tie as tie
+
+abbrev Inv-loop : tie.InvT-loop
+Inv-loop w syncs ok₀ p₀ ok p = (p ≤ 64) × (ok ≡ each p (placeFits w syncs))
+
+abbrev μ-loop : tie.MeasureT-loop
+μ-loop w syncs ok₀ p₀ ok p = 64 - p
+
+loop-holds : tie.Need-loop-holds Inv-loop μ-loop
+loop-holds c = (omega arith, each-none _)
+
+place-fits-requires : tie.Need-place-fits-requires Inv-loop μ-loop
+place-fits-requires c κs = search needs
+
+add-p : tie.Need-add-p Inv-loop μ-loop
+add-p c = search needs
+
+loop-less : tie.Need-loop-less Inv-loop μ-loop
+loop-less c = search needs
+
+loop-again : tie.Need-loop-again Inv-loop μ-loop
+loop-again c = let l = c .before .before .loop in (omega arith, each-on _ (l .p) _ _ (c .place-fits .ensures) (l .inv .1))
+
+returns : tie.Need-returns Inv-loop μ-loop
+returns c = let l = c .before .loop in each-done _ (l .p) _ _ (omega arith) (l .inv .1)
+
+pub places-fit-spec : {M : Type 1} → statement M
+places-fit-spec =
+    tie.close
+    (tie.spec Inv-loop μ-loop loop-holds place-fits-requires add-p loop-less loop-again returns)

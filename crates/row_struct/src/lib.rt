@@ -1,0 +1,268 @@
+// An open run's state as a struct of arrays, by value. The engine works on one lent row of numbers (crate row_work): the struct is
+// unpacked into it when a call begins and packed from it when the call ends.
+ghost use mathlib.Core.Path.{_≡_};
+ghost use Prim.Native.Nat.{_+_, _≤_};
+ghost use lib.ListN.{length, take, drop};
+ghost use Rattle.semantics.specs.Words.{collect};
+ghost use Rattle.row_struct.specs.State.{over, processRowOf, rowOf, ProcessFull, ProcessesFull, Full};
+
+// A process: its number, the code of its priority, how many blocks it is in and how many slaves it has; the codes of its locals,
+// what it holds, its blocks, and its slaves in the order claimed. What is not used is 0.
+pub struct Process {
+    pub number: u64,
+    pub priority: u64,
+    pub depth: u64,
+    pub slaves: u64,
+    pub locals: [u64; 8],
+    pub held: [u64; 32],
+    pub blocks: [u64; 8],
+    pub owned: [u64; 76],
+}
+
+// A state: the clock, whether it is closed, the last number given, who has the floor (0 for nobody, else the place and 1), the
+// living places as bits, how many events and how many blocked there are, and 0. Then by number what is free, the bins, the codes
+// of the variables and how many wait for each sync; the blocked list; the keys of the events and what they do; 64 words for each
+// sync's waiting list; and the processes by place.
+pub struct State {
+    pub clock: u64,
+    pub closed: u64,
+    pub last: u64,
+    pub floor: u64,
+    pub living: u64,
+    pub events: u64,
+    pub blocked: u64,
+    pub spare: u64,
+    pub free: [u64; 32],
+    pub bins: [u64; 32],
+    pub globals: [u64; 32],
+    pub waits: [u64; 32],
+    pub queue: [u64; 64],
+    pub keys: [u64; 128],
+    pub words: [u64; 128],
+    pub waiting: [u64; 2048],
+    pub processes: [Process; 64],
+}
+
+// `from`, number by number, over a row of its length.
+pub fn copy_words(from: &[u64], to: &mut [u64])
+    requires { ⌜ length (now from) ≡ length (now to) ⌝ }
+    ensures { λ _. ⌜ now (to .exit) ≡ now (from .entry) ⌝ }
+{
+    let mut i = 0;
+    while i < from.len() {
+        to[i] = from[i];
+        i += 1;
+    }
+}
+
+// A part of a row, laid over what stands there from `at` on.
+fn lay(part: &[u64], w: &mut [u64], at: usize)
+    requires { ⌜ at + length (now part) ≤ length (now w) ⌝ }
+    ensures { λ _. ⌜ now (w .exit) ≡ over at (now (part .entry)) (now (w .entry)) ⌝ }
+{
+    let to = at + part.len();
+    copy_words(part, &mut w[at..to]);
+}
+
+// ---- from the struct to the row
+
+// The row of a process; and its arrays have their lengths.
+fn unpack_process(q: Process, w: &mut [u64])
+    requires { ⌜ length (now w) ≡ 128 ⌝ }
+    ensures { λ _. ⌜ now (w .exit) ≡ processRowOf q ⌝ }
+    ensures { λ _. ⌜ ProcessFull q ⌝ }
+{
+    let head = [q.number, q.priority, q.depth, q.slaves];
+    lay(&head, w, 0);
+    lay(&q.locals, w, 4);
+    lay(&q.held, w, 12);
+    lay(&q.blocks, w, 44);
+    lay(&q.owned, w, 52);
+}
+
+// The rows of all processes.
+fn unpack_processes(ps: [Process; 64], w: &mut [u64])
+    requires { ⌜ length (now w) ≡ 8192 ⌝ }
+    ensures { λ _. ⌜ now (w .exit) ≡ collect processRowOf ps ⌝ }
+    ensures { λ _. ⌜ ProcessesFull ps ⌝ }
+{
+    let mut p = 0;
+    while p < 64 {
+        let q = ps[p];
+        let from = 128 * p;
+        let to = from + 128;
+        unpack_process(q, &mut w[from..to]);
+        p += 1;
+    }
+}
+
+// The row of a state; and its arrays have their lengths, so that the row is of no other state (`same-state`).
+pub fn unpack(state: State, w: &mut [u64])
+    requires { ⌜ length (now w) ≡ 10696 ⌝ }
+    ensures { λ _. ⌜ now (w .exit) ≡ rowOf state ⌝ }
+    ensures { λ _. ⌜ Full state ⌝ }
+{
+    let head = [
+        state.clock,
+        state.closed,
+        state.last,
+        state.floor,
+        state.living,
+        state.events,
+        state.blocked,
+        state.spare,
+    ];
+    lay(&head, w, 0);
+    lay(&state.free, w, 8);
+    lay(&state.bins, w, 40);
+    lay(&state.globals, w, 72);
+    lay(&state.waits, w, 104);
+    lay(&state.queue, w, 136);
+    lay(&state.keys, w, 200);
+    lay(&state.words, w, 328);
+    lay(&state.waiting, w, 456);
+    let ps = state.processes;
+    unpack_processes(ps, &mut w[2504..10696]);
+}
+
+// ---- from the row to the struct
+
+// The part of a row from `at` on, as much as `part` has room for.
+fn lift(w: &[u64], at: usize, part: &mut [u64])
+    requires { ⌜ at + length (now part) ≤ length (now w) ⌝ }
+    ensures { λ _. ⌜ now (part .exit) ≡ take (length (now (part .entry))) (drop at (now (w .entry))) ⌝ }
+{
+    let to = at + part.len();
+    copy_words(&w[at..to], part);
+}
+
+// The part as an array of each length that a field has.
+fn eight_at(w: &[u64], at: usize) -> [u64; 8]
+    requires { ⌜ at + 8 ≤ length (now w) ⌝ }
+    ensures { λ r. ⌜ r ≡ take 8 (drop at (now (w .entry))) ⌝ }
+{
+    let mut part = [0u64; 8];
+    lift(w, at, &mut part);
+    part
+}
+
+fn amounts_at(w: &[u64], at: usize) -> [u64; 32]
+    requires { ⌜ at + 32 ≤ length (now w) ⌝ }
+    ensures { λ r. ⌜ r ≡ take 32 (drop at (now (w .entry))) ⌝ }
+{
+    let mut part = [0u64; 32];
+    lift(w, at, &mut part);
+    part
+}
+
+fn places_at(w: &[u64], at: usize) -> [u64; 64]
+    requires { ⌜ at + 64 ≤ length (now w) ⌝ }
+    ensures { λ r. ⌜ r ≡ take 64 (drop at (now (w .entry))) ⌝ }
+{
+    let mut part = [0u64; 64];
+    lift(w, at, &mut part);
+    part
+}
+
+fn slaves_at(w: &[u64], at: usize) -> [u64; 76]
+    requires { ⌜ at + 76 ≤ length (now w) ⌝ }
+    ensures { λ r. ⌜ r ≡ take 76 (drop at (now (w .entry))) ⌝ }
+{
+    let mut part = [0u64; 76];
+    lift(w, at, &mut part);
+    part
+}
+
+fn events_at(w: &[u64], at: usize) -> [u64; 128]
+    requires { ⌜ at + 128 ≤ length (now w) ⌝ }
+    ensures { λ r. ⌜ r ≡ take 128 (drop at (now (w .entry))) ⌝ }
+{
+    let mut part = [0u64; 128];
+    lift(w, at, &mut part);
+    part
+}
+
+fn waiting_at(w: &[u64], at: usize) -> [u64; 2048]
+    requires { ⌜ at + 2048 ≤ length (now w) ⌝ }
+    ensures { λ r. ⌜ r ≡ take 2048 (drop at (now (w .entry))) ⌝ }
+{
+    let mut part = [0u64; 2048];
+    lift(w, at, &mut part);
+    part
+}
+
+// The process whose row this is.
+fn pack_process(w: &[u64]) -> Process
+    requires { ⌜ length (now w) ≡ 128 ⌝ }
+    ensures { λ r. ⌜ processRowOf r ≡ now (w .entry) ⌝ }
+    ensures { λ r. ⌜ ProcessFull r ⌝ }
+{
+    let locals = eight_at(w, 4);
+    let held = amounts_at(w, 12);
+    let blocks = eight_at(w, 44);
+    let owned = slaves_at(w, 52);
+    Process {
+        number: w[0],
+        priority: w[1],
+        depth: w[2],
+        slaves: w[3],
+        locals,
+        held,
+        blocks,
+        owned,
+    }
+}
+
+// The processes whose rows these are.
+fn pack_processes(w: &[u64]) -> [Process; 64]
+    requires { ⌜ length (now w) ≡ 8192 ⌝ }
+    ensures { λ r. ⌜ collect processRowOf r ≡ now (w .entry) ⌝ }
+    ensures { λ r. ⌜ ProcessesFull r ⌝ }
+{
+    let first = pack_process(&w[0..128]);
+    let mut ps = [first; 64];
+    let mut p = 1;
+    while p < 64 {
+        let from = 128 * p;
+        let to = from + 128;
+        ps[p] = pack_process(&w[from..to]);
+        p += 1;
+    }
+    ps
+}
+
+// The state whose row this is. There is one only (`same-state`).
+pub fn pack(w: &[u64]) -> State
+    requires { ⌜ length (now w) ≡ 10696 ⌝ }
+    ensures { λ r. ⌜ rowOf r ≡ now (w .entry) ⌝ }
+    ensures { λ r. ⌜ Full r ⌝ }
+{
+    let free = amounts_at(w, 8);
+    let bins = amounts_at(w, 40);
+    let globals = amounts_at(w, 72);
+    let waits = amounts_at(w, 104);
+    let queue = places_at(w, 136);
+    let keys = events_at(w, 200);
+    let words = events_at(w, 328);
+    let waiting = waiting_at(w, 456);
+    let processes = pack_processes(&w[2504..10696]);
+    State {
+        clock: w[0],
+        closed: w[1],
+        last: w[2],
+        floor: w[3],
+        living: w[4],
+        events: w[5],
+        blocked: w[6],
+        spare: w[7],
+        free,
+        bins,
+        globals,
+        waits,
+        queue,
+        keys,
+        words,
+        waiting,
+        processes,
+    }
+}

@@ -1,0 +1,48 @@
+-- The answer of the test, for every model with so many of each. Assumes nothing.
+use Prim.Native.Nat.{ℕ}
+use mathlib.Core.Path.{_≡_, sym, _∙_, ap, subst}
+use mathlib.Core.List.{List}
+use mathlib.Core.Bool.{Bool, true, false, _&&_}
+use lib.ListN.{length, getD}
+use Rattle.semantics.specs.Model.{Model}
+use Rattle.promises.specs.Laws.{no-way, _&_}
+use Rattle.row_work.specs.Work.{workOf, Sized}
+use Rattle.row_work.specs.Shown.{work-long}
+use Rattle.row_view.specs.View.{cut, viewBy, viewIn}
+use Rattle.row_view.specs.Fits.{Counted, Showing, Few, headFits, thingsFit, listsFit, processesFit, workFits}
+use Rattle.row_view.proofs.Whole.{says-work}
+
+abbrev Decides : Model → List ℕ → Bool → Type 0
+Decides m w x = (x ≡ true → Showing m w) × (x ≡ false → Showing m w → ⊥)
+
+-- A row of another length shows nothing.
+pub not-long : (m : Model) (w : List ℕ) → (length w ≡ 10_696 → ⊥) → Decides m w false
+not-long m w h = (λ e. no-way e, λ e s. h (ap length (s .is-form) ∙ work-long (viewIn m w) (s .is-sized)))
+
+module _ (r b y v : ℕ) (few : Few r b y v) (w : List ℕ) (long : length w ≡ 10_696) where
+  tests-are : {h t l p : Bool} → h ≡ headFits w → t ≡ thingsFit r b y v w → l ≡ listsFit y w
+      → p ≡ processesFit r 64 (cut 2_504 8_192 w) (getD w 4 0) → h && (t && (l && p)) ≡ workFits r b y v w
+  unfolding workFits
+  tests-are h-is t-is l-is p-is = λ z. h-is z && (t-is z && (l-is z && p-is z))
+
+  decides : (m : Model) → Counted m r b y v → (x : Bool) → x ≡ workFits r b y v w → Decides m w x
+  decides m c x e = (yes, no)
+    where
+      same : viewBy r b y v w ≡ viewIn m w
+      same =
+          λ z. viewBy (sym (c .resources-are) z) (sym (c .bins-are) z) (sym (c .syncs-are) z) (sym (c .variables-are) z) w
+
+      yes : x ≡ true → Showing m w
+      yes t =
+          let i = says-work r b y v few w long .yes (sym e ∙ t) in
+          record { is-form = i .0 ∙ ap workOf same; is-sized = subst Sized same (i .1) }
+
+      no : x ≡ false → Showing m w → ⊥
+      no f s =
+          let i = (s .is-form ∙ ap workOf (sym same)) & subst Sized (sym same) (s .is-sized) in
+          no-way (sym f ∙ e ∙ says-work r b y v few w long .back i)
+
+  pub shows-decided : {h t l p : Bool} → h ≡ headFits w → t ≡ thingsFit r b y v w → l ≡ listsFit y w
+      → p ≡ processesFit r 64 (cut 2_504 8_192 w) (getD w 4 0) → (m : Model) → Counted m r b y v
+      → Decides m w (h && (t && (l && p)))
+  shows-decided h-is t-is l-is p-is m c = decides m c _ (tests-are h-is t-is l-is p-is)

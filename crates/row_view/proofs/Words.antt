@@ -1,0 +1,104 @@
+-- What the test of one word decides: that the word is made again of what it shows, and that this has a size that the work can
+-- hold. Assumes nothing.
+use Prim.Native.Nat.{ℕ, _-_, _/_, _%_, _≤_, _<_}
+use native.Mathlib.Omega.{arith}
+use mathlib.Core.Path.{_≡_, refl}
+use mathlib.Core.Bool.{Bool, true, false}
+use lib.Dec.{eqb, leb}
+use borrow.Author.Tests.{eqb-true, eqb-false, leb-true, ltb-true, le-leb, lt-ltb}
+use Rattle.semantics.specs.Numbers as No
+use Rattle.promises.specs.Laws.{_&_}
+use Rattle.promises.specs.Fit.{I32}
+use Rattle.promises.specs.Says.{Says, says-le, says-lt, says-for, _and_}
+use Rattle.base_number.specs.Code.{code, valueOf}
+use Rattle.base_number.specs.Laws.{code-valueOf, code-fits, value-fits}
+use Rattle.base_ordered.specs.Lines.{eventKey, waiterWord, dataOf, packed, kindOf, numberOf, amountOf, giverOf}
+use Rattle.row_work.specs.Work.{frameWord, slaveWord, FrameSized, SlaveSized, WaiterSized, NoticeSized}
+use Rattle.row_view.specs.View.{frameOf, slaveOf, waiterOf, noticeOf, eventOf}
+use Rattle.row_view.specs.Fits.{frameFits, returnFits, noticeFits, mostWaiter, mostKey, mostSlave, mostCode}
+
+pub says-plain : (most x : ℕ) → Says (leb x most) ((x ≡ x) × (x ≤ most))
+says-plain most x = says-for says-le (λ h. (refl, h)) (λ h. h .1)
+
+pub says-code : (x : ℕ) → Says (leb x mostCode) ((code (valueOf x) ≡ x) × I32 (valueOf x))
+says-code x =
+    record {
+      yes = λ e. let h = leb-true x mostCode e in (code-valueOf x, value-fits x (omega arith));
+      back = λ h. let a = code-fits (valueOf x) (h .1) in let b = h .0 in le-leb x mostCode (omega arith);
+    }
+
+pub says-slave : (x : ℕ) → Says (leb x mostSlave) ((slaveWord (slaveOf x) ≡ x) × SlaveSized (slaveOf x))
+says-slave x =
+    record {
+      yes = λ e. let h = leb-true x mostSlave e in (omega arith, record { of-low = omega arith; place-low = omega arith });
+      back = λ h. let a = h .1 .of-low in le-leb x mostSlave (omega arith);
+    }
+
+pub says-waiter : (x : ℕ) → Says (leb x mostWaiter) ((waiterWord (waiterOf x) ≡ x) × WaiterSized (waiterOf x))
+says-waiter x =
+    let c : code (valueOf (4_294_967_295 - x / 64)) ≡ 4_294_967_295 - x / 64 = code-valueOf (4_294_967_295 - x / 64) in
+    let b = value-fits (4_294_967_295 - x / 64) (omega arith) in
+    record {
+      yes =
+          λ e.
+          let h = leb-true x mostWaiter e in (rw c (omega arith), record { priority-ok = b; place-low = omega arith });
+      back = λ h. let a = rw c at (h .0) in le-leb x mostWaiter (omega arith);
+    }
+
+pub says-frame : (x : ℕ) → Says (frameFits x) ((frameWord (frameOf x) ≡ x) × FrameSized (frameOf x))
+says-frame x =
+    says-for (says-lt and says-le and says-lt)
+    (λ h. (word, record { block-low = h .0; at-low = h .1 .0; rounds-low = h .1 .1 }))
+    (λ h. h .1 .block-low & h .1 .at-low & h .1 .rounds-low)
+  where
+    word : frameWord (frameOf x) ≡ x
+    word = let a : x / 65_536 / 65_536 ≡ x / 4_294_967_296 = omega arith in omega arith
+
+-- The key of an event: its time and its priority.
+pub says-key : (x : ℕ)
+    → Says (leb x mostKey) ((eventKey (eventOf x 0) ≡ x) × (x / 4_294_967_296 ≤ No.latest))
+says-key x =
+    let c : code (valueOf (4_294_967_295 - x % 4_294_967_296)) ≡ 4_294_967_295 - x % 4_294_967_296 =
+    code-valueOf (4_294_967_295 - x % 4_294_967_296) in
+    record {
+      yes = λ e. let h = leb-true x mostKey e in (rw c (omega arith), omega arith);
+      back = λ h. let a = h .1 in le-leb x mostKey (omega arith);
+    }
+
+-- What an event does. A word of kind k from 1 to 2 is made again of its parts.
+remade : (k x : ℕ) → kindOf x ≡ k → packed k (numberOf x) (amountOf x) (giverOf x) ≡ x
+remade k x e =
+    let a : x / 4 / 64 ≡ x / 256 = omega arith in
+    let b : x / 256 / 1_048_576 ≡ x / 268_435_456 = omega arith in
+    omega arith
+
+is-two : (k : ℕ) → (k ≡ 0 → ⊥) → (k ≡ 1 → ⊥) → k < 3 → k ≡ 2
+is-two k n o l = omega arith
+
+module _ (x : ℕ) where
+  abbrev Parts : Type 0
+  Parts = (numberOf x < 32) × ((amountOf x ≤ 1_000_000) × (giverOf x ≤ No.lastNumber))
+
+  says-return : (k : ℕ) → (kindOf x < 3 → kindOf x ≡ k) → k < 3
+      → Says (returnFits x) ((packed k (numberOf x) (amountOf x) (giverOf x) ≡ x) × Parts)
+  says-return k is low =
+      says-for (says-lt and says-lt and says-le and says-le) (λ h. (remade k x (is (h .0)), h .1))
+      (λ h. (let a = h .0 in omega arith, h .1))
+
+  pub says-notice : Says (noticeFits x) ((dataOf (noticeOf x) ≡ x) × NoticeSized (noticeOf x))
+  says-notice = by (eqb (kindOf x) 0) refl (eqb (kindOf x) 1) refl
+    where
+      by : (a : Bool) → eqb (kindOf x) 0 ≡ a → (b : Bool) → eqb (kindOf x) 1 ≡ b
+          → Says (noticeFits x) ((dataOf (noticeOf x) ≡ x) × NoticeSized (noticeOf x))
+      by true e b f =
+          let k = eqb-true (kindOf x) 0 e in
+          rw e
+          (record {
+            yes = λ t. let h = ltb-true x 256 t in (omega arith, omega arith);
+            back = λ h. let a = h .0 in lt-ltb x 256 (omega arith);
+          })
+      by false e true f = let k = eqb-true (kindOf x) 1 f in rw (e, f) (says-return 1 (λ l. k) (omega arith))
+      by false e false f =
+          let n = eqb-false (kindOf x) 0 e in
+          let o = eqb-false (kindOf x) 1 f in
+          rw (e, f) (says-return 2 (λ l. is-two (kindOf x) n o l) (omega arith))

@@ -1,0 +1,244 @@
+-- The work of a state shows that state, if the state has the model's lengths and the work can hold it. Assumes nothing.
+use Prim.Native.Nat.{ℕ, _+_, _-_, _*_, _/_, _%_, _≤_, _<_}
+use native.Mathlib.Omega.{arith}
+use mathlib.Core.Path.{_≡_, refl, sym, _∙_, ap, ap₂}
+use mathlib.Core.List.{List, [], _∷_, _++_, map, append-assoc}
+use mathlib.Core.Bool.{Bool, true, false}
+use lib.Dec.{eqb}
+use borrow.Author.Tests.{ne-eqb}
+use lib.ListN.{length, take, length-map}
+use lib.Seq.{take-append-seam, take-at, drop-at}
+use lib.IntN.{ℤ}
+use Rattle.semantics.specs.Words.{collect}
+use Rattle.semantics.specs.Numbers as No
+use Rattle.semantics.specs.Model.{Model}
+use Rattle.semantics.specs.State.{State, Process, Frame, Slave, Waiter, Event, Notice, wakes, returnsR, returnsB}
+use Rattle.semantics.specs.State.{Floor, empty, held}
+use Rattle.promises.specs.Laws.{AllOf}
+use Rattle.promises.specs.Fit.{I32}
+use Rattle.base_number.specs.Code.{code, valueOf}
+use Rattle.base_number.specs.Laws.{valueOf-code, code-fits}
+use Rattle.base_ordered.specs.Order.{number-packed, amount-packed, giver-packed}
+use Rattle.base_ordered.specs.Lines.{pad, kindOf, numberOf, amountOf, giverOf, packed, eventKey, waiterWord, dataOf}
+use Rattle.row_work.specs.Laid.{laid-part}
+use Rattle.row_work.specs.Work.{frameWord, stacked, slaveWord, processParts, processWidths, processRow, closedWord, floorWord}
+use Rattle.row_work.specs.Work.{waitersRow, workParts, workWidths, workOf, FrameSized, SlaveSized, ProcessSized, WaiterSized}
+use Rattle.row_work.specs.Work.{WaitersSized, NoticeSized, EventSized, Sized}
+use Rattle.row_work.specs.Shown.{stacked-length, process-wide, process-long, row-length, work-wide}
+use Rattle.row_view.specs.View.{cut, frameOf, slaveOf, waiterOf, noticeOf, eventOf, floorOf, framesOf, eventsOf, waitersOf}
+use Rattle.row_view.specs.View.{waitingOf, seated, processOf, processesOf, viewBy, viewIn}
+
+-- The list that stands in a row.
+front-back : (k n : ℕ) (xs : List ℕ) → n ≡ length xs → take n (pad k xs) ≡ xs
+front-back k n xs e = ap (λ i. take i (pad k xs)) e ∙ take-append-seam xs _
+
+-- WORDS.
+frame-back : (f : Frame) → FrameSized f → frameOf (frameWord f) ≡ f
+frame-back f h =
+    let a : frameWord f % 65_536 ≡ f .block = omega arith in
+    let n : frameWord f / 65_536 ≡ f .at + 65_536 * f .rounds = omega arith in
+    let b : frameWord f / 65_536 % 65_536 ≡ f .at = rw n (omega arith) in
+    let c : frameWord f / 4_294_967_296 ≡ f .rounds = omega arith in
+    λ t. record { block = a t; at = b t; rounds = c t }
+
+slave-back : (x : Slave) → SlaveSized x → slaveOf (slaveWord x) ≡ x
+slave-back x h =
+    let a : slaveWord x / 64 ≡ x .of = omega arith in
+    let b : slaveWord x % 64 ≡ x .place = omega arith in
+    λ t. record { of = a t; place = b t }
+
+rank-back : (v : ℤ) (n : ℕ) → I32 v → n ≡ 4_294_967_295 - code v → valueOf (4_294_967_295 - n) ≡ v
+rank-back v n h e =
+    let a : 4_294_967_295 - n ≡ code v = omega (arith, code-fits v h) in ap valueOf a ∙ valueOf-code v h
+
+waiter-back : (w : Waiter) → WaiterSized w → waiterOf (waiterWord w) ≡ w
+waiter-back w h =
+    let a : waiterWord w / 64 ≡ 4_294_967_295 - code (w .priority) = omega arith in
+    let b : waiterWord w % 64 ≡ w .place = omega arith in
+    let c = rank-back (w .priority) (waiterWord w / 64) (h .priority-ok) a in
+    λ t. record { priority = c t; place = b t }
+
+returned : (k i n g : ℕ) (f : ℕ → ℕ → ℕ → Notice) → k < 4 → i < 32 → n ≤ 1_000_000
+    → f (numberOf (packed k i n g)) (amountOf (packed k i n g)) (giverOf (packed k i n g)) ≡ f i n g
+returned k i n g f l h m =
+    let a = number-packed k i n g l (omega arith) (omega arith) in
+    let b = amount-packed k i n g l (omega arith) (omega arith) in
+    let c = giver-packed k i n g l (omega arith) (omega arith) in
+    λ t. f (a t) (b t) (c t)
+
+notice-back : (n : Notice) → NoticeSized n → noticeOf (dataOf n) ≡ n
+notice-back (wakes p) h =
+    let k : kindOf (dataOf (wakes p)) ≡ 0 = omega arith in
+    rw k (ap wakes (number-packed 0 p 0 0 (omega arith) h (omega arith)))
+notice-back (returnsR i n g) h =
+    let k : kindOf (dataOf (returnsR i n g)) ≡ 1 = omega arith in
+    rw k (returned 1 i n g returnsR (omega arith) (h .0) (h .1 .0))
+notice-back (returnsB i n g) h =
+    let k : kindOf (dataOf (returnsB i n g)) ≡ 2 = omega arith in
+    rw k (returned 2 i n g returnsB (omega arith) (h .0) (h .1 .0))
+
+event-back : (e : Event) → EventSized e → eventOf (eventKey e) (dataOf (e .notice)) ≡ e
+event-back e h =
+    let l = code-fits (e .priority) (h .priority-ok) in
+    let a : eventKey e / 4_294_967_296 ≡ e .time = omega arith in
+    let b : eventKey e % 4_294_967_296 ≡ 4_294_967_295 - code (e .priority) = omega arith in
+    let c = rank-back (e .priority) (eventKey e % 4_294_967_296) (h .priority-ok) b in
+    let d = notice-back (e .notice) (h .notice-ok) in
+    λ t. record { time = a t; priority = c t; notice = d t }
+
+floor-back : (o : Floor) → floorOf (floorWord o) ≡ o
+floor-back empty = refl
+floor-back (held p) =
+    let a : p + 1 - 1 ≡ p = omega arith in rw (ne-eqb (p + 1) 0 (λ (e : p + 1 ≡ 0). omega arith)) (ap held a)
+
+closed-back : (b : Bool) → eqb (closedWord b) 1 ≡ b
+closed-back true = refl
+closed-back false = refl
+
+-- LISTS. The numbers f of a list, in a row of k.
+module _ {A : Type 0} (f : A → ℕ) (g : ℕ → A) (P : A → Type 0) (back : (x : A) → P x → g (f x) ≡ x) where
+  map-back : (xs : List A) → AllOf P xs → map g (map f xs) ≡ xs
+  map-back [] h = refl
+  map-back (x ∷ xs) h = ap₂ _∷_ (back x (h .0)) (map-back xs (h .1))
+
+  row-back : (k n : ℕ) (xs : List A) → AllOf P xs → n ≡ length xs → map g (take n (pad k (map f xs))) ≡ xs
+  row-back k n xs h e = ap (map g) (front-back k n (map f xs) (e ∙ sym (length-map xs f))) ∙ map-back xs h
+
+frames-more : (xs : List ℕ) (x : ℕ) → framesOf (xs ++ x ∷ []) ≡ frameOf x ∷ framesOf xs
+unfolding framesOf
+frames-more [] x = refl
+frames-more (y ∷ ys) x = ap (λ l. l ++ frameOf y ∷ []) (frames-more ys x)
+
+frames-back : (fs : List Frame) → AllOf FrameSized fs → framesOf (stacked fs) ≡ fs
+unfolding framesOf stacked
+frames-back [] h = refl
+frames-back (f ∷ fs) h =
+    frames-more (stacked fs) (frameWord f) ∙ ap₂ _∷_ (frame-back f (h .0)) (frames-back fs (h .1))
+
+events-back : (es : List Event) → AllOf EventSized es → eventsOf (map eventKey es) (map (λ e. dataOf (e .notice)) es) ≡ es
+unfolding eventsOf
+events-back [] h = refl
+events-back (e ∷ es) h = ap₂ _∷_ (event-back e (h .0)) (events-back es (h .1))
+
+-- .. in a row of keys and a row of words.
+event-rows-back : (es : List Event) (keys words : List ℕ) → AllOf EventSized es → keys ≡ pad 128 (map eventKey es)
+    → words ≡ pad 128 (map (λ e. dataOf (e .notice)) es) → eventsOf (take (length es) keys) (take (length es) words) ≡ es
+event-rows-back es keys words h k d =
+    let a : take (length es) keys ≡ map eventKey es =
+    ap (take (length es)) k ∙ front-back 128 (length es) (map eventKey es) (sym (length-map es eventKey)) in
+    let b : take (length es) words ≡ map (λ e. dataOf (e .notice)) es =
+    ap (take (length es)) d
+    ∙ front-back 128 (length es) (map (λ e. dataOf (e .notice)) es) (sym (length-map es (λ e. dataOf (e .notice)))) in
+    ap₂ eventsOf a b ∙ events-back es h
+
+waiters-back : (n : ℕ) (ws : List Waiter) → WaitersSized ws → n ≡ length ws → waitersOf n (waitersRow ws) ≡ ws
+waiters-back n ws h e = row-back waiterWord waiterOf WaiterSized waiter-back 64 n ws (h .each) e
+
+-- Rows one behind the other, and zs behind them.
+waiting-back : (wss : List (List Waiter)) (zs : List ℕ) → AllOf WaitersSized wss
+    → waitingOf (map length wss) (collect waitersRow wss ++ zs) ≡ wss
+unfolding waitingOf
+waiting-back [] zs h = refl
+waiting-back (ws ∷ wss) zs h =
+    let l : length (waitersRow ws) ≡ 64 = row-length 64 waiterWord ws (h .0 .few) in
+    let b : List ℕ = collect waitersRow wss ++ zs in
+    let a : (waitersRow ws ++ collect waitersRow wss) ++ zs ≡ waitersRow ws ++ b = append-assoc (waitersRow ws) _ zs in
+    rw (a, take-at (waitersRow ws) b 64 l, drop-at (waitersRow ws) b 64 l)
+    (ap₂ _∷_ (waiters-back (length ws) ws (h .0) refl) (waiting-back wss zs (h .1)))
+
+-- A PROCESS that is empty where it is in no block, and else has 8 locals and a holding for each resource.
+pub record Furnished (resources : ℕ) (q : Process) : Type 0 where
+  pub locals-many : length (q .locals) ≡ seated (length (q .frames)) No.locals
+  pub held-many : length (q .held) ≡ seated (length (q .frames)) resources
+
+module _ (r : ℕ) where
+  process-back : (q : Process) → ProcessSized q → Furnished r q → processOf r (processRow q) ≡ q
+  unfolding processOf processRow
+  process-back q h f =
+      let d : ℕ = length (q .frames) in
+      let part = laid-part (processParts q) processWidths (process-wide q h) in
+      let locals-are : cut 4 8 (processRow q) ≡ pad 8 (map code (q .locals)) = part 1 (omega arith) in
+      let held-are : cut 12 32 (processRow q) ≡ pad 32 (q .held) = part 2 (omega arith) in
+      let frames-are : cut 44 8 (processRow q) ≡ pad 8 (stacked (q .frames)) = part 3 (omega arith) in
+      let slaves-are : cut 52 76 (processRow q) ≡ pad 76 (map slaveWord (q .slaves)) = part 4 (omega arith) in
+      let a = valueOf-code (q .priority) (h .priority-ok) in
+      let b =
+      ap (λ row. map valueOf (take (seated d No.locals) row)) locals-are
+      ∙ row-back code valueOf I32 valueOf-code 8 (seated d No.locals) (q .locals) (h .locals-ok) (sym (f .locals-many)) in
+      let c = ap (take (seated d r)) held-are ∙ front-back 32 (seated d r) (q .held) (sym (f .held-many)) in
+      let e =
+      ap (λ row. map slaveOf (take (length (q .slaves)) row)) slaves-are
+      ∙ row-back slaveWord slaveOf SlaveSized slave-back 76 (length (q .slaves)) (q .slaves) (h .slaves-ok) refl in
+      let g =
+      ap (λ row. framesOf (take d row)) frames-are
+      ∙ ap framesOf (front-back 8 d (stacked (q .frames)) (sym (stacked-length (q .frames))))
+      ∙ frames-back (q .frames) (h .frames-ok) in
+      λ t. record { number = q .number; priority = a t; locals = b t; held = c t; slaves = e t; frames = g t }
+
+  processes-back : (qs : List Process) → AllOf ProcessSized qs → AllOf (Furnished r) qs
+      → processesOf r (length qs) (collect processRow qs) ≡ qs
+  unfolding processesOf
+  processes-back [] h f = refl
+  processes-back (q ∷ qs) h f =
+      let l = process-long q (h .0) in
+      let b : List ℕ = collect processRow qs in
+      rw (take-at (processRow q) b 128 l, drop-at (processRow q) b 128 l)
+      (ap₂ _∷_ (process-back q (h .0) (f .0)) (processes-back qs (h .1) (f .1)))
+
+-- THE STATE has the model's lengths.
+pub record Shaped (m : Model) (s : State) : Type 0 where
+  pub frees-many : length (s .free) ≡ length (m .totals)
+  pub bins-many : length (s .bins) ≡ length (m .amounts)
+  pub syncs-many : length (s .waiting) ≡ m .syncs
+  pub vars-many : length (s .globals) ≡ length (m .vars)
+  pub furnished : AllOf (Furnished (length (m .totals))) (s .processes)
+
+pub view-back : (m : Model) (s : State) → Sized s → Shaped m s → viewIn m (workOf s) ≡ s
+unfolding viewBy workOf
+view-back m s h f =
+    let part = laid-part (workParts s) workWidths (work-wide s h) in
+    let r : ℕ = length (m .totals) in
+    let row : ℕ → ℕ → List ℕ = λ i n. cut i n (workOf s) in
+    let free-are : row 8 32 ≡ pad 32 (s .free) = part 1 (omega arith) in
+    let bins-are : row 40 32 ≡ pad 32 (s .bins) = part 2 (omega arith) in
+    let globals-are : row 72 32 ≡ pad 32 (map code (s .globals)) = part 3 (omega arith) in
+    let counts-are : row 104 32 ≡ pad 32 (map length (s .waiting)) = part 4 (omega arith) in
+    let blocked-are : row 136 64 ≡ waitersRow (s .blocked) = part 5 (omega arith) in
+    let keys-are : row 200 128 ≡ pad 128 (map eventKey (s .events)) = part 6 (omega arith) in
+    let words-are : row 328 128 ≡ pad 128 (map (λ e. dataOf (e .notice)) (s .events)) = part 7 (omega arith) in
+    let lists-are : row 456 2_048 ≡ pad 2_048 (collect waitersRow (s .waiting)) = part 8 (omega arith) in
+    let places-are : row 2_504 8_192 ≡ collect processRow (s .processes) = part 9 (omega arith) in
+    let a =
+    ap (λ x. map valueOf (take (length (m .vars)) x)) globals-are
+    ∙ row-back code valueOf I32 valueOf-code 32 (length (m .vars)) (s .globals) (h .globals-ok) (sym (f .vars-many)) in
+    let b = ap (take r) free-are ∙ front-back 32 r (s .free) (sym (f .frees-many)) in
+    let c = ap (take (length (m .amounts))) bins-are ∙ front-back 32 _ (s .bins) (sym (f .bins-many)) in
+    let d =
+    ap₂ (λ x y. waitingOf (take (m .syncs) x) y) counts-are lists-are
+    ∙ ap (λ x. waitingOf x (pad 2_048 (collect waitersRow (s .waiting))))
+    (front-back 32 (m .syncs) (map length (s .waiting)) (sym (f .syncs-many) ∙ sym (length-map (s .waiting) length)))
+    ∙ waiting-back (s .waiting) _ (h .waiting-ok) in
+    let e = event-rows-back (s .events) _ _ (h .events-ok) keys-are words-are in
+    let k =
+    ap (λ x. waitersOf (length (s .blocked)) x) blocked-are
+    ∙ waiters-back (length (s .blocked)) (s .blocked) (h .blocked-ok) refl in
+    let p =
+    ap (λ x. processesOf r No.places x) places-are
+    ∙ ap (λ i. processesOf r i (collect processRow (s .processes))) (sym (h .places-64))
+    ∙ processes-back r (s .processes) (h .processes-ok) (f .furnished) in
+    let u = closed-back (s .closed) in
+    let v = floor-back (s .floor) in
+    λ t.
+    record {
+      clock = s .clock;
+      closed = u t;
+      last = s .last;
+      globals = a t;
+      free = b t;
+      bins = c t;
+      waiting = d t;
+      floor = v t;
+      events = e t;
+      blocked = k t;
+      processes = p t;
+    }

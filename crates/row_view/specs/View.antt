@@ -1,0 +1,125 @@
+-- The state that a row of words shows, whatever the words are, and when an open run that is handed in as words is sound.
+-- Assumes nothing.
+use Prim.Native.Nat.{ℕ, zero, suc, _-_, _/_, _%_}
+use mathlib.Core.List.{List, [], _∷_, _++_, map}
+use mathlib.Core.Bool.{Bool, true, false, _&&_}
+use lib.Dec.{eqb}
+use lib.ListN.{length, getD, take, drop}
+use Rattle.semantics.specs.Words.{if_then_else_}
+use Rattle.semantics.specs.Numbers as No
+use Rattle.semantics.specs.Model.{Model}
+use Rattle.semantics.specs.Decode.{refused, accepted, decode}
+use Rattle.semantics.specs.State.{State, Process, Frame, Slave, Waiter, Event, Notice, wakes, returnsR, returnsB}
+use Rattle.semantics.specs.State.{Floor, empty, held}
+use Rattle.semantics.specs.Sound.{soundIn}
+use Rattle.base_number.specs.Code.{valueOf}
+use Rattle.base_ordered.specs.Lines.{kindOf, numberOf, amountOf, giverOf}
+use Rattle.row_work.specs.Work.{workOf}
+
+-- n words of a row, from a place on.
+abbrev pub cut : ℕ → ℕ → List ℕ → List ℕ
+cut from n w = take n (drop from w)
+
+-- WORDS. What each shows, as `Work` packs it.
+abbrev pub frameOf : ℕ → Frame
+frameOf x = record { block = x % 65_536; at = x / 65_536 % 65_536; rounds = x / 4_294_967_296 }
+
+abbrev pub slaveOf : ℕ → Slave
+slaveOf x = record { of = x / 64; place = x % 64 }
+
+abbrev pub waiterOf : ℕ → Waiter
+waiterOf x = record { priority = valueOf (4_294_967_295 - x / 64); place = x % 64 }
+
+abbrev pub noticeOf : ℕ → Notice
+noticeOf x =
+    if eqb (kindOf x) 0 then wakes (numberOf x)
+    else if eqb (kindOf x) 1 then returnsR (numberOf x) (amountOf x) (giverOf x)
+    else returnsB (numberOf x) (amountOf x) (giverOf x)
+
+abbrev pub eventOf : ℕ → ℕ → Event
+eventOf key word =
+    record {
+      time = key / 4_294_967_296;
+      priority = valueOf (4_294_967_295 - key % 4_294_967_296);
+      notice = noticeOf word;
+    }
+
+abbrev pub floorOf : ℕ → Floor
+floorOf x = if eqb x 0 then empty else held (x - 1)
+
+-- LISTS OF WORDS. The outermost block stands first in a row, and last in a process.
+unfoldable pub framesOf : List ℕ → List Frame
+framesOf [] = []
+framesOf (x ∷ xs) = framesOf xs ++ frameOf x ∷ []
+
+unfoldable pub eventsOf : List ℕ → List ℕ → List Event
+eventsOf [] ds = []
+eventsOf (k ∷ ks) [] = []
+eventsOf (k ∷ ks) (d ∷ ds) = eventOf k d ∷ eventsOf ks ds
+
+abbrev pub waitersOf : ℕ → List ℕ → List Waiter
+waitersOf n row = map waiterOf (take n row)
+
+-- A waiting list for each count, in rows of 64.
+unfoldable pub waitingOf : List ℕ → List ℕ → List (List Waiter)
+waitingOf [] row = []
+waitingOf (n ∷ ns) row = waitersOf n (take 64 row) ∷ waitingOf ns (drop 64 row)
+
+-- A PROCESS, of its row of 128. One that is in d blocks has n of something: nothing, where it is in none.
+abbrev pub seated : ℕ → ℕ → ℕ
+seated zero n = 0
+seated (suc d) n = n
+
+unfoldable pub processOf : ℕ → List ℕ → Process
+unfolding framesOf
+processOf resources row =
+    record {
+      number = getD row 0 0;
+      priority = valueOf (getD row 1 0);
+      locals = map valueOf (take (seated (getD row 2 0) No.locals) (cut 4 8 row));
+      held = take (seated (getD row 2 0) resources) (cut 12 32 row);
+      slaves = map slaveOf (take (getD row 3 0) (cut 52 76 row));
+      frames = framesOf (take (getD row 2 0) (cut 44 8 row));
+    }
+
+unfoldable pub processesOf : ℕ → ℕ → List ℕ → List Process
+unfolding processOf
+processesOf resources zero row = []
+processesOf resources (suc n) row = processOf resources (take 128 row) ∷ processesOf resources n (drop 128 row)
+
+-- THE STATE that the work w shows, for a model with so many resources, bins, syncs and variables.
+module _ (resources bins syncs variables : ℕ) where
+  unfoldable pub viewBy : List ℕ → State
+  unfolding eventsOf waitingOf processesOf
+  viewBy w =
+      record {
+        clock = getD w 0 0;
+        closed = eqb (getD w 1 0) 1;
+        last = getD w 2 0;
+        globals = map valueOf (take variables (cut 72 32 w));
+        free = take resources (cut 8 32 w);
+        bins = take bins (cut 40 32 w);
+        waiting = waitingOf (take syncs (cut 104 32 w)) (cut 456 2_048 w);
+        floor = floorOf (getD w 3 0);
+        events = eventsOf (take (getD w 5 0) (cut 200 128 w)) (take (getD w 5 0) (cut 328 128 w));
+        blocked = waitersOf (getD w 6 0) (cut 136 64 w);
+        processes = processesOf resources No.places (cut 2_504 8_192 w);
+      }
+
+abbrev pub viewIn : Model → List ℕ → State
+viewIn m w = viewBy (length (m .totals)) (length (m .amounts)) (m .syncs) (length (m .vars)) w
+
+-- SOUND. What is not used is zero: a row is sound only if it is the one form of the state that it shows, and that is sound.
+unfoldable pub sameRow : List ℕ → List ℕ → Bool
+sameRow [] [] = true
+sameRow [] (y ∷ ys) = false
+sameRow (x ∷ xs) [] = false
+sameRow (x ∷ xs) (y ∷ ys) = eqb x y && sameRow xs ys
+
+unfoldable pub soundRow : List ℕ → List ℕ → Bool
+unfolding decode sameRow workOf viewBy soundIn
+soundRow bs w =
+    elim (decode bs) [
+      | refused n p ↦ false
+      | accepted m ↦ sameRow w (workOf (viewIn m w)) && soundIn m (viewIn m w)
+    ]

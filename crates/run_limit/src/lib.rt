@@ -1,0 +1,136 @@
+// A run with a step limit and a lent journal, on the work that shows its state.
+use act_floor::Went;
+ghost use mathlib.Core.Path.{_≡_};
+ghost use Prim.Native.Nat.{_+_, _-_, _*_, _/_, _≤_};
+ghost use lib.ListN.{length};
+ghost use Rattle.semantics.specs.Step.{step as stepOf};
+ghost use Rattle.semantics.specs.Run.{before, run as runOf};
+ghost use Rattle.semantics.specs.Journal.{roomIn};
+ghost use Rattle.act_floor.specs.Acting.{Open, Going, Stepped};
+ghost use Rattle.run_limit.specs.Halts.{Showing, mayGo, haltedBy};
+ghost use Rattle.run_limit.specs.Fitted.{fitted};
+ghost use Rattle.run_limit.specs.Ran.{answerOf, RanAs};
+
+pub enum Answer {
+    Closed,
+    Idle,
+    Limit,
+    Fault(u32),
+}
+
+// The answer, the steps done in this call and the lines they wrote.
+pub struct Ran {
+    pub answer: Answer,
+    pub steps: u32,
+    pub lines: usize,
+}
+
+// Whether there is a step to make: the run is not closed, and somebody has the floor or is in the event list.
+fn goes_on(w: &[u64]) -> bool
+    requires { ⌜ Showing (now w) ⌝ }
+    ensures { λ r. ⌜ ((v : Showing (now (w .entry))) → r ≡ mayGo (before (v .is))) ⌝ }
+{
+    (w[1] == 0) & !((w[3] == 0) & (w[5] == 0))
+}
+
+// The answer where no further step is made.
+fn halted(w: &[u64]) -> Answer
+    requires { ⌜ Showing (now w) ⌝ }
+    ensures { λ r. ⌜ ((v : Showing (now (w .entry))) → answerOf r ≡ haltedBy (before (v .is))) ⌝ }
+{
+    if w[1] != 0 {
+        return Answer::Closed;
+    }
+    if (w[3] == 0) & (w[5] == 0) {
+        return Answer::Idle;
+    }
+    Answer::Limit
+}
+
+// A step where there is room for `left` lines, which may be too few: it is made aside, and undone where its lines don't fit.
+fn careful<'a>(
+    s: &'a [u8],
+    map: &'a [u32],
+    w: &'a mut [u64],
+    journal: &'a mut [u8],
+    at: usize,
+    left: usize,
+) -> Went
+    requires { ⌜ Going (now s) (now map) (now w) ⌝ }
+    requires { ⌜ (16 * (at + left) ≤ length (now journal)) × (left ≤ 66) ⌝ }
+    ensures { λ r. ⌜ ((v : Going (now (s .entry)) (now (map .entry)) (now (w .entry))) →
+        Stepped (fitted left (stepOf (v .running .model) (v .running .is))) (r .fault) (r .lines)
+        (now (w .entry)) (now (w .exit)) at (now (journal .entry)) (now (journal .exit))) ⌝ }
+{
+    let mut kept = [0u64; 10696];
+    row_struct::copy_words(w, &mut kept);
+    let mut aside = [0u8; 1056];
+    let went = act_step::step(s, map, w, &mut aside, 0);
+    let lines = went.lines;
+    if left < lines {
+        row_struct::copy_words(&kept, w);
+        return Went {
+            fault: 30,
+            lines: 0,
+        };
+    }
+    let size = 16 * lines;
+    let start = 16 * at;
+    bytes::copy(&aside[..size], &mut journal[start..]);
+    went
+}
+
+// A step, made only if its lines fit into the journal behind the first `at`.
+fn advance<'a>(
+    s: &'a [u8],
+    map: &'a [u32],
+    w: &'a mut [u64],
+    journal: &'a mut [u8],
+    at: usize,
+) -> Went
+    requires { ⌜ Going (now s) (now map) (now w) ⌝ }
+    requires { ⌜ 16 * at ≤ length (now journal) ⌝ }
+    ensures { λ r. ⌜ ((v : Going (now (s .entry)) (now (map .entry)) (now (w .entry))) →
+        Stepped (fitted (length (now (journal .entry)) / 16 - at) (stepOf (v .running .model) (v .running .is)))
+        (r .fault) (r .lines) (now (w .entry)) (now (w .exit)) at (now (journal .entry)) (now (journal .exit))) ⌝ }
+{
+    let left = journal.len() / 16 - at;
+    if left < 66 {
+        return careful(s, map, w, journal, at, left);
+    }
+    act_step::step(s, map, w, journal, at)
+}
+
+// At most `limit` steps, with their lines written into the journal.
+pub fn run<'a>(
+    s: &'a [u8],
+    map: &'a [u32],
+    w: &'a mut [u64],
+    limit: u32,
+    journal: &'a mut [u8],
+) -> Ran
+    requires { ⌜ Open (now s) (now map) (now w) ⌝ }
+    ensures { λ r. ⌜ ((v : Open (now (s .entry)) (now (map .entry)) (now (w .entry))) →
+        RanAs (runOf (v .model) limit (roomIn (now (journal .entry))) (v .is)) r (now (w .exit))
+        (now (journal .entry)) (now (journal .exit))) ⌝ }
+{
+    let mut steps: u32 = 0;
+    let mut lines: usize = 0;
+    while goes_on(w) & (steps != limit) {
+        let went = advance(s, map, w, journal, lines);
+        if went.fault != 0 {
+            return Ran {
+                answer: Answer::Fault(went.fault),
+                steps,
+                lines,
+            };
+        }
+        steps += 1;
+        lines += went.lines;
+    }
+    Ran {
+        answer: halted(w),
+        steps,
+        lines,
+    }
+}

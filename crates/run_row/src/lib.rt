@@ -1,0 +1,102 @@
+// An open run that is handed in as any bytes and any row of words: opened, tested for soundness, and moved on by a call.
+use file_check::Refusal;
+use run_limit::Answer;
+use run_limit::Ran;
+ghost use mathlib.Core.Path.{_≡_};
+ghost use Rattle.semantics.specs.Bytes.{recordsFrom};
+ghost use Rattle.file_map.specs.MapOf.{mapOf};
+ghost use Rattle.row_view.specs.View.{soundRow};
+ghost use Rattle.run_row.specs.Handed.{Passing};
+ghost use Rattle.run_row.specs.Open.{openRow, TellsOpened};
+ghost use Rattle.run_row.specs.Call.{away, asked, callRow, TellsCall};
+
+// Opens a run of the model file s in the row w. A file that the check refuses, or a row that is too long or too short for a
+// run (20), leaves the row as it was.
+pub fn open_row<'a>(s: &'a [u8], w: &'a mut [u64]) -> Refusal
+    ensures { λ r. ⌜ TellsOpened (openRow (now (s .entry)) (now (w .entry))) r (now (w .exit)) ⌝ }
+{
+    let answer = file_check::check(s);
+    if answer.number != 0 {
+        return answer;
+    }
+    if w.len() != 10696 {
+        return Refusal {
+            number: 20,
+            place: 0,
+        };
+    }
+    let map = file_map::map_of(s);
+    let mut begun = [0u64; 10696];
+    row_begin_end::fresh(s, &map.words, &mut begun);
+    row_struct::copy_words(&begun, w);
+    answer
+}
+
+// Whether the row w shows a sound state of the model of s, a file that the check accepts and whose map is `map`. The totals of
+// its resources are what is free in a fresh run, which is laid aside.
+fn sound_of<'a>(s: &'a [u8], map: &'a [u32], w: &'a [u64]) -> bool
+    requires { ⌜ Passing (now s) ⌝ }
+    requires { ⌜ now map ≡ mapOf (recordsFrom 0 (now s)) ⌝ }
+    ensures { λ r. ⌜ r ≡ soundRow (now (s .entry)) (now (w .entry)) ⌝ }
+{
+    let counts = row_view::counts_of(s);
+    let resources = counts.resources;
+    let bins = counts.bins;
+    let syncs = counts.syncs;
+    if !row_view::shows(resources, bins, syncs, counts.variables, w) {
+        return false;
+    }
+    let index = file_index::index_of(s);
+    let mut aside = [0u64; 10696];
+    row_begin_end::fresh(s, map, &mut aside);
+    row_sound::sound_in(
+        s,
+        map,
+        w,
+        &aside[8..40],
+        resources,
+        bins,
+        syncs,
+        index.classes,
+    )
+}
+
+// Whether s is an accepted model file and the row w, of any length, is the one form of a sound state of its model.
+pub fn sound_row<'a>(s: &'a [u8], w: &'a [u64]) -> bool
+    ensures { λ r. ⌜ r ≡ soundRow (now (s .entry)) (now (w .entry)) ⌝ }
+{
+    let refusal = file_check::check(s);
+    if refusal.number != 0 {
+        return false;
+    }
+    let map = file_map::map_of(s);
+    sound_of(s, &map.words, w)
+}
+
+// What is told of a run that is not sound.
+fn turned_away() -> Ran
+    ensures { λ r. ⌜ r ≡ away ⌝ }
+{
+    Ran {
+        answer: Answer::Fault(20),
+        steps: 0,
+        lines: 0,
+    }
+}
+
+// At most `limit` steps of the run whose file is s and whose row is w, with their lines written into the journal. A run that is
+// not sound is left as it was, and so is the journal. The map is made once, for the test of soundness and for the steps.
+pub fn run_row<'a>(s: &'a [u8], w: &'a mut [u64], limit: u32, journal: &'a mut [u8]) -> Ran
+    ensures { λ r. ⌜ TellsCall (callRow (now (s .entry)) (asked limit (now (journal .entry))) (now (w .entry))) r
+        (now (w .exit)) (now (journal .entry)) (now (journal .exit)) ⌝ }
+{
+    let checked = file_check::check(s);
+    if checked.number != 0 {
+        return turned_away();
+    }
+    let map = file_map::map_of(s);
+    if !sound_of(s, &map.words, w) {
+        return turned_away();
+    }
+    run_limit::run(s, &map.words, w, limit, journal)
+}
