@@ -62,7 +62,7 @@ CHANGES = [
      'if barred(map, w, a, k) {\n        return many;',
      'if barred(map, w, a, k) {\n        return if many > 1 { 1 } else { many };'),
     # ---- actions
-    ('PRIO without its floor', 'act_alone', 'base_number::greater(LOWEST, value.code)', 'value.code'),
+    ('PRIO without its floor', 'act_alone', 'base_i32::greater(LOWEST, value.code)', 'value.code'),
     ('a DO has one round more', 'act_alone', 'row_process::into(w, p, n, b);', 'row_process::into(w, p, n + 1, b);'),
     ('DO 0 enters its block', 'act_alone', 'if n == 0 {', 'if n == 70000 {'),
     ('a HOLD of 0 keeps the floor', 'act_alone',

@@ -19,8 +19,8 @@ use Rattle.promises.specs.Sound.{Below, slaved, noticed, gives, owes, Fine, Not
 use Rattle.promises.specs.Moves.{is-entered}
 use Rattle.promises.specs.Parts.{priority-ok, chain-into, fine-held, fine-local, fine-priority, returning-are}
 use Rattle.promises.specs.Takes.{goes-into, wakes-up}
-use Rattle.base_number.specs.Code.{valueOf, code, larger}
-use Rattle.base_number.specs.Laws.{valueOf-code, code-fits, value-fits}
+use Rattle.base_i32.specs.Code.{valueOf, code, larger}
+use Rattle.base_i32.specs.Laws.{valueOf-code, code-fits, value-fits}
 use Rattle.row_work.specs.Work.{workOf, Sized, Doing}
 use Rattle.row_process.specs.Process.{Lives, Coded, HasLocal, Holds, changed}
 use Rattle.row_process.specs.Put.{put-there, changed-twice}

@@ -16,7 +16,7 @@ use Rattle.semantics.specs.State.{with-floor, with-priority, with-locals, with-
 use Rattle.semantics.specs.Value.{eval}
 use Rattle.semantics.specs.Walk.{line, quiet, after}
 use Rattle.semantics.specs.Step.{lowest, isReturn, hold, prio, setLocal, doTimes, putr, putb, trace}
-use Rattle.base_number.specs.Code.{valueOf, larger}
+use Rattle.base_i32.specs.Code.{valueOf, larger}
 use Rattle.row_lists.specs.Lists.{returned}
 use Rattle.act_alone.proofs.Values.{below-zero, from-zero}
 

@@ -12,8 +12,8 @@ use Rattle.semantics.specs.State.{with-floor, with-priority, with-locals, with-
 use Rattle.semantics.specs.Value.{eval}
 use Rattle.semantics.specs.Walk.{line}
 use Rattle.semantics.specs.Step.{lowest, isReturn, hold, prio, setLocal, doTimes, putr, putb, trace, close}
-use Rattle.base_number.specs.Code.{valueOf, outcomeOf, larger}
-use Rattle.base_number.specs.declared.Value.{Value}
+use Rattle.base_i32.specs.Code.{valueOf, outcomeOf, larger}
+use Rattle.base_i32.specs.declared.Value.{Value}
 use Rattle.base_journal.specs.Wrote.{wroteAt}
 use Rattle.row_work.specs.Work.{workOf}
 use Rattle.act_floor.specs.Acting.{Stepped}

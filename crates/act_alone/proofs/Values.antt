@@ -17,8 +17,8 @@ use Rattle.semantics.specs.Value.{eval}
 use Rattle.promises.specs.Fit.{ExprFit, ActFit}
 use Rattle.promises.specs.Sound.{al, Fine}
 use Rattle.promises.specs.Moves.{proc-at}
-use Rattle.base_number.specs.Code.{code, valueOf, valueIn, outcomeOf}
-use Rattle.base_number.specs.declared.Value.{Value}
+use Rattle.base_i32.specs.Code.{code, valueOf, valueIn, outcomeOf}
+use Rattle.base_i32.specs.declared.Value.{Value}
 use Rattle.base_ordered.specs.Lines.{pad}
 use Rattle.act_value.specs.Parts.{evalIn, eval-parts}
 use Rattle.act_value.specs.Reading.{Readable, answered}

@@ -4,14 +4,14 @@ ghost use Rattle.semantics.specs.Model.{HOLD, PRIO, TRACE, LSET, DO, PUTR, PUTB
 ghost use Rattle.semantics.specs.State.{process, now-closed};
 ghost use Rattle.semantics.specs.Value.{eval};
 ghost use Rattle.semantics.specs.Step.{hold, prio, setLocal, doTimes, putr, putb, trace, close};
-ghost use Rattle.base_number.specs.Code.{outcomeOf};
+ghost use Rattle.base_i32.specs.Code.{outcomeOf};
 ghost use Rattle.row_work.specs.Work.{Doing, Done};
 ghost use Rattle.row_lists.specs.Lists.{Any};
 ghost use Rattle.act_floor.specs.Acting.{Roomy, Stepped};
 ghost use Rattle.act_floor.specs.Running.{On, made};
 ghost use Rattle.act_alone.specs.Alone.{Valued, Told, SteppedQuietly};
 use act_floor::Went;
-use base_number::Value;
+use base_i32::Value;
 
 // The code of 0, and that of the lowest priority.
 const ZERO: u32 = 2147483648;
@@ -88,7 +88,7 @@ pub fn prio<'a>(body: &'a [u8], w: &'a mut [u64], p: usize) -> Went
             lines: 0,
         };
     }
-    let code = base_number::greater(LOWEST, value.code);
+    let code = base_i32::greater(LOWEST, value.code);
     row_process::past(w, p);
     row_process::set_priority(w, p, code as u64);
     Went { fault: 0, lines: 0 }

@@ -23,7 +23,7 @@ use Rattle.promises.specs.Sound.{al, slaved, Sound, Held}
 use Rattle.promises.specs.Moves.{remove}
 use Rattle.promises.specs.Parts.{chain-again, chain-parts}
 use Rattle.promises.specs.Takes.{goes-into}
-use Rattle.base_number.specs.Code.{valueOf}
+use Rattle.base_i32.specs.Code.{valueOf}
 use Rattle.base_journal.specs.Wrote.{wroteAt}
 use Rattle.file_index.specs.Ties.{kindAt, ActionAt}
 use Rattle.file_actions.specs.Kinds.{kindOf, kind-of}

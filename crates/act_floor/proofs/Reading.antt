@@ -11,7 +11,7 @@ use Rattle.semantics.specs.Numbers as No
 use Rattle.semantics.specs.State.{State, process}
 use Rattle.semantics.specs.Walk.{line}
 use Rattle.semantics.specs.Journal.{lineBytes}
-use Rattle.base_number.specs.Code.{valueOf}
+use Rattle.base_i32.specs.Code.{valueOf}
 use Rattle.base_journal.specs.Wrote.{wroteAt}
 use Rattle.row_work.specs.Shown.{work-long}
 use Rattle.row_work.specs.Head.{clock-at}

@@ -5,7 +5,7 @@ ghost use Prim.Native.Nat.{_+_, _*_, _≤_, _<_};
 ghost use lib.ListN.{length};
 ghost use Rattle.semantics.specs.State.{process, empty, with-floor};
 ghost use Rattle.semantics.specs.Walk.{line};
-ghost use Rattle.base_number.specs.Code.{valueOf};
+ghost use Rattle.base_i32.specs.Code.{valueOf};
 ghost use Rattle.base_journal.specs.Wrote.{wroteAt};
 ghost use Rattle.row_work.specs.Work.{Doing, Done};
 ghost use Rattle.row_process.specs.Process.{Shown};

@@ -13,8 +13,8 @@ use Rattle.semantics.specs.Claim.{met, Offer, pass, enterBlock, offers, waits, 
 use Rattle.semantics.specs.Walk.{line}
 use Rattle.promises.specs.Laws.{AllOf}
 use Rattle.promises.specs.Takes.{chosen}
-use Rattle.base_number.specs.Code.{code, valueOf}
-use Rattle.base_number.specs.Laws.{valueOf-code}
+use Rattle.base_i32.specs.Code.{code, valueOf}
+use Rattle.base_i32.specs.Laws.{valueOf-code}
 use Rattle.base_journal.specs.Wrote.{wroteAt}
 use Rattle.row_work.specs.Work.{workOf}
 use Rattle.file_map.specs.Map.{OffersAt}

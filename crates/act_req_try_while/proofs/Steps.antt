@@ -13,7 +13,7 @@ use Rattle.semantics.specs.Walk.{Next, line, quiet, after}
 use Rattle.semantics.specs.Step.{request, while}
 use Rattle.promises.specs.Laws.{no-way}
 use Rattle.promises.specs.Takes.{choice-has}
-use Rattle.base_number.specs.Code.{valueOf}
+use Rattle.base_i32.specs.Code.{valueOf}
 use Rattle.base_journal.specs.Wrote.{wroteAt}
 use Rattle.row_work.specs.Work.{workOf}
 use Rattle.act_floor.specs.Acting.{Stepped}

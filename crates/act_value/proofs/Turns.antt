@@ -17,8 +17,8 @@ use Rattle.semantics.specs.Value.{inRange}
 use Rattle.promises.specs.Laws.{and-true}
 use Rattle.promises.specs.Fit.{ExprFit}
 use Rattle.file_check_tails.specs.Tails.{arity}
-use Rattle.base_number.specs.declared.Value.{Value}
-use Rattle.base_number.specs.Code.{valueOf, aValue, valueIn}
+use Rattle.base_i32.specs.declared.Value.{Value}
+use Rattle.base_i32.specs.Code.{valueOf, aValue, valueIn}
 use Rattle.act_value.specs.declared.Node as D
 use Rattle.act_value.specs.declared.Tree.{Tree}
 use Rattle.act_value.specs.Parts.{evalIn}

@@ -11,9 +11,9 @@ use Rattle.semantics.specs.Model.{Expr, negate}
 use Rattle.semantics.specs.Value.{inRange}
 use Rattle.promises.specs.Laws.{AllOf, all-get}
 use Rattle.promises.specs.Fit.{I32, ExprFit}
-use Rattle.base_number.specs.declared.Value.{Value}
-use Rattle.base_number.specs.Code.{code, valueOf, aValue, valueIn, Ranged, larger}
-use Rattle.base_number.specs.Laws.{valueOf-code, code-fits}
+use Rattle.base_i32.specs.declared.Value.{Value}
+use Rattle.base_i32.specs.Code.{code, valueOf, aValue, valueIn, Ranged, larger}
+use Rattle.base_i32.specs.Laws.{valueOf-code, code-fits}
 use Rattle.act_value.specs.Parts.{evalIn, evalIn-ranged}
 use Rattle.act_value.specs.Reading.{Readable, pad, HasCode, leafCode, twoBy, ofTwo, given}
 use Rattle.act_value.proofs.Prefix.{leafOf, twoOf}

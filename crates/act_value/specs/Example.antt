@@ -12,7 +12,7 @@ use Rattle.semantics.specs.Model.{Model}
 use Rattle.semantics.specs.Record.{expressionIn}
 use Rattle.promises.specs.Laws.{all-replicate}
 use Rattle.promises.specs.Fit.{I32}
-use Rattle.base_number.specs.Code.{code}
+use Rattle.base_i32.specs.Code.{code}
 use Rattle.act_value.specs.Parts.{evalIn}
 use Rattle.act_value.specs.Reading.{Readable, pad}
 

@@ -15,8 +15,8 @@ use Rattle.semantics.specs.State.{State, Process, empty, nobody, with-locals}
 use Rattle.semantics.specs.Value.{inRange, eval}
 use Rattle.promises.specs.Laws.{if-has, AllOf, all-get}
 use Rattle.promises.specs.Fit.{I32, ExprFit}
-use Rattle.base_number.specs.Code.{Ranged}
-use Rattle.base_number.specs.Laws.{in-range}
+use Rattle.base_i32.specs.Code.{Ranged}
+use Rattle.base_i32.specs.Laws.{in-range}
 
 -- A state and a process that have only these.
 abbrev stateWith : List ℤ → ℕ → State

@@ -15,9 +15,9 @@ use Rattle.semantics.specs.Record.{nodes, pile, theTree, expression, sized, val
 use Rattle.semantics.specs.Value.{inRange}
 use Rattle.promises.specs.Laws.{AllOf}
 use Rattle.promises.specs.Fit.{I32, ExprFit}
-use Rattle.base_number.specs.Code.{code, valueIn, outcomeOf, smaller, larger}
-use Rattle.base_number.specs.Laws.{told}
-use Rattle.base_number.specs.declared.Value.{Value}
+use Rattle.base_i32.specs.Code.{code, valueIn, outcomeOf, smaller, larger}
+use Rattle.base_i32.specs.Laws.{told}
+use Rattle.base_i32.specs.declared.Value.{Value}
 use Rattle.act_value.specs.Parts.{evalIn, evalIn-ranged}
 use Rattle.act_value.specs.declared.Node.{Node}
 use Rattle.act_value.specs.declared.Tree.{Tree}

@@ -7,10 +7,10 @@ ghost use Rattle.semantics.specs.Numbers as No;
 ghost use Rattle.semantics.specs.Record.{nodes, expressionIn};
 ghost use Rattle.semantics.specs.Value.{inRange};
 ghost use Rattle.file_check_tails.specs.Tails.{arity};
-ghost use Rattle.base_number.specs.Code.{valueOf, valueIn};
+ghost use Rattle.base_i32.specs.Code.{valueOf, valueIn};
 ghost use Rattle.act_value.specs.Parts.{evalIn};
 ghost use Rattle.act_value.specs.Reading.{Readable, Stands, Read, HasCode, leafCode, ofTwo, given};
-use base_number::Value;
+use base_i32::Value;
 
 // How many operands each op takes.
 const OPERANDS: [u32; 10] = [0, 0, 0, 2, 2, 2, 2, 2, 0, 1];
@@ -63,7 +63,7 @@ fn leaf<'a>(globals: &'a [u64], locals: &'a [u64], clock: u32, op: u32, operand:
     ensures { λ r. ⌜ r ≡ leafCode (now (globals .entry)) (now (locals .entry)) clock op operand ⌝ }
 {
     match op {
-        0 => base_number::from_twos(operand),
+        0 => base_i32::from_twos(operand),
         1 => code_at(globals, operand),
         2 => code_at(locals, operand),
         _ => 2147483648 + clock,
@@ -79,16 +79,16 @@ fn of_two(op: u32, both: bool, x: u32, y: u32) -> Value
         return Value { ok: false, code: 0 };
     }
     match op {
-        3 => base_number::add(x, y),
-        4 => base_number::subtract(x, y),
-        5 => base_number::multiply(x, y),
+        3 => base_i32::add(x, y),
+        4 => base_i32::subtract(x, y),
+        5 => base_i32::multiply(x, y),
         6 => Value {
             ok: true,
-            code: base_number::lesser(x, y),
+            code: base_i32::lesser(x, y),
         },
         _ => Value {
             ok: true,
-            code: base_number::greater(x, y),
+            code: base_i32::greater(x, y),
         },
     }
 }
@@ -97,7 +97,7 @@ fn negated(has: bool, x: u32) -> Value
     ensures { λ r. ⌜ r ≡ valueIn (given has (inRange (negℤ (valueOf x)))) ⌝ }
 {
     if has {
-        base_number::negate(x)
+        base_i32::negate(x)
     } else {
         Value { ok: false, code: 0 }
     }

@@ -13,9 +13,9 @@ use Rattle.semantics.specs.Value.{eval}
 use Rattle.semantics.specs.Walk.{walk}
 use Rattle.semantics.specs.Step.{setGlobal}
 use Rattle.promises.specs.Moves.{global-is}
-use Rattle.base_number.specs.Code.{code, valueOf, outcomeOf}
-use Rattle.base_number.specs.Laws.{code-valueOf, value-fits}
-use Rattle.base_number.specs.declared.Value.{Value}
+use Rattle.base_i32.specs.Code.{code, valueOf, outcomeOf}
+use Rattle.base_i32.specs.Laws.{code-valueOf, value-fits}
+use Rattle.base_i32.specs.declared.Value.{Value}
 use Rattle.row_work.specs.Work.{workOf, Done}
 use Rattle.row_work.specs.Shown.{work-long, globals-set}
 use Rattle.row_process.specs.Process.{Lives, changed}

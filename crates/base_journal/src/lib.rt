@@ -4,7 +4,7 @@ ghost use Prim.Native.Nat.{_+_, _*_, _%_, _≤_, _<_};
 ghost use lib.ListN.{length};
 ghost use lib.Seq.{sets};
 ghost use Rattle.semantics.specs.Journal.{le16, le32, lineBytes};
-ghost use Rattle.base_number.specs.Code.{valueOf};
+ghost use Rattle.base_i32.specs.Code.{valueOf};
 
 fn low_byte(n: u32) -> u8
     ensures { λ r. ⌜ r ≡ n % 256 ⌝ }
@@ -42,5 +42,5 @@ pub fn write_line(out: &mut [u8], at: usize, kind: u32, time: u32, process: u32,
     write_16(out, start + 2, kind);
     write_32(out, start + 4, time);
     write_32(out, start + 8, process);
-    write_32(out, start + 12, base_number::to_twos(value));
+    write_32(out, start + 12, base_i32::to_twos(value));
 }

@@ -7,7 +7,7 @@ use Prim.Native.Nat.{ℕ, zero, suc, _+_, _-_, _*_, _/_, _%_, _≤_}
 use lib.ListN.{length, take, drop, replicate}
 use Rattle.semantics.specs.Words.{if_then_else_}
 use Rattle.semantics.specs.State.{Event, Waiter, Notice, wakes, returnsR, returnsB}
-use Rattle.base_number.specs.Code.{code}
+use Rattle.base_i32.specs.Code.{code}
 
 -- LISTS. The row of n numbers that a list makes: zeros past its end.
 abbrev pub pad : ℕ → List ℕ → List ℕ

@@ -12,8 +12,8 @@ use Rattle.semantics.specs.State.{Event, Waiter, Notice, wakes, returnsR, retur
 use Rattle.semantics.specs.Step.{isReturn}
 use Rattle.promises.specs.Fit.{I32}
 use Rattle.promises.specs.Laws.{AllOf}
-use Rattle.base_number.specs.Code.{code}
-use Rattle.base_number.specs.Laws.{code-fits}
+use Rattle.base_i32.specs.Code.{code}
+use Rattle.base_i32.specs.Laws.{code-fits}
 use Rattle.base_ordered.specs.Code.{same-test, code-order}
 use Rattle.base_ordered.specs.Lines.{inserted, removed, placeOf, keyOf, eventKey, eventWord, waiterKey, waiterWord}
 use Rattle.base_ordered.specs.Lines.{packed, kindOf, numberOf, amountOf, giverOf, dataOf}

@@ -10,7 +10,7 @@ use lib.ListN.{length}
 use Rattle.semantics.specs.Words.{if_then_else_}
 use Rattle.semantics.specs.Bytes.{u32, i32}
 use Rattle.semantics.specs.Record.{rowOf}
-use Rattle.base_number.specs.Code.{code}
+use Rattle.base_i32.specs.Code.{code}
 use Rattle.file_index.specs.Index.{Judged}
 use Rattle.file_index.proofs.Bodies.{head-at}
 use Rattle.row_begin_end.specs.Fresh.{amountIn}

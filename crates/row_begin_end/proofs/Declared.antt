@@ -12,7 +12,7 @@ use Rattle.semantics.specs.Record.{Row, table, rowOf}
 use Rattle.semantics.specs.Decode.{Gathered, adds, gather}
 use Rattle.promises.specs.Laws.{AllOf, _&_}
 use Rattle.promises.specs.Passes.{its-row}
-use Rattle.base_number.specs.Code.{code}
+use Rattle.base_i32.specs.Code.{code}
 use Rattle.file_index.specs.Index.{Judged, given}
 use Rattle.file_index.proofs.Gathered.{gather-more}
 use Rattle.file_index.proofs.Records.{On, left, here, judged-here}

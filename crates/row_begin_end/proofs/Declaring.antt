@@ -13,7 +13,7 @@ use Rattle.semantics.specs.Decode.{gather}
 use Rattle.semantics.specs.State.{bare}
 use Rattle.promises.specs.Fit.{Fit}
 use Rattle.promises.specs.Accepted.{accepted-fit}
-use Rattle.base_number.specs.Code.{code}
+use Rattle.base_i32.specs.Code.{code}
 use Rattle.row_work.specs.Work.{workOf}
 use Rattle.row_work.specs.Shown.{work-long}
 use Rattle.file_index.specs.Index.{given, Wrote}

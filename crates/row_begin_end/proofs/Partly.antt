@@ -13,7 +13,7 @@ use Rattle.semantics.specs.Model.{Model}
 use Rattle.semantics.specs.State.{State, Waiter, nobody, with-globals, with-free, with-bins, bare}
 use Rattle.promises.specs.Laws.{AllOf, all-map, all-append, all-replicate}
 use Rattle.promises.specs.Fit.{I32, Fit}
-use Rattle.base_number.specs.Code.{code}
+use Rattle.base_i32.specs.Code.{code}
 use Rattle.base_ordered.specs.Lines.{pad}
 use Rattle.base_places.specs.Places.{livingOf}
 use Rattle.row_work.specs.Laid.{laid, laid-set, even-length}

@@ -7,7 +7,7 @@ use lib.ListN.{length, set, take, drop, replicate, length-map, length-take, leng
 use lib.Seq.{drop-at}
 use Rattle.semantics.specs.State.{Process, nobody}
 use Rattle.promises.specs.Laws.{AllOf}
-use Rattle.base_number.specs.Code.{code}
+use Rattle.base_i32.specs.Code.{code}
 use Rattle.base_ordered.specs.Lines.{pad}
 use Rattle.row_work.specs.Laid.{laid}
 use Rattle.row_work.specs.Work.{frameWord, stacked, slaveWord, processParts, processRow, ProcessSized}

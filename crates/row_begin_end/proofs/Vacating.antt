@@ -7,7 +7,7 @@ use lib.ListN.{length, set, replicate, length-append, length-replicate, replicat
 use Rattle.semantics.specs.Words.{collect}
 use Rattle.semantics.specs.State.{nobody}
 use Rattle.promises.specs.Laws.{all-replicate}
-use Rattle.base_number.specs.Code.{code}
+use Rattle.base_i32.specs.Code.{code}
 use Rattle.row_work.specs.Laid.{laid, set-append-add, even-length}
 use Rattle.row_work.specs.Work.{stacked, processRow}
 use Rattle.row_work.specs.Shown.{process-long}

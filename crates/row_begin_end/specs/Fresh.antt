@@ -10,7 +10,7 @@ use Rattle.semantics.specs.Model.{Model}
 use Rattle.semantics.specs.Bytes.{u16, u32, i32}
 use Rattle.semantics.specs.Decode.{accepted, decode}
 use Rattle.semantics.specs.State.{State, nobody, bare}
-use Rattle.base_number.specs.Code.{code}
+use Rattle.base_i32.specs.Code.{code}
 use Rattle.row_work.specs.Work.{processRow, workOf}
 use Rattle.file_index.specs.Index.{Judged}
 use Rattle.file_map.specs.Map.{Mapped}

@@ -118,7 +118,7 @@ fn amount(kind: u32, bs: &[u8]) -> u64
 {
     match kind {
         1 | 2 => file_fields::u32_at(bs, 0) as u64,
-        4 => base_number::from_twos(file_fields::u32_at(bs, 0)) as u64,
+        4 => base_i32::from_twos(file_fields::u32_at(bs, 0)) as u64,
         _ => 0,
     }
 }

@@ -13,8 +13,8 @@ use Rattle.semantics.specs.Record.{relationOf, itemOf}
 use Rattle.semantics.specs.Claim.{holds, itemMet}
 use Rattle.promises.specs.Laws.{all-get}
 use Rattle.promises.specs.Fit.{ItemFit, I32}
-use Rattle.base_number.specs.Code.{code, valueOf}
-use Rattle.base_number.specs.Laws.{valueOf-code}
+use Rattle.base_i32.specs.Code.{code, valueOf}
+use Rattle.base_i32.specs.Laws.{valueOf-code}
 use Rattle.row_work.specs.Work.{workOf}
 use Rattle.row_work.specs.Shown.{work-long, free-at, bins-at, globals-at, counts-at}
 use Rattle.row_claim.specs.Items.{rowOf, MeetingItem}

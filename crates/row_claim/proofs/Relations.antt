@@ -9,8 +9,8 @@ use lib.IntN.{ℤ, pos, negsuc}
 use lib.Signed.{ltZ, leZ}
 use Rattle.semantics.specs.Model.{equals}
 use Rattle.semantics.specs.Record.{relationOf}
-use Rattle.base_number.specs.Code.{valueOf}
-use Rattle.base_number.specs.Laws.{value-order}
+use Rattle.base_i32.specs.Code.{valueOf}
+use Rattle.base_i32.specs.Laws.{value-order}
 
 -- Below is not at least,
 below-or-not : (x y : ℕ) → ltb x y ≡ not (leb y x)

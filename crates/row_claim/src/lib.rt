@@ -4,7 +4,7 @@ ghost use Prim.Native.Nat.{_+_, _≤_, _<_};
 ghost use lib.ListN.{length, getD};
 ghost use Rattle.semantics.specs.Record.{relationOf, itemOf};
 ghost use Rattle.semantics.specs.Claim.{holds, itemMet, met, firstMet};
-ghost use Rattle.base_number.specs.Code.{valueOf};
+ghost use Rattle.base_i32.specs.Code.{valueOf};
 ghost use Rattle.row_claim.specs.Asking.{Meeting, Asking, choiceOf};
 ghost use Rattle.row_claim.specs.Items.{rowOf, MeetingItem};
 
@@ -64,7 +64,7 @@ fn item_met<'a>(i: &'a [u8], w: &'a [u64]) -> bool
     if kind <= 2 {
         return wide(amount) <= has;
     }
-    let bound = wide(base_number::from_twos(amount));
+    let bound = wide(base_i32::from_twos(amount));
     holds(relation, has, bound)
 }
 

@@ -6,8 +6,8 @@ use mathlib.Core.List.{List}
 use lib.ListN.{getD}
 use Rattle.semantics.specs.State.{State, nobody, process}
 use Rattle.promises.specs.Laws.{all-get}
-use Rattle.base_number.specs.Code.{code}
-use Rattle.base_number.specs.Laws.{code-fits}
+use Rattle.base_i32.specs.Code.{code}
+use Rattle.base_i32.specs.Laws.{code-fits}
 use Rattle.row_work.specs.Work.{processRow, ProcessSized}
 use Rattle.row_work.specs.Shown.{process-at}
 use Rattle.row_process.specs.Process.{Shown}

@@ -6,7 +6,7 @@ use mathlib.Core.List.{List}
 use lib.ListN.{getD}
 use Rattle.semantics.specs.State.{State, Event, Notice, wakes, process, enter, wake, sooner}
 use Rattle.semantics.specs.Step.{ofReturns}
-use Rattle.base_number.specs.Code.{code}
+use Rattle.base_i32.specs.Code.{code}
 use Rattle.base_ordered.specs.Lines.{keyOf, packed}
 use Rattle.row_work.specs.Work.{EventSized, NoticeSized, Doing}
 use Rattle.row_work.specs.Head.{clock-at}

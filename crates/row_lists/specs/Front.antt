@@ -15,8 +15,8 @@ use Rattle.promises.specs.Fit.{I32}
 use Rattle.promises.specs.Laws.{AllOf, all-map, all-get, no-way, Ordered}
 use Rattle.promises.specs.Sound.{Below, Ranked}
 use Rattle.promises.specs.Says.{says-below}
-use Rattle.base_number.specs.Code.{code}
-use Rattle.base_number.specs.Laws.{code-fits, code-order}
+use Rattle.base_i32.specs.Code.{code}
+use Rattle.base_i32.specs.Laws.{code-fits, code-order}
 use Rattle.base_ordered.specs.Lines.{placeOf, waiterKey}
 use Rattle.row_work.specs.Work.{ProcessSized, WaiterSized, Sized}
 use Rattle.row_lists.specs.Lists.{waiterOf}

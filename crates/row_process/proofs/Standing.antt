@@ -7,8 +7,8 @@ use lib.ListN.{length, getD, set}
 use Rattle.semantics.specs.Words.{isEmpty}
 use Rattle.semantics.specs.State.{State, Process, Frame, isFree, process, put, with-priority, with-locals, with-frames}
 use Rattle.promises.specs.Laws.{AllOf}
-use Rattle.base_number.specs.Code.{code, valueOf}
-use Rattle.base_number.specs.Laws.{code-fits, code-valueOf}
+use Rattle.base_i32.specs.Code.{code, valueOf}
+use Rattle.base_i32.specs.Laws.{code-fits, code-valueOf}
 use Rattle.row_work.specs.Work.{frameWord, processRow, workOf, ProcessSized, FrameSized}
 use Rattle.row_work.specs.Shown.{work-long, process-at, process-set}
 use Rattle.row_process.specs.Process.{Shown, Lives, changed}

@@ -7,7 +7,7 @@ use lib.ListN.{length, getD, set, replicate, length-map}
 use lib.Seq.{getD-at, set-at}
 use lib.IntN.{ℤ}
 use Rattle.semantics.specs.State.{Process, Frame, with-frames, with-priority, with-locals, with-held}
-use Rattle.base_number.specs.Code.{code}
+use Rattle.base_i32.specs.Code.{code}
 use Rattle.base_ordered.specs.Lines.{pad}
 use Rattle.row_work.specs.Laid.{laid, laid-at, laid-set}
 use Rattle.row_work.specs.Work.{frameWord, stacked, processParts, processWidths, processRow, ProcessSized}

@@ -7,7 +7,7 @@ ghost use lib.Dec.{eqb};
 ghost use lib.ListN.{length, getD, set};
 ghost use Rattle.semantics.specs.Words.{all, isEmpty, more, less};
 ghost use Rattle.semantics.specs.State.{Frame, process, with-priority, with-locals, with-held, with-frames, past, into};
-ghost use Rattle.base_number.specs.Code.{valueOf};
+ghost use Rattle.base_i32.specs.Code.{valueOf};
 ghost use Rattle.row_work.specs.Work.{frameWord, workOf, Doing, Done};
 ghost use Rattle.row_process.specs.Process.{Shown, Lives, Inner, Coded, HasLocal, Claims, Holds};
 ghost use Rattle.row_process.specs.Process.{changed, again, out};

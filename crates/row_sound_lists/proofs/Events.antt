@@ -15,8 +15,8 @@ use Rattle.semantics.specs.State.{State, Event, Notice, wakes, returnsR, return
 use Rattle.semantics.specs.Step.{ofReturns}
 use Rattle.semantics.specs.Sound.{same, eventTied, eventInRange, returnInRange}
 use Rattle.promises.specs.Fit.{I32}
-use Rattle.base_number.specs.Code.{code}
-use Rattle.base_number.specs.Laws.{code-fits}
+use Rattle.base_i32.specs.Code.{code}
+use Rattle.base_i32.specs.Laws.{code-fits}
 use Rattle.base_ordered.specs.Lines.{packed, kindOf, numberOf, amountOf, giverOf, dataOf, eventKey, eventWord}
 use Rattle.base_ordered.specs.Order.{sooner-key, kind-packed, number-packed, amount-packed, giver-packed}
 use Rattle.row_work.specs.Work.{EventSized, NoticeSized}

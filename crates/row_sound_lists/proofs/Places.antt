@@ -18,8 +18,8 @@ use Rattle.semantics.specs.Value.{isI32}
 use Rattle.semantics.specs.Sound.{same, vacant, furnished, processInRange, ownNumber}
 use Rattle.promises.specs.Fit.{I32}
 use Rattle.promises.specs.Laws.{AllOf, all-map, all-get, over-keep}
-use Rattle.base_number.specs.Code.{code}
-use Rattle.base_number.specs.Laws.{code-order}
+use Rattle.base_i32.specs.Code.{code}
+use Rattle.base_i32.specs.Laws.{code-order}
 use Rattle.row_work.specs.Work.{ProcessSized, SlaveSized}
 use Rattle.row_process.specs.Process.{Shown}
 use Rattle.semantics.specs.Numbers as No

@@ -12,8 +12,8 @@ use lib.Signed.{leZ}
 use Rattle.semantics.specs.Words.{all, isEmpty}
 use Rattle.semantics.specs.Sound.{same}
 use Rattle.promises.specs.Fit.{I32}
-use Rattle.base_number.specs.Code.{code}
-use Rattle.base_number.specs.Laws.{code-order}
+use Rattle.base_i32.specs.Code.{code}
+use Rattle.base_i32.specs.Laws.{code-order}
 use Rattle.row_sound_lists.proofs.Indices.{both-eqb}
 
 -- With what holds anyway.

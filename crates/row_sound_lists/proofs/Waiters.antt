@@ -10,8 +10,8 @@ use lib.ListN.{length, getD}
 use Rattle.semantics.specs.Words.{all, ordered}
 use Rattle.semantics.specs.State.{State, Waiter, higher}
 use Rattle.semantics.specs.Sound.{waiterTied}
-use Rattle.base_number.specs.Code.{code}
-use Rattle.base_number.specs.Laws.{code-fits}
+use Rattle.base_i32.specs.Code.{code}
+use Rattle.base_i32.specs.Laws.{code-fits}
 use Rattle.base_ordered.specs.Lines.{waiterKey, waiterWord}
 use Rattle.base_ordered.specs.Order.{higher-key, word-place, word-key}
 use Rattle.row_work.specs.Work.{WaiterSized}

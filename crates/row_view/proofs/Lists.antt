@@ -11,7 +11,7 @@ use Rattle.semantics.specs.Numbers as No
 use Rattle.semantics.specs.State.{Frame, Event}
 use Rattle.promises.specs.Laws.{AllOf, all-append, all-split, _&_}
 use Rattle.promises.specs.Says.{Says, says-le, says-true, says-for, _and_}
-use Rattle.base_number.specs.Laws.{value-fits}
+use Rattle.base_i32.specs.Laws.{value-fits}
 use Rattle.base_ordered.specs.Lines.{pad, eventKey, waiterWord, dataOf}
 use Rattle.row_work.specs.Work.{frameWord, stacked, waitersRow, FrameSized, NoticeSized, EventSized, WaiterSized, WaitersSized}
 use Rattle.row_work.specs.Shown.{stacked-length}

@@ -10,8 +10,8 @@ use Rattle.semantics.specs.State.{Process}
 use Rattle.promises.specs.Laws.{AllOf, _&_}
 use Rattle.promises.specs.Fit.{I32}
 use Rattle.promises.specs.Says.{Says, says-le, says-for, _and_}
-use Rattle.base_number.specs.Code.{code, valueOf}
-use Rattle.base_number.specs.Laws.{code-valueOf}
+use Rattle.base_i32.specs.Code.{code, valueOf}
+use Rattle.base_i32.specs.Laws.{code-valueOf}
 use Rattle.base_ordered.specs.Lines.{pad}
 use Rattle.row_work.specs.Laid.{laid, laid-part}
 use Rattle.row_work.specs.Work.{stacked, slaveWord, processParts, processWidths, processRow, FrameSized, SlaveSized, ProcessSized}

@@ -12,7 +12,7 @@ use Rattle.semantics.specs.State.{State, Waiter}
 use Rattle.promises.specs.Laws.{AllOf, all-map, all-mapped, _&_}
 use Rattle.promises.specs.Fit.{I32}
 use Rattle.promises.specs.Says.{Says, says-le, says-eq, says-for, _and_}
-use Rattle.base_number.specs.Code.{code, valueOf}
+use Rattle.base_i32.specs.Code.{code, valueOf}
 use Rattle.base_ordered.specs.Lines.{pad, eventKey, waiterWord, dataOf}
 use Rattle.row_work.specs.Laid.{laid, laid-part, even-length}
 use Rattle.row_work.specs.Work.{closedWord, headOf, waitersRow, workParts, workWidths, workOf, NoticeSized}

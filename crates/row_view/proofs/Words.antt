@@ -10,8 +10,8 @@ use Rattle.semantics.specs.Numbers as No
 use Rattle.promises.specs.Laws.{_&_}
 use Rattle.promises.specs.Fit.{I32}
 use Rattle.promises.specs.Says.{Says, says-le, says-lt, says-for, _and_}
-use Rattle.base_number.specs.Code.{code, valueOf}
-use Rattle.base_number.specs.Laws.{code-valueOf, code-fits, value-fits}
+use Rattle.base_i32.specs.Code.{code, valueOf}
+use Rattle.base_i32.specs.Laws.{code-valueOf, code-fits, value-fits}
 use Rattle.base_ordered.specs.Lines.{eventKey, waiterWord, dataOf, packed, kindOf, numberOf, amountOf, giverOf}
 use Rattle.row_work.specs.Work.{frameWord, slaveWord, FrameSized, SlaveSized, WaiterSized, NoticeSized}
 use Rattle.row_view.specs.View.{frameOf, slaveOf, waiterOf, noticeOf, eventOf}

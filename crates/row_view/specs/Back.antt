@@ -16,8 +16,8 @@ use Rattle.semantics.specs.State.{State, Process, Frame, Slave, Waiter, Event, 
 use Rattle.semantics.specs.State.{Floor, empty, held}
 use Rattle.promises.specs.Laws.{AllOf}
 use Rattle.promises.specs.Fit.{I32}
-use Rattle.base_number.specs.Code.{code, valueOf}
-use Rattle.base_number.specs.Laws.{valueOf-code, code-fits}
+use Rattle.base_i32.specs.Code.{code, valueOf}
+use Rattle.base_i32.specs.Laws.{valueOf-code, code-fits}
 use Rattle.base_ordered.specs.Order.{number-packed, amount-packed, giver-packed}
 use Rattle.base_ordered.specs.Lines.{pad, kindOf, numberOf, amountOf, giverOf, packed, eventKey, waiterWord, dataOf}
 use Rattle.row_work.specs.Laid.{laid-part}

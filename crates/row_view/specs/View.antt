@@ -12,7 +12,7 @@ use Rattle.semantics.specs.Decode.{refused, accepted, decode}
 use Rattle.semantics.specs.State.{State, Process, Frame, Slave, Waiter, Event, Notice, wakes, returnsR, returnsB}
 use Rattle.semantics.specs.State.{Floor, empty, held}
 use Rattle.semantics.specs.Sound.{soundIn}
-use Rattle.base_number.specs.Code.{valueOf}
+use Rattle.base_i32.specs.Code.{valueOf}
 use Rattle.base_ordered.specs.Lines.{kindOf, numberOf, amountOf, giverOf}
 use Rattle.row_work.specs.Work.{workOf}
 

@@ -7,7 +7,7 @@ use lib.ListN.{length, getD, take, drop, length-drop}
 use lib.Seq.{ext-getD, length-take-le, getD-take, getD-drop}
 use Rattle.semantics.specs.State.{State, Process, nobody, process}
 use Rattle.promises.specs.Laws.{all-get}
-use Rattle.base_number.specs.Code.{code}
+use Rattle.base_i32.specs.Code.{code}
 use Rattle.base_ordered.specs.Lines.{pad}
 use Rattle.row_work.specs.Laid.{laid-at, laid-part}
 use Rattle.row_work.specs.Work.{processParts, processWidths, processRow, workParts, workWidths, workOf, ProcessSized, Sized}

@@ -11,7 +11,7 @@ use Rattle.semantics.specs.Words.{if_then_else_, collect}
 use Rattle.semantics.specs.State.{State, Process, Frame, Waiter, nobody, isFree, process, put}
 use Rattle.semantics.specs.State.{with-free, with-bins, with-globals}
 use Rattle.promises.specs.Laws.{all-map, _&_}
-use Rattle.base_number.specs.Code.{code}
+use Rattle.base_i32.specs.Code.{code}
 use Rattle.base_ordered.specs.Lines.{pad, eventKey, waiterWord, dataOf}
 use Rattle.base_places.specs.Places.{lives, livingOf}
 use Rattle.row_work.specs.Laid.{laid, Wide, laid-at, laid-set, laid-length}

@@ -11,7 +11,7 @@ use Rattle.semantics.specs.State.{State, Process, Frame, Slave, Waiter, Event, 
 use Rattle.semantics.specs.State.{Floor, empty, held}
 use Rattle.promises.specs.Laws.{AllOf}
 use Rattle.promises.specs.Fit.{I32}
-use Rattle.base_number.specs.Code.{code}
+use Rattle.base_i32.specs.Code.{code}
 use Rattle.base_ordered.specs.Lines.{pad, eventKey, waiterWord, dataOf}
 use Rattle.base_places.specs.Places.{livingOf}
 use Rattle.row_work.specs.Laid.{laid}

@@ -13,7 +13,7 @@ use Rattle.semantics.specs.Model.{Model}
 use Rattle.semantics.specs.State.{Frame, Slave}
 use Rattle.promises.specs.Laws.{AllOf, no-way}
 use Rattle.promises.specs.Fit.{Fit}
-use Rattle.base_number.specs.Code.{valueOf}
+use Rattle.base_i32.specs.Code.{valueOf}
 use Rattle.row_work.specs.Shown.{work-long}
 use Rattle.row_view.specs.View.{cut, frameOf, framesOf, waitingOf, seated, processOf, processesOf, viewBy, viewIn}
 use Rattle.row_view.specs.Fits.{Showing}

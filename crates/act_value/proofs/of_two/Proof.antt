@@ -4,7 +4,7 @@ use borrow.Author.Needs.{needs}
 use borrow.Author.Tests.{not-true, not-false}
 use mathlib.Core.Path.{ap}
 use native.Mathlib.Omega.{arith}
-use Rattle.base_number.specs.Code.{valueOf, aValue}
+use Rattle.base_i32.specs.Code.{valueOf, aValue}
 use Rattle.act_value.proofs.Values.{last-op}
 use Rattle.act_value.proofs.of_two.Statement.{statement}
 use Rattle.act_value.proofs.of_two.Tie as tie

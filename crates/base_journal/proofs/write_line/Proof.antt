@@ -5,7 +5,7 @@ use mathlib.Core.List.{_++_}
 use Prim.Native.Nat.{_+_, _*_}
 use lib.Seq.{sets}
 use Rattle.semantics.specs.Journal.{le16, le32, twos, lineBytes}
-use Rattle.base_number.specs.Code.{valueOf}
+use Rattle.base_i32.specs.Code.{valueOf}
 use Rattle.base_journal.proofs.Stores.{stored-on}
 use Rattle.base_journal.proofs.write_line.Statement.{statement}
 use Rattle.base_journal.proofs.write_line.Tie as tie

@@ -2,7 +2,7 @@
 use native.Mathlib.Omega.{arith}
 use mathlib.Core.Path.{_∙_, sym, ap}
 use Rattle.semantics.specs.Bytes.{signed}
-use Rattle.base_number.specs.Code.{code}
+use Rattle.base_i32.specs.Code.{code}
 use Rattle.row_begin_end.proofs.Amounts.{var-there, var-is, amount-there, amount-is, none-is}
 use borrow.Author.Needs.{needs}
 use Rattle.row_begin_end.proofs.amount.Statement.{statement}

@@ -1,7 +1,7 @@
 -- `row_claim::holds` meets its contract: the order of codes is the order of numbers. Assumes nothing.
 use mathlib.Core.Path.{sym, ap}
 use mathlib.Core.Bool.{not}
-use Rattle.base_number.specs.Laws.{value-order}
+use Rattle.base_i32.specs.Laws.{value-order}
 use Rattle.row_claim.proofs.Relations.{codes-below, codes-equal, else-equals}
 use Rattle.row_claim.proofs.holds.Statement.{statement}
 use Rattle.row_claim.proofs.holds.Tie as tie

@@ -1,0 +1,32 @@
+-- The row of one process: where each part begins, in the words of the code (module process).
+-- Assumes nothing.
+use Prim.Native.Nat.{ℕ}
+
+-- Its number, the code of its priority, how many blocks it is in and how many slaves it has.
+abbrev pub NUMBER : ℕ
+NUMBER = 0
+
+abbrev pub PRIORITY : ℕ
+PRIORITY = 1
+
+abbrev pub DEPTH : ℕ
+DEPTH = 2
+
+abbrev pub SLAVES : ℕ
+SLAVES = 3
+
+-- The codes of its locals, what it holds, its blocks, its slaves; and the end.
+abbrev pub LOCALS : ℕ
+LOCALS = 4
+
+abbrev pub HELD : ℕ
+HELD = 12
+
+abbrev pub BLOCKS : ℕ
+BLOCKS = 44
+
+abbrev pub OWNED : ℕ
+OWNED = 52
+
+abbrev pub WORDS : ℕ
+WORDS = 128

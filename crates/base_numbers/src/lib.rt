@@ -1,0 +1,291 @@
+// The numbers of document 01 and the places of the engine's rows, by name: once for the code. The definitions have those of
+// document 01 under the same words (semantics, Numbers and Kinds), and the specs of this crate those of the rows.
+
+// 1 to 10 refuse a model.
+pub mod refusal {
+    pub const SHORT: u32 = 1;
+
+    pub const KIND: u32 = 2;
+
+    pub const PLACE: u32 = 3;
+
+    pub const MANY: u32 = 4;
+
+    pub const SIZE: u32 = 5;
+
+    pub const VALUE: u32 = 6;
+
+    pub const TWICE: u32 = 7;
+
+    pub const NAME: u32 = 8;
+
+    pub const ORDER: u32 = 9;
+
+    pub const DEEP: u32 = 10;
+}
+
+// 20 to 30 are faults.
+pub mod fault {
+    pub const STATE: u32 = 20;
+
+    pub const SUM: u32 = 21;
+
+    pub const BACK: u32 = 22;
+
+    pub const LATE: u32 = 23;
+
+    pub const HELD: u32 = 24;
+
+    pub const OWNED: u32 = 25;
+
+    pub const OWING: u32 = 26;
+
+    pub const FULL: u32 = 27;
+
+    pub const BIN: u32 = 28;
+
+    pub const NOTICES: u32 = 29;
+
+    pub const JOURNAL: u32 = 30;
+}
+
+// How a run ends, as one number; a fault is its own.
+pub mod answer {
+    pub const CLOSED: u32 = 0;
+
+    pub const IDLE: u32 = 1;
+
+    pub const LIMIT: u32 = 2;
+}
+
+// The kinds of a journal line, and its bytes.
+pub mod line {
+    pub const STARTED: u32 = 1;
+
+    pub const ENDED: u32 = 2;
+
+    pub const BLOCKED: u32 = 3;
+
+    pub const GRANTED: u32 = 4;
+
+    pub const RESOURCE_RETURNED: u32 = 5;
+
+    pub const BIN_RETURNED: u32 = 6;
+
+    pub const WAITING_AS_SLAVE: u32 = 7;
+
+    pub const FREED: u32 = 8;
+
+    pub const TRACED: u32 = 9;
+
+    pub const CLOSED: u32 = 10;
+
+    pub const BYTES: usize = 16;
+}
+
+// The kinds of a record.
+pub mod kind {
+    pub const RES: u32 = 1;
+
+    pub const BIN: u32 = 2;
+
+    pub const SYNC: u32 = 3;
+
+    pub const VAR: u32 = 4;
+
+    pub const CLASS: u32 = 5;
+
+    pub const BLOCK: u32 = 6;
+
+    pub const ENTITY: u32 = 7;
+
+    pub const HOLD: u32 = 16;
+
+    pub const PRIO: u32 = 17;
+
+    pub const SET: u32 = 18;
+
+    pub const LSET: u32 = 19;
+
+    pub const DO: u32 = 20;
+
+    pub const PUTR: u32 = 21;
+
+    pub const PUTB: u32 = 22;
+
+    pub const PUTS: u32 = 23;
+
+    pub const BECOME: u32 = 24;
+
+    pub const REQ: u32 = 25;
+
+    pub const TRY: u32 = 26;
+
+    pub const WHILE: u32 = 27;
+
+    pub const START: u32 = 28;
+
+    pub const TRACE: u32 = 29;
+
+    pub const CLOSE: u32 = 30;
+}
+
+// The kinds of an item of a claim, and its bytes.
+pub mod item {
+    pub const GET_R: u32 = 0;
+
+    pub const GET_B: u32 = 1;
+
+    pub const GET_S: u32 = 2;
+
+    pub const CONDITION: u32 = 3;
+
+    pub const BYTES: usize = 8;
+}
+
+// How many there may be, and how large.
+pub mod limit {
+    // Of a model file: its bytes; each of RES, BIN, SYNC and VAR; a process's locals; CLASS, BLOCK, ENTITY, actions, and
+    // branches of actions.
+    pub const FILE: usize = 65535;
+
+    pub const THINGS: usize = 32;
+
+    pub const LOCALS: usize = 8;
+
+    pub const CLASSES: usize = 64;
+
+    pub const BLOCKS: usize = 256;
+
+    pub const ENTITIES: usize = 64;
+
+    pub const ACTIONS: usize = 1024;
+
+    pub const BRANCHES: usize = 4096;
+
+    // The amount of an item, a share, a total or an offset; the blocks that nest; the nodes of an expression.
+    pub const AMOUNT: u32 = 1000000;
+
+    pub const DEPTH: usize = 8;
+
+    pub const NODES: usize = 16;
+
+    // Of a run: a time, a process's number, what a bin holds, living processes, returns that wait, the lines of one step.
+    pub const LATEST: u64 = 2000000000;
+
+    pub const LAST_NUMBER: u64 = 2147483647;
+
+    pub const FULL_BIN: u64 = 1000000000;
+
+    pub const PLACES: usize = 64;
+
+    pub const RETURNS: usize = 64;
+
+    pub const STEP_LINES: usize = 66;
+}
+
+// Codes of numbers of the i32 range, v + 2^31: of 0, of the lowest priority of a process, of the priority of returns; and the
+// highest.
+pub mod code {
+    pub const ZERO: u32 = 2147483648;
+
+    pub const LOWEST: u32 = 2147473648;
+
+    pub const OF_RETURNS: u64 = 2147468648;
+
+    pub const HIGHEST: u64 = 4294967295;
+}
+
+// The work, a row of numbers that shows the state of a run: where each part begins.
+pub mod row {
+    // Single numbers: .. who has the floor (0 for nobody, else the place and 1), the living places as bits, how many events
+    // and blocked there are.
+    pub const CLOCK: usize = 0;
+
+    pub const CLOSED: usize = 1;
+
+    pub const LAST: usize = 2;
+
+    pub const FLOOR: usize = 3;
+
+    pub const LIVING: usize = 4;
+
+    pub const EVENTS: usize = 5;
+
+    pub const BLOCKED: usize = 6;
+
+    pub const SPARE: usize = 7;
+
+    // By number: what is free, the bins, the codes of the variables, how many wait for each sync.
+    pub const FREE: usize = 8;
+
+    pub const BINS: usize = 40;
+
+    pub const GLOBALS: usize = 72;
+
+    pub const WAITS: usize = 104;
+
+    // The blocked list; the keys of the events and what they do; the waiting lists; the processes; and the end.
+    pub const QUEUE: usize = 136;
+
+    pub const KEYS: usize = 200;
+
+    pub const NOTICES: usize = 328;
+
+    pub const WAITING: usize = 456;
+
+    pub const PROCESSES: usize = 2504;
+
+    pub const WORDS: usize = 10696;
+
+    // How many numbers the event list has room for, and a list of those that wait.
+    pub const EVENTS_MOST: usize = 128;
+
+    pub const WAITERS_MOST: usize = 64;
+}
+
+// The row of one process: where each part begins.
+pub mod process {
+    // Its number, the code of its priority, how many blocks it is in and how many slaves it has.
+    pub const NUMBER: usize = 0;
+
+    pub const PRIORITY: usize = 1;
+
+    pub const DEPTH: usize = 2;
+
+    pub const SLAVES: usize = 3;
+
+    // The codes of its locals, what it holds, its blocks, the outermost first, its slaves in the order claimed; and the end.
+    pub const LOCALS: usize = 4;
+
+    pub const HELD: usize = 12;
+
+    pub const BLOCKS: usize = 44;
+
+    pub const OWNED: usize = 52;
+
+    pub const WORDS: usize = 128;
+}
+
+// The map of a model: where each part begins.
+pub mod map {
+    // Actions before each block, the place of each action, the body of each class, branches before each action.
+    pub const FIRST: usize = 0;
+
+    pub const PLACE: usize = 257;
+
+    pub const BODY: usize = 1281;
+
+    pub const FROM: usize = 1345;
+
+    // Of each branch: the place of its claim, and the resources, bins and syncs that it names, as bits; and the end.
+    pub const CLAIM: usize = 2370;
+
+    pub const RESOURCES: usize = 6466;
+
+    pub const BINS: usize = 10562;
+
+    pub const SYNCS: usize = 14658;
+
+    pub const WORDS: usize = 18754;
+}
