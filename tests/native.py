@@ -106,7 +106,7 @@ def without_contracts(text):
 
 def module(text):
     text = re.sub(r'(?m)^//.*\n', '', without_contracts(text))
-    text = re.sub(r'(?m)^use ([a-z_]+)::', r'use crate::\1::', text)
+    text = re.sub(r'(?m)^use ([a-z0-9_]+)::', r'use crate::\1::', text)
     text = re.sub(r'(?m)^#\[no_mangle\]\npub extern "C" ', 'pub ', text)
     return re.sub(r'(?m)^(pub )?(struct|enum) ', r'#[derive(Clone, Copy)]\n\1\2 ', text)
 
