@@ -95,7 +95,11 @@ pub fn greater(x: u32, y: u32) -> u32
 fn turn(n: u32) -> u32
     ensures { λ r. ⌜ r ≡ turned n ⌝ }
 {
-    if n < code::ZERO { n + code::ZERO } else { n - code::ZERO }
+    if n < code::ZERO {
+        n + code::ZERO
+    } else {
+        n - code::ZERO
+    }
 }
 
 // The code of the number whose two's complement is n.

@@ -81,6 +81,17 @@ pub mod line {
     pub const CLOSED: u32 = 10;
 
     pub const BYTES: usize = 16;
+
+    // Where its parts begin, and how many bytes stand behind the length, as it says.
+    pub const KIND_AT: usize = 2;
+
+    pub const TIME_AT: usize = 4;
+
+    pub const PROCESS_AT: usize = 8;
+
+    pub const VALUE_AT: usize = 12;
+
+    pub const LENGTH: u32 = 14;
 }
 
 // The kinds of a record.
@@ -195,8 +206,10 @@ pub mod code {
 
     pub const HIGHEST: u64 = 4294967295;
 
-    // That of 0 as a word.
-    pub const ZERO_WORD: u64 = 2147483648;
+    // Those of 0 and of the lowest priority as words.
+    pub const ZERO_WORD: u64 = ZERO as u64;
+
+    pub const LOWEST_WORD: u64 = LOWEST as u64;
 }
 
 // The work, a row of numbers that shows the state of a run: where each part begins.
@@ -240,14 +253,24 @@ pub mod row {
 
     pub const WAITING: usize = NOTICES + EVENTS_MOST;
 
-    pub const PROCESSES: usize = WAITING + WAITERS_MOST * limit::THINGS;
+    pub const PROCESSES: usize = WAITING + WAITERS_ALL;
 
-    pub const WORDS: usize = PROCESSES + process::WORDS * limit::PLACES;
+    pub const WORDS: usize = PROCESSES + PROCESSES_ALL;
 
     // How many numbers the event list has room for, and a list of those that wait.
     pub const EVENTS_MOST: usize = limit::PLACES + limit::RETURNS;
 
     pub const WAITERS_MOST: usize = limit::PLACES;
+
+    // How many numbers all waiting lists have, and all processes.
+    pub const WAITERS_ALL: usize = WAITERS_MOST * limit::THINGS;
+
+    pub const PROCESSES_ALL: usize = process::WORDS * limit::PLACES;
+
+    // Where what the process in place 0 holds begins, and its slaves.
+    pub const FIRST_HELD: usize = PROCESSES + process::HELD;
+
+    pub const FIRST_OWNED: usize = PROCESSES + process::OWNED;
 }
 
 // The row of one process: where each part begins.
@@ -273,6 +296,12 @@ pub mod process {
     pub const OWNED: usize = BLOCKS + limit::DEPTH;
 
     pub const WORDS: usize = 128;
+
+    // How many numbers the slaves have: more than the 64 that there can be, so that a row has a power of 2.
+    pub const OWNED_MOST: usize = WORDS - OWNED;
+
+    // The innermost of n blocks stands n further than this.
+    pub const BEFORE_BLOCKS: usize = BLOCKS - 1;
 }
 
 // The map of a model: where each part begins.
@@ -312,6 +341,8 @@ pub mod word {
 
     pub const ROUND: u64 = BLOCKS * ACTIONS;
 
+    pub const ROUNDS: u64 = 65536;
+
     // One that waits and a slave: the place, and then the key by which it waits, or its sync.
     pub const PLACES: u64 = 64;
 
@@ -343,4 +374,39 @@ pub mod notice {
     pub const RESOURCE: u64 = 1;
 
     pub const BIN: u64 = 2;
+}
+
+// How many numbers one byte can tell apart, and two.
+pub mod byte {
+    pub const ONE: u32 = 256;
+
+    pub const TWO: u32 = 65536;
+}
+
+// Limits as words, which a row has: how many there may be, and the largest amount, code of a number, word of a slave, word of one
+// that waits, and key of an event.
+pub mod most {
+    use super::code;
+    use super::limit;
+    use super::word;
+
+    pub const THINGS: u64 = limit::THINGS as u64;
+
+    pub const LOCALS: u64 = limit::LOCALS as u64;
+
+    pub const BLOCKS: u64 = limit::BLOCKS as u64;
+
+    pub const ACTIONS: u64 = limit::ACTIONS as u64;
+
+    pub const PLACES: u64 = limit::PLACES as u64;
+
+    pub const AMOUNT: u64 = limit::AMOUNT as u64;
+
+    pub const CODE: u64 = code::HIGHEST;
+
+    pub const SLAVE: u64 = word::SYNC * THINGS - 1;
+
+    pub const WAITER: u64 = word::KEY * word::RANKS - 1;
+
+    pub const KEY: u64 = word::TIME * limit::LATEST + code::HIGHEST;
 }
