@@ -26,10 +26,11 @@ SECONDS = 900
 CHANGES = [
     # ---- the lists
     ('a notice before equals', 'row_lists', 'n, key + 1)', 'n, key)'),
-    ('a waiter before equals', 'row_lists', '64 * (key + 1))', '64 * key)'),
-    ('lowest priority first among events', 'row_lists', '(4294967295 - rank)', 'rank'),
-    ('lowest priority first among waiters', 'row_lists', '4294967295 - row_work::word(w, p, 1)', 'row_work::word(w, p, 1)'),
-    ('returns before the lowest priority', 'row_lists', '2147468648', '2147475648'),
+    ('a waiter before equals', 'row_lists', 'word::KEY * (key + 1))', 'word::KEY * key)'),
+    ('lowest priority first among events', 'row_lists', '(code::HIGHEST - rank)', 'rank'),
+    ('lowest priority first among waiters', 'row_lists',
+     'code::HIGHEST - row_work::word(w, p, process::PRIORITY)', 'row_work::word(w, p, process::PRIORITY)'),
+    ('returns before the lowest priority', 'row_lists', 'code::OF_RETURNS', '2147475648'),
     ('a return added at once', 'act_alone',
      'row_lists::return_resource(w, i as u64, n, giver);',
      'w[8 + i] = w[8 + i] + n;\n    row_lists::return_resource(w, i as u64, 0, giver);'),
@@ -85,12 +86,13 @@ CHANGES = [
      'if row_process::held_of(w, p, i) < n {',
      'if (row_lists::returns(w) < 64) & (row_process::held_of(w, p, i) < n) {'),
     ('65 returns may wait', 'row_lists',
-     'base_ordered::count_returns(&w[328..456], n)', 'base_ordered::count_returns(&w[328..456], n).max(1) - 1'),
+     'base_ordered::count_returns(&w[row::NOTICES..row::WAITING], n)',
+     'base_ordered::count_returns(&w[row::NOTICES..row::WAITING], n).max(1) - 1'),
     ('63 may live', 'act_puts_start', '(base_places::living_count(w[4]) < 64)', '(base_places::living_count(w[4]) < 63)'),
     ('number 2,147,483,647 is never given', 'act_puts_start', 'last_of(w) < 2147483647', 'last_of(w) < 2147483646'),
     ('a full bin is a fault', 'act_walk', 'if 1000000000 < bin_of(w, i) + n {', 'if 1000000000 <= bin_of(w, i) + n {'),
     ('the time 2,000,000,000 is late', 'act_alone', 'if 2000000000 < time {', 'if 2000000000 <= time {'),
-    ('slaves may be left behind', 'row_process', ' & (row_work::word(w, p, 3) == 0)', ''),
+    ('slaves may be left behind', 'row_process', ' & (row_work::word(w, p, process::SLAVES) == 0)', ''),
     ('30 one line too late', 'run_limit', 'if left < lines {', 'if left + 1 < lines {'),
     # ---- checks and the bound
     ('the place of the record after', 'file_check', 'place: f.place,', 'place: f.place + span(&s[f.place..]),'),
@@ -102,8 +104,9 @@ CHANGES = [
     ('a TRY weighs its last branch', 'file_weight', 'top = larger(top, v);', 'top = v;'),
     ('OVER from 4,294,967,295 on', 'file_bound', 'if w < 4294967296 {', 'if w < 4294967295 {'),
     # ---- soundness
-    ('a return of lower priority is sound', 'row_sound_lists', '(rank == 2147468648)', '(rank <= 2147468648)'),
-    ('a time before the clock is sound', 'row_sound_lists', '(w[0] <= key / 4294967296)', '(w[0] <= w[0])'),
+    ('a return of lower priority is sound', 'row_sound_lists', '(rank == code::OF_RETURNS)', '(rank <= code::OF_RETURNS)'),
+    ('a time before the clock is sound', 'row_sound_lists',
+     '(w[row::CLOCK] <= key / word::TIME)', '(w[row::CLOCK] <= w[row::CLOCK])'),
     ('two of one number are sound', 'row_sound_lists', '(alike(w, number) == 1)', '(1 <= alike(w, number))'),
 ]
 

@@ -6,12 +6,17 @@ ghost use Rattle.semantics.specs.Bytes.{signed};
 ghost use Rattle.semantics.specs.Journal.{twos};
 ghost use Rattle.semantics.specs.Value.{inRange};
 ghost use Rattle.base_i32.specs.Code.{code, valueOf, valueIn, smaller, larger, Difference, turned};
-
-// The code of 0.
-const ZERO: u32 = 2147483648;
+use base_numbers::code;
 
 // Where 0 stands among the numbers that a sum, a difference or a product of two of them can be: room on both sides for 2^62.
 const MIDDLE: u64 = 9223372036854775808;
+
+// How far the range goes below 0 and above it; and by how much two codes together are more than their numbers.
+const BELOW: u64 = code::ZERO_WORD;
+
+const ABOVE: u64 = code::HIGHEST - code::ZERO_WORD;
+
+const TWICE: u64 = 2 * code::ZERO_WORD;
 
 // A value by its code; code 0 where there is none.
 pub struct Value {
@@ -19,47 +24,41 @@ pub struct Value {
     pub code: u32,
 }
 
-fn wide(x: u32) -> u64
-    ensures { λ r. ⌜ (r ≡ x) × (r < 4294967296) ⌝ }
-{
-    x as u64
-}
-
 // The number v that stands at s, if it is in the range.
 fn in_range(s: u64) -> Value
     ensures { λ r. ⌜ ((v : ℤ) → Difference v s 9223372036854775808 → r ≡ valueIn (inRange v)) ⌝ }
 {
-    if s < MIDDLE - 2147483648 {
+    if s < MIDDLE - BELOW {
         return Value { ok: false, code: 0 };
     }
-    if MIDDLE + 2147483647 < s {
+    if MIDDLE + ABOVE < s {
         return Value { ok: false, code: 0 };
     }
     Value {
         ok: true,
-        code: (s - (MIDDLE - 2147483648)) as u32,
+        code: (s - (MIDDLE - BELOW)) as u32,
     }
 }
 
 pub fn add(x: u32, y: u32) -> Value
     ensures { λ r. ⌜ r ≡ valueIn (inRange (valueOf x +ℤ valueOf y)) ⌝ }
 {
-    in_range(MIDDLE - 4294967296 + wide(x) + wide(y))
+    in_range(MIDDLE - TWICE + base_wide::wide(x) + base_wide::wide(y))
 }
 
 pub fn subtract(x: u32, y: u32) -> Value
     ensures { λ r. ⌜ r ≡ valueIn (inRange (valueOf x -ℤ valueOf y)) ⌝ }
 {
-    in_range(MIDDLE + wide(x) - wide(y))
+    in_range(MIDDLE + base_wide::wide(x) - base_wide::wide(y))
 }
 
 fn magnitude(x: u32) -> u64
     ensures { λ r. ⌜ (r ≡ natAbs (valueOf x)) × (r ≤ 2147483648) ⌝ }
 {
-    if x < ZERO {
-        wide(ZERO - x)
+    if x < code::ZERO {
+        base_wide::wide(code::ZERO - x)
     } else {
-        wide(x - ZERO)
+        base_wide::wide(x - code::ZERO)
     }
 }
 
@@ -67,7 +66,7 @@ pub fn multiply(x: u32, y: u32) -> Value
     ensures { λ r. ⌜ r ≡ valueIn (inRange (valueOf x *ℤ valueOf y)) ⌝ }
 {
     let product = magnitude(x) * magnitude(y);
-    if (x < ZERO) == (y < ZERO) {
+    if (x < code::ZERO) == (y < code::ZERO) {
         in_range(MIDDLE + product)
     } else {
         in_range(MIDDLE - product)
@@ -77,7 +76,7 @@ pub fn multiply(x: u32, y: u32) -> Value
 pub fn negate(x: u32) -> Value
     ensures { λ r. ⌜ r ≡ valueIn (inRange (negℤ (valueOf x))) ⌝ }
 {
-    subtract(ZERO, x)
+    subtract(code::ZERO, x)
 }
 
 pub fn lesser(x: u32, y: u32) -> u32
@@ -96,7 +95,11 @@ pub fn greater(x: u32, y: u32) -> u32
 fn turn(n: u32) -> u32
     ensures { λ r. ⌜ r ≡ turned n ⌝ }
 {
-    if n < ZERO { n + ZERO } else { n - ZERO }
+    if n < code::ZERO {
+        n + code::ZERO
+    } else {
+        n - code::ZERO
+    }
 }
 
 // The code of the number whose two's complement is n.

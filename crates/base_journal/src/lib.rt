@@ -5,11 +5,13 @@ ghost use lib.ListN.{length};
 ghost use lib.Seq.{sets};
 ghost use Rattle.semantics.specs.Journal.{le16, le32, lineBytes};
 ghost use Rattle.base_i32.specs.Code.{valueOf};
+use base_numbers::byte;
+use base_numbers::line;
 
 fn low_byte(n: u32) -> u8
     ensures { λ r. ⌜ r ≡ n % 256 ⌝ }
 {
-    (n % 256) as u8
+    (n % byte::ONE) as u8
 }
 
 // The low 16 bits of `n`, the lowest byte first.
@@ -18,7 +20,7 @@ fn write_16(out: &mut [u8], at: usize, n: u32)
     ensures { λ _. ⌜ now (out .exit) ≡ sets (now (out .entry)) at (le16 n) ⌝ }
 {
     out[at] = low_byte(n);
-    out[at + 1] = low_byte(n / 256);
+    out[at + 1] = low_byte(n / byte::ONE);
 }
 
 // `n`, the lowest byte first.
@@ -27,7 +29,7 @@ fn write_32(out: &mut [u8], at: usize, n: u32)
     ensures { λ _. ⌜ now (out .exit) ≡ sets (now (out .entry)) at (le32 n) ⌝ }
 {
     write_16(out, at, n);
-    write_16(out, at + 2, n / 65536);
+    write_16(out, at + 2, n / byte::TWO);
 }
 
 // A line at its place, counted in lines. The kind has 16 bits, and `value` is a code.
@@ -37,10 +39,10 @@ pub fn write_line(out: &mut [u8], at: usize, kind: u32, time: u32, process: u32,
     ensures { λ _. ⌜ now (out .exit) ≡ sets (now (out .entry)) (16 * at)
         (lineBytes (record { time = time; process = process; kind = kind; value = valueOf value })) ⌝ }
 {
-    let start = 16 * at;
-    write_16(out, start, 14);
-    write_16(out, start + 2, kind);
-    write_32(out, start + 4, time);
-    write_32(out, start + 8, process);
-    write_32(out, start + 12, base_i32::to_twos(value));
+    let start = line::BYTES * at;
+    write_16(out, start, line::LENGTH);
+    write_16(out, start + line::KIND_AT, kind);
+    write_32(out, start + line::TIME_AT, time);
+    write_32(out, start + line::PROCESS_AT, process);
+    write_32(out, start + line::VALUE_AT, base_i32::to_twos(value));
 }

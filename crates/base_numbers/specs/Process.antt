@@ -30,3 +30,11 @@ OWNED = 52
 
 abbrev pub WORDS : ℕ
 WORDS = 128
+
+-- How many numbers the slaves have: more than the 64 that there can be, so that a row has a power of 2.
+abbrev pub OWNED_MOST : ℕ
+OWNED_MOST = 76
+
+-- The innermost of n blocks stands n further than this.
+abbrev pub BEFORE_BLOCKS : ℕ
+BEFORE_BLOCKS = 43

@@ -65,3 +65,10 @@ EVENTS_MOST = 128
 
 abbrev pub WAITERS_MOST : ℕ
 WAITERS_MOST = 64
+
+-- How many numbers all waiting lists have, and all processes.
+abbrev pub WAITERS_ALL : ℕ
+WAITERS_ALL = 2_048
+
+abbrev pub PROCESSES_ALL : ℕ
+PROCESSES_ALL = 8_192

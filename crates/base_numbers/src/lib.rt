@@ -81,6 +81,17 @@ pub mod line {
     pub const CLOSED: u32 = 10;
 
     pub const BYTES: usize = 16;
+
+    // Where its parts begin, and how many bytes stand behind the length, as it says.
+    pub const KIND_AT: usize = 2;
+
+    pub const TIME_AT: usize = 4;
+
+    pub const PROCESS_AT: usize = 8;
+
+    pub const VALUE_AT: usize = 12;
+
+    pub const LENGTH: u32 = 14;
 }
 
 // The kinds of a record.
@@ -194,10 +205,18 @@ pub mod code {
     pub const OF_RETURNS: u64 = 2147468648;
 
     pub const HIGHEST: u64 = 4294967295;
+
+    // Those of 0 and of the lowest priority as words.
+    pub const ZERO_WORD: u64 = ZERO as u64;
+
+    pub const LOWEST_WORD: u64 = LOWEST as u64;
 }
 
 // The work, a row of numbers that shows the state of a run: where each part begins.
 pub mod row {
+    use super::limit;
+    use super::process;
+
     // Single numbers: .. who has the floor (0 for nobody, else the place and 1), the living places as bits, how many events
     // and blocked there are.
     pub const CLOCK: usize = 0;
@@ -217,35 +236,47 @@ pub mod row {
     pub const SPARE: usize = 7;
 
     // By number: what is free, the bins, the codes of the variables, how many wait for each sync.
-    pub const FREE: usize = 8;
+    pub const FREE: usize = SPARE + 1;
 
-    pub const BINS: usize = 40;
+    pub const BINS: usize = FREE + limit::THINGS;
 
-    pub const GLOBALS: usize = 72;
+    pub const GLOBALS: usize = BINS + limit::THINGS;
 
-    pub const WAITS: usize = 104;
+    pub const WAITS: usize = GLOBALS + limit::THINGS;
 
     // The blocked list; the keys of the events and what they do; the waiting lists; the processes; and the end.
-    pub const QUEUE: usize = 136;
+    pub const QUEUE: usize = WAITS + limit::THINGS;
 
-    pub const KEYS: usize = 200;
+    pub const KEYS: usize = QUEUE + WAITERS_MOST;
 
-    pub const NOTICES: usize = 328;
+    pub const NOTICES: usize = KEYS + EVENTS_MOST;
 
-    pub const WAITING: usize = 456;
+    pub const WAITING: usize = NOTICES + EVENTS_MOST;
 
-    pub const PROCESSES: usize = 2504;
+    pub const PROCESSES: usize = WAITING + WAITERS_ALL;
 
-    pub const WORDS: usize = 10696;
+    pub const WORDS: usize = PROCESSES + PROCESSES_ALL;
 
     // How many numbers the event list has room for, and a list of those that wait.
-    pub const EVENTS_MOST: usize = 128;
+    pub const EVENTS_MOST: usize = limit::PLACES + limit::RETURNS;
 
-    pub const WAITERS_MOST: usize = 64;
+    pub const WAITERS_MOST: usize = limit::PLACES;
+
+    // How many numbers all waiting lists have, and all processes.
+    pub const WAITERS_ALL: usize = WAITERS_MOST * limit::THINGS;
+
+    pub const PROCESSES_ALL: usize = process::WORDS * limit::PLACES;
+
+    // Where what the process in place 0 holds begins, and its slaves.
+    pub const FIRST_HELD: usize = PROCESSES + process::HELD;
+
+    pub const FIRST_OWNED: usize = PROCESSES + process::OWNED;
 }
 
 // The row of one process: where each part begins.
 pub mod process {
+    use super::limit;
+
     // Its number, the code of its priority, how many blocks it is in and how many slaves it has.
     pub const NUMBER: usize = 0;
 
@@ -256,36 +287,126 @@ pub mod process {
     pub const SLAVES: usize = 3;
 
     // The codes of its locals, what it holds, its blocks, the outermost first, its slaves in the order claimed; and the end.
-    pub const LOCALS: usize = 4;
+    pub const LOCALS: usize = SLAVES + 1;
 
-    pub const HELD: usize = 12;
+    pub const HELD: usize = LOCALS + limit::LOCALS;
 
-    pub const BLOCKS: usize = 44;
+    pub const BLOCKS: usize = HELD + limit::THINGS;
 
-    pub const OWNED: usize = 52;
+    pub const OWNED: usize = BLOCKS + limit::DEPTH;
 
     pub const WORDS: usize = 128;
+
+    // How many numbers the slaves have: more than the 64 that there can be, so that a row has a power of 2.
+    pub const OWNED_MOST: usize = WORDS - OWNED;
+
+    // The innermost of n blocks stands n further than this.
+    pub const BEFORE_BLOCKS: usize = BLOCKS - 1;
 }
 
 // The map of a model: where each part begins.
 pub mod map {
+    use super::limit;
+
     // Actions before each block, the place of each action, the body of each class, branches before each action.
     pub const FIRST: usize = 0;
 
-    pub const PLACE: usize = 257;
+    pub const PLACE: usize = FIRST + limit::BLOCKS + 1;
 
-    pub const BODY: usize = 1281;
+    pub const BODY: usize = PLACE + limit::ACTIONS;
 
-    pub const FROM: usize = 1345;
+    pub const FROM: usize = BODY + limit::CLASSES;
 
     // Of each branch: the place of its claim, and the resources, bins and syncs that it names, as bits; and the end.
-    pub const CLAIM: usize = 2370;
+    pub const CLAIM: usize = FROM + limit::ACTIONS + 1;
 
-    pub const RESOURCES: usize = 6466;
+    pub const RESOURCES: usize = CLAIM + limit::BRANCHES;
 
-    pub const BINS: usize = 10562;
+    pub const BINS: usize = RESOURCES + limit::BRANCHES;
 
-    pub const SYNCS: usize = 14658;
+    pub const SYNCS: usize = BINS + limit::BRANCHES;
 
-    pub const WORDS: usize = 18754;
+    pub const WORDS: usize = SYNCS + limit::BRANCHES;
+}
+
+// How numbers are packed into one word: a name in the plural is how many a part can tell apart, one in the singular what one more
+// of a part adds to the word.
+pub mod word {
+    // A block that a process is in: the block, the index of the action where it stands in it, the rounds left.
+    pub const BLOCKS: u64 = 65536;
+
+    pub const ACTIONS: u64 = 65536;
+
+    pub const ACTION: u64 = BLOCKS;
+
+    pub const ROUND: u64 = BLOCKS * ACTIONS;
+
+    pub const ROUNDS: u64 = 65536;
+
+    // One that waits and a slave: the place, and then the key by which it waits, or its sync.
+    pub const PLACES: u64 = 64;
+
+    pub const KEY: u64 = PLACES;
+
+    pub const SYNC: u64 = PLACES;
+
+    // What an event does: the kind of the notice, its number (of a place, a resource or a bin), an amount, a giver.
+    pub const KINDS: u64 = 4;
+
+    pub const NUMBERS: u64 = 64;
+
+    pub const AMOUNTS: u64 = 1048576;
+
+    pub const AMOUNT: u64 = KINDS * NUMBERS;
+
+    pub const GIVER: u64 = AMOUNT * AMOUNTS;
+
+    // The key of an event: how far its rank, the code of a priority, is below the highest, and its time.
+    pub const RANKS: u64 = 4294967296;
+
+    pub const TIME: u64 = RANKS;
+}
+
+// The kinds of what an event does: it wakes a process, or a return of a resource or a bin.
+pub mod notice {
+    pub const WAKES: u64 = 0;
+
+    pub const RESOURCE: u64 = 1;
+
+    pub const BIN: u64 = 2;
+}
+
+// How many numbers one byte can tell apart, and two.
+pub mod byte {
+    pub const ONE: u32 = 256;
+
+    pub const TWO: u32 = 65536;
+}
+
+// Limits as words, which a row has: how many there may be, and the largest amount, code of a number, word of a slave, word of one
+// that waits, and key of an event.
+pub mod most {
+    use super::code;
+    use super::limit;
+    use super::word;
+
+    pub const THINGS: u64 = limit::THINGS as u64;
+
+    pub const LOCALS: u64 = limit::LOCALS as u64;
+
+    pub const BLOCKS: u64 = limit::BLOCKS as u64;
+
+    pub const ACTIONS: u64 = limit::ACTIONS as u64;
+
+    pub const PLACES: u64 = limit::PLACES as u64;
+
+    pub const AMOUNT: u64 = limit::AMOUNT as u64;
+
+    pub const CODE: u64 = code::HIGHEST;
+
+    pub const SLAVE: u64 = word::SYNC * THINGS - 1;
+
+    pub const WAITER: u64 = word::KEY * word::RANKS - 1;
+
+    pub const KEY: u64 = word::TIME * limit::LATEST + code::HIGHEST;
 }

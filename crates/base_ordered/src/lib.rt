@@ -7,6 +7,7 @@ ghost use lib.ListN.{length, take};
 ghost use Rattle.semantics.specs.Words.{keep};
 ghost use Rattle.base_ordered.specs.Lines.{pad, Canon, inserted, removed, placeOf};
 ghost use Rattle.base_ordered.specs.Lines.{packed, kindOf, numberOf, amountOf, giverOf};
+use base_numbers::word;
 
 // ---- one row
 
@@ -76,29 +77,29 @@ pub fn pack(kind: u64, number: u64, amount: u64, giver: u64) -> u64
     requires { ⌜ (kind < 4) × ((number < 64) × ((amount < 1048576) × (giver < 2147483648))) ⌝ }
     ensures { λ r. ⌜ r ≡ packed kind number amount giver ⌝ }
 {
-    kind + 4 * (number + 64 * (amount + 1048576 * giver))
+    kind + word::KINDS * (number + word::NUMBERS * (amount + word::AMOUNTS * giver))
 }
 
 pub fn kind_of(word: u64) -> u64
     ensures { λ r. ⌜ (r ≡ kindOf word) × (r < 4) ⌝ }
 {
-    word % 4
+    word % word::KINDS
 }
 
 pub fn number_of(word: u64) -> u64
     ensures { λ r. ⌜ (r ≡ numberOf word) × (r < 64) ⌝ }
 {
-    word / 4 % 64
+    word / word::KINDS % word::NUMBERS
 }
 
 pub fn amount_of(word: u64) -> u64
     ensures { λ r. ⌜ (r ≡ amountOf word) × (r < 1048576) ⌝ }
 {
-    word / 256 % 1048576
+    word / word::AMOUNT % word::AMOUNTS
 }
 
 pub fn giver_of(word: u64) -> u64
     ensures { λ r. ⌜ r ≡ giverOf word ⌝ }
 {
-    word / 268435456
+    word / word::GIVER
 }

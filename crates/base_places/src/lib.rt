@@ -8,11 +8,14 @@ ghost use Rattle.semantics.specs.Words.{firstAt, keep};
 ghost use Rattle.semantics.specs.State.{Process, isFree};
 ghost use Rattle.base_places.specs.Places.{livingOf, Shows};
 
+// The number in which every bit is set.
+const EVERY: u64 = 18446744073709551615;
+
 // The lowest free place: 64 where none is.
 pub fn free_place(living: u64) -> usize
     ensures { λ r. ⌜ ((ps : List Process) → Shows living ps → r ≡ firstAt isFree ps) × (r ≤ 64) ⌝ }
 {
-    u64::trailing_zeros(18446744073709551615 - living) as usize
+    u64::trailing_zeros(EVERY - living) as usize
 }
 
 // How many live.

@@ -15,6 +15,11 @@ ghost use Rattle.row_lists.specs.Lists.{PuttingBack, PutBack};
 ghost use Rattle.row_lists.specs.Lists.{waiterOf, joinBlocked, unblocked, IsBlocked, Becomes, joinWaiting, Waits};
 ghost use Rattle.row_lists.specs.Lists.{takenWaiting, TakenWaiting};
 ghost use Rattle.row_lists.specs.Queues.{before, Seeking, Sought, Joining, Joined, Parting, Parted};
+use base_numbers::code;
+use base_numbers::notice;
+use base_numbers::process;
+use base_numbers::row;
+use base_numbers::word;
 
 // ---- the event list
 
@@ -23,10 +28,10 @@ fn put_event(w: &mut [u64], at: usize, key: u64, word: u64)
     requires { ⌜ Putting (now w) at key word ⌝ }
     ensures { λ _. ⌜ Put (now (w .entry)) at key word (now (w .exit)) ⌝ }
 {
-    let n = w[5] as usize;
-    base_ordered::put_in(&mut w[200..328], n, at, key);
-    base_ordered::put_in(&mut w[328..456], n, at, word);
-    w[5] = n as u64 + 1;
+    let n = w[row::EVENTS] as usize;
+    base_ordered::put_in(&mut w[row::KEYS..row::NOTICES], n, at, key);
+    base_ordered::put_in(&mut w[row::NOTICES..row::WAITING], n, at, word);
+    w[row::EVENTS] = n as u64 + 1;
 }
 
 // An event behind those whose key is at most its own.
@@ -34,8 +39,8 @@ fn enter(w: &mut [u64], key: u64, word: u64)
     requires { ⌜ Entering (now w) key word ⌝ }
     ensures { λ _. ⌜ Entered (now (w .entry)) key word (now (w .exit)) ⌝ }
 {
-    let n = w[5] as usize;
-    let at = base_ordered::place_below(&w[200..328], n, key + 1);
+    let n = w[row::EVENTS] as usize;
+    let at = base_ordered::place_below(&w[row::KEYS..row::NOTICES], n, key + 1);
     put_event(w, at, key, word);
 }
 
@@ -44,7 +49,7 @@ fn key_of(time: u64, rank: u64) -> u64
     requires { ⌜ (time ≤ 2000000000) × (rank < 4294967296) ⌝ }
     ensures { λ r. ⌜ r ≡ keyOf time rank ⌝ }
 {
-    time * 4294967296 + (4294967295 - rank)
+    time * word::TIME + (code::HIGHEST - rank)
 }
 
 // The process in place p enters at time t.
@@ -52,8 +57,8 @@ pub fn wake(w: &mut [u64], t: u64, p: usize)
     requires { ⌜ Doing (now w) (Lives p) (λ s. wake t p s) ⌝ }
     ensures { λ _. ⌜ Done (now (w .entry)) (Lives p) (λ s. wake t p s) (now (w .exit)) ⌝ }
 {
-    let key = key_of(t, row_work::word(w, p, 1));
-    enter(w, key, base_ordered::pack(0, p as u64, 0, 0));
+    let key = key_of(t, row_work::word(w, p, process::PRIORITY));
+    enter(w, key, base_ordered::pack(notice::WAKES, p as u64, 0, 0));
 }
 
 // A return notice, by its word, enters now.
@@ -61,7 +66,7 @@ fn notify(w: &mut [u64], word: u64)
     requires { ⌜ Notifying (now w) word ⌝ }
     ensures { λ _. ⌜ Notified (now (w .entry)) word (now (w .exit)) ⌝ }
 {
-    let key = key_of(w[0], 2147468648);
+    let key = key_of(w[row::CLOCK], code::OF_RETURNS);
     enter(w, key, word);
 }
 
@@ -70,7 +75,7 @@ pub fn return_resource(w: &mut [u64], i: u64, n: u64, g: u64)
     requires { ⌜ Doing (now w) Any (returned (returnsR i n g)) ⌝ }
     ensures { λ _. ⌜ Done (now (w .entry)) Any (returned (returnsR i n g)) (now (w .exit)) ⌝ }
 {
-    notify(w, base_ordered::pack(1, i, n, g));
+    notify(w, base_ordered::pack(notice::RESOURCE, i, n, g));
 }
 
 // The same of bin i.
@@ -78,7 +83,7 @@ pub fn return_bin(w: &mut [u64], i: u64, n: u64, g: u64)
     requires { ⌜ Doing (now w) Any (returned (returnsB i n g)) ⌝ }
     ensures { λ _. ⌜ Done (now (w .entry)) Any (returned (returnsB i n g)) (now (w .exit)) ⌝ }
 {
-    notify(w, base_ordered::pack(2, i, n, g));
+    notify(w, base_ordered::pack(notice::BIN, i, n, g));
 }
 
 // How many returns there are.
@@ -86,8 +91,8 @@ pub fn returns(w: &[u64]) -> usize
     requires { ⌜ Shown (now w) Any ⌝ }
     ensures { λ r. ⌜ ((v : Shown (now (w .entry)) Any) → r ≡ length (keep isReturn (v .is .events))) ⌝ }
 {
-    let n = w[5] as usize;
-    base_ordered::count_returns(&w[328..456], n)
+    let n = w[row::EVENTS] as usize;
+    base_ordered::count_returns(&w[row::NOTICES..row::WAITING], n)
 }
 
 // The first event is gone.
@@ -95,10 +100,10 @@ fn drop_first(w: &mut [u64])
     requires { ⌜ Shown (now w) Due ⌝ }
     ensures { λ _. ⌜ Dropped (now (w .entry)) (now (w .exit)) ⌝ }
 {
-    let n = w[5] as usize;
-    base_ordered::take_out(&mut w[200..328], n, 0);
-    base_ordered::take_out(&mut w[328..456], n, 0);
-    w[5] = n as u64 - 1;
+    let n = w[row::EVENTS] as usize;
+    base_ordered::take_out(&mut w[row::KEYS..row::NOTICES], n, 0);
+    base_ordered::take_out(&mut w[row::NOTICES..row::WAITING], n, 0);
+    w[row::EVENTS] = n as u64 - 1;
 }
 
 // The first event leaves the list, and the clock becomes its time: what it does, in one word.
@@ -106,10 +111,10 @@ pub fn take_first(w: &mut [u64]) -> u64
     requires { ⌜ Doing (now w) Due firstOut ⌝ }
     ensures { λ r. ⌜ ((d : Doing (now (w .entry)) Due firstOut) → FirstOut (now (w .entry)) r (now (w .exit)) d) ⌝ }
 {
-    let key = w[200];
-    let word = w[328];
+    let key = w[row::KEYS];
+    let word = w[row::NOTICES];
     drop_first(w);
-    w[0] = key / 4294967296;
+    w[row::CLOCK] = key / word::TIME;
     word
 }
 
@@ -119,7 +124,7 @@ pub fn put_back(w: &mut [u64], clock: u64, key: u64, word: u64)
     ensures { λ _. ⌜ PutBack (now (w .entry)) clock key word (now (w .exit)) ⌝ }
 {
     put_event(w, 0, key, word);
-    w[0] = clock;
+    w[row::CLOCK] = clock;
 }
 
 // ---- those that wait, wherever their list stands
@@ -130,7 +135,7 @@ fn place_behind(w: &[u64], from: usize, count: usize, key: u64) -> usize
     ensures { λ r. ⌜ ((d : Seeking (now (w .entry)) from count key) → Sought (now (w .entry)) from count key r d) ⌝ }
 {
     let n = w[count] as usize;
-    base_ordered::place_below(&w[from..from + 64], n, 64 * (key + 1))
+    base_ordered::place_below(&w[from..from + row::WAITERS_MOST], n, word::KEY * (key + 1))
 }
 
 // One of this key and this place joins behind them.
@@ -140,7 +145,12 @@ fn join_at(w: &mut [u64], from: usize, count: usize, key: u64, place: u64)
 {
     let at = place_behind(w, from, count, key);
     let n = w[count] as usize;
-    base_ordered::put_in(&mut w[from..from + 64], n, at, 64 * key + place);
+    base_ordered::put_in(
+        &mut w[from..from + row::WAITERS_MOST],
+        n,
+        at,
+        word::KEY * key + place,
+    );
     w[count] = n as u64 + 1;
 }
 
@@ -150,7 +160,7 @@ fn leave_at(w: &mut [u64], from: usize, count: usize, k: usize)
     ensures { λ _. ⌜ Parted (now (w .entry)) from count k (now (w .exit)) ⌝ }
 {
     let n = w[count] as usize;
-    base_ordered::take_out(&mut w[from..from + 64], n, k);
+    base_ordered::take_out(&mut w[from..from + row::WAITERS_MOST], n, k);
     w[count] = n as u64 - 1;
 }
 
@@ -159,7 +169,7 @@ fn waiter_key(w: &[u64], p: usize) -> u64
     requires { ⌜ Shown (now w) (λ s. p < 64) ⌝ }
     ensures { λ r. ⌜ ((v : Shown (now (w .entry)) (λ s. p < 64)) → r ≡ waiterKey (waiterOf (v .is) p)) ⌝ }
 {
-    4294967295 - row_work::word(w, p, 1)
+    code::HIGHEST - row_work::word(w, p, process::PRIORITY)
 }
 
 // ---- the blocked list
@@ -170,7 +180,7 @@ pub fn join_blocked(w: &mut [u64], p: usize)
     ensures { λ _. ⌜ Done (now (w .entry)) (Lives p) (joinBlocked p) (now (w .exit)) ⌝ }
 {
     let key = waiter_key(w, p);
-    join_at(w, 136, 6, key, p as u64);
+    join_at(w, row::QUEUE, row::BLOCKED, key, p as u64);
 }
 
 // How many of the blocked are of p's priority or a higher one.
@@ -180,7 +190,7 @@ pub fn place_in_front(w: &[u64], p: usize) -> usize
         (r ≡ before (waiterOf (v .is) p) (v .is .blocked)) × (r ≤ length (v .is .blocked))) ⌝ }
 {
     let key = waiter_key(w, p);
-    place_behind(w, 136, 6, key)
+    place_behind(w, row::QUEUE, row::BLOCKED, key)
 }
 
 // The place of the blocked one at k.
@@ -189,7 +199,7 @@ pub fn blocked_at(w: &[u64], k: usize) -> usize
     ensures { λ r. ⌜ ((v : Shown (now (w .entry)) (IsBlocked k)) →
         r ≡ getD (map (λ x. x .place) (v .is .blocked)) k 0) × (r < 64) ⌝ }
 {
-    (w[136 + k] % 64) as usize
+    (w[row::QUEUE + k] % word::PLACES) as usize
 }
 
 // The blocked one at k leaves the list.
@@ -197,7 +207,7 @@ pub fn unblock(w: &mut [u64], k: usize)
     requires { ⌜ Doing (now w) (IsBlocked k) (unblocked k) ⌝ }
     ensures { λ _. ⌜ Done (now (w .entry)) (IsBlocked k) (unblocked k) (now (w .exit)) ⌝ }
 {
-    leave_at(w, 136, 6, k);
+    leave_at(w, row::QUEUE, row::BLOCKED, k);
 }
 
 // ---- the waiting lists
@@ -208,7 +218,13 @@ pub fn join_waiting(w: &mut [u64], i: usize, p: usize)
     ensures { λ _. ⌜ Done (now (w .entry)) (Becomes i p) (joinWaiting i p) (now (w .exit)) ⌝ }
 {
     let key = waiter_key(w, p);
-    join_at(w, 456 + 64 * i, 104 + i, key, p as u64);
+    join_at(
+        w,
+        row::WAITING + row::WAITERS_MOST * i,
+        row::WAITS + i,
+        key,
+        p as u64,
+    );
 }
 
 // The first of the waiting list of sync i leaves it: its place.
@@ -217,7 +233,7 @@ pub fn take_waiting(w: &mut [u64], i: usize) -> usize
     ensures { λ r. ⌜ ((d : Doing (now (w .entry)) (Waits i) (takenWaiting i)) →
         TakenWaiting (now (w .entry)) i r (now (w .exit)) d) ⌝ }
 {
-    let place = (w[456 + 64 * i] % 64) as usize;
-    leave_at(w, 456 + 64 * i, 104 + i, 0);
+    let place = (w[row::WAITING + row::WAITERS_MOST * i] % word::PLACES) as usize;
+    leave_at(w, row::WAITING + row::WAITERS_MOST * i, row::WAITS + i, 0);
     place
 }

@@ -11,6 +11,10 @@ ghost use Rattle.base_i32.specs.Code.{valueOf};
 ghost use Rattle.row_work.specs.Work.{frameWord, workOf, Doing, Done};
 ghost use Rattle.row_process.specs.Process.{Shown, Lives, Inner, Coded, HasLocal, Claims, Holds};
 ghost use Rattle.row_process.specs.Process.{changed, again, out};
+use base_numbers::limit;
+use base_numbers::process;
+use base_numbers::row;
+use base_numbers::word;
 
 // ---- what is read
 
@@ -18,7 +22,7 @@ pub fn number_of(w: &[u64], p: usize) -> u64
     requires { ⌜ Shown (now w) (λ _. p < 64) ⌝ }
     ensures { λ r. ⌜ ((v : Shown (now (w .entry)) (λ _. p < 64)) → r ≡ process (v .is) p .number) ⌝ }
 {
-    row_work::word(w, p, 0)
+    row_work::word(w, p, process::NUMBER)
 }
 
 // How many blocks it is in.
@@ -26,7 +30,7 @@ pub fn depth_of(w: &[u64], p: usize) -> usize
     requires { ⌜ Shown (now w) (λ _. p < 64) ⌝ }
     ensures { λ r. ⌜ ((v : Shown (now (w .entry)) (λ _. p < 64)) → r ≡ length (process (v .is) p .frames)) × (r ≤ 8) ⌝ }
 {
-    row_work::word(w, p, 2) as usize
+    row_work::word(w, p, process::DEPTH) as usize
 }
 
 // The word of its innermost block.
@@ -35,7 +39,7 @@ fn top_word(w: &[u64], p: usize) -> u64
     ensures { λ r. ⌜ ((v : Shown (now (w .entry)) (Lives p)) → r ≡ frameWord (v .given .innermost)) ⌝ }
 {
     let depth = depth_of(w, p);
-    row_work::word(w, p, 43 + depth)
+    row_work::word(w, p, process::BEFORE_BLOCKS + depth)
 }
 
 // Its innermost block, the index of the action where it stands in it, and the rounds left of it.
@@ -43,21 +47,21 @@ pub fn block_at(w: &[u64], p: usize) -> usize
     requires { ⌜ Shown (now w) (Lives p) ⌝ }
     ensures { λ r. ⌜ ((v : Shown (now (w .entry)) (Lives p)) → r ≡ v .given .innermost .block) ⌝ }
 {
-    (top_word(w, p) % 65536) as usize
+    (top_word(w, p) % word::BLOCKS) as usize
 }
 
 pub fn standing_at(w: &[u64], p: usize) -> usize
     requires { ⌜ Shown (now w) (Lives p) ⌝ }
     ensures { λ r. ⌜ ((v : Shown (now (w .entry)) (Lives p)) → r ≡ v .given .innermost .at) ⌝ }
 {
-    (top_word(w, p) / 65536 % 65536) as usize
+    (top_word(w, p) / word::ACTION % word::ACTIONS) as usize
 }
 
 pub fn rounds_at(w: &[u64], p: usize) -> u64
     requires { ⌜ Shown (now w) (Lives p) ⌝ }
     ensures { λ r. ⌜ ((v : Shown (now (w .entry)) (Lives p)) → r ≡ v .given .innermost .rounds) ⌝ }
 {
-    top_word(w, p) / 4294967296
+    top_word(w, p) / word::ROUND
 }
 
 // What it holds of resource i.
@@ -66,7 +70,7 @@ pub fn held_of(w: &[u64], p: usize, i: usize) -> u64
     ensures { λ r. ⌜ ((v : Shown (now (w .entry)) (λ s. (p < 64) × (i < length (process s p .held))))
         → r ≡ getD (process (v .is) p .held) i 0) × (r ≤ 1000000) ⌝ }
 {
-    row_work::word(w, p, 12 + i)
+    row_work::word(w, p, process::HELD + i)
 }
 
 fn all_zero(row: &[u64]) -> bool
@@ -87,9 +91,9 @@ pub fn holds_nothing(w: &[u64], p: usize) -> bool
     ensures { λ r. ⌜ ((v : Shown (now (w .entry)) (λ _. p < 64))
         → r ≡ (all (λ n. eqb n 0) (process (v .is) p .held) && isEmpty (process (v .is) p .slaves))) ⌝ }
 {
-    let first = 2516 + 128 * p;
-    let end = first + 32;
-    all_zero(&w[first..end]) & (row_work::word(w, p, 3) == 0)
+    let first = row::FIRST_HELD + process::WORDS * p;
+    let end = first + limit::THINGS;
+    all_zero(&w[first..end]) & (row_work::word(w, p, process::SLAVES) == 0)
 }
 
 // ---- what is changed
@@ -101,7 +105,7 @@ fn set_top(w: &mut [u64], p: usize, x: u64)
         → now (w .exit) ≡ workOf (changed p (λ q. with-frames q (g ∷ v .given .around)) (v .is))) ⌝ }
 {
     let depth = depth_of(w, p);
-    row_work::set_word(w, p, 43 + depth, x);
+    row_work::set_word(w, p, process::BEFORE_BLOCKS + depth, x);
 }
 
 // The process in place p goes past the action where it stands.
@@ -110,7 +114,7 @@ pub fn past(w: &mut [u64], p: usize)
     ensures { λ _. ⌜ Done (now (w .entry)) (Lives p) (changed p past) (now (w .exit)) ⌝ }
 {
     let top = top_word(w, p);
-    set_top(w, p, top + 65536);
+    set_top(w, p, top + word::ACTION);
 }
 
 // It goes into block b for n rounds from there: first into a block of nothing, then that is told.
@@ -119,8 +123,8 @@ pub fn into(w: &mut [u64], p: usize, n: u64, b: u64)
     ensures { λ _. ⌜ Done (now (w .entry)) (Lives p) (changed p (into n b)) (now (w .exit)) ⌝ }
 {
     let depth = depth_of(w, p) as u64;
-    row_work::set_word(w, p, 2, depth + 1);
-    set_top(w, p, b + 4294967296 * n);
+    row_work::set_word(w, p, process::DEPTH, depth + 1);
+    set_top(w, p, b + word::ROUND * n);
 }
 
 fn one_less(n: u64) -> u64
@@ -136,7 +140,7 @@ pub fn go_round(w: &mut [u64], p: usize)
 {
     let block = block_at(w, p) as u64;
     let rounds = rounds_at(w, p);
-    set_top(w, p, block + 4294967296 * one_less(rounds));
+    set_top(w, p, block + word::ROUND * one_less(rounds));
 }
 
 // It is in its innermost block no more: first that becomes a block of nothing, then there is one block less.
@@ -147,7 +151,7 @@ fn drop_block(w: &mut [u64], p: usize)
 {
     let depth = depth_of(w, p) as u64;
     set_top(w, p, 0);
-    row_work::set_word(w, p, 2, depth - 1);
+    row_work::set_word(w, p, process::DEPTH, depth - 1);
 }
 
 // It leaves its innermost block, back to the action that named it, or past that.
@@ -167,7 +171,7 @@ pub fn set_priority(w: &mut [u64], p: usize, c: u64)
     requires { ⌜ Doing (now w) (Coded p c) (changed p (λ q. with-priority q (valueOf c))) ⌝ }
     ensures { λ _. ⌜ Done (now (w .entry)) (Coded p c) (changed p (λ q. with-priority q (valueOf c))) (now (w .exit)) ⌝ }
 {
-    row_work::set_word(w, p, 1, c);
+    row_work::set_word(w, p, process::PRIORITY, c);
 }
 
 // Its local i becomes the number of code c.
@@ -176,7 +180,7 @@ pub fn set_local(w: &mut [u64], p: usize, i: usize, c: u64)
     ensures { λ _. ⌜ Done (now (w .entry)) (HasLocal p i c)
         (changed p (λ q. with-locals q (set (q .locals) i (valueOf c)))) (now (w .exit)) ⌝ }
 {
-    row_work::set_word(w, p, 4 + i, c);
+    row_work::set_word(w, p, process::LOCALS + i, c);
 }
 
 // It holds n more of resource i, or n less.
@@ -185,7 +189,7 @@ pub fn take_up(w: &mut [u64], p: usize, i: usize, n: u64)
     ensures { λ _. ⌜ Done (now (w .entry)) (Claims p i) (changed p (λ q. with-held q (more (q .held) i n))) (now (w .exit)) ⌝ }
 {
     let held = held_of(w, p, i);
-    row_work::set_word(w, p, 12 + i, held + n);
+    row_work::set_word(w, p, process::HELD + i, held + n);
 }
 
 pub fn give_back(w: &mut [u64], p: usize, i: usize, n: u64)
@@ -193,5 +197,5 @@ pub fn give_back(w: &mut [u64], p: usize, i: usize, n: u64)
     ensures { λ _. ⌜ Done (now (w .entry)) (Holds p i n) (changed p (λ q. with-held q (less (q .held) i n))) (now (w .exit)) ⌝ }
 {
     let held = held_of(w, p, i);
-    row_work::set_word(w, p, 12 + i, held - n);
+    row_work::set_word(w, p, process::HELD + i, held - n);
 }

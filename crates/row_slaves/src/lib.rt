@@ -12,6 +12,9 @@ ghost use Rattle.row_work.specs.Work.{Doing, Done};
 ghost use Rattle.row_process.specs.Process.{Shown, Lives, changed};
 ghost use Rattle.row_slaves.specs.Slaves.{ownedOf, Waiting, Owns, joined, letGo};
 ghost use Rattle.row_slaves.specs.Slaves.{slavesFrom, OneFurther, Sifted, SortedOut};
+use base_numbers::process;
+use base_numbers::row;
+use base_numbers::word;
 
 // ---- how many
 
@@ -23,7 +26,7 @@ fn count_of(row: &[u64], len: usize, i: u64) -> usize
     let mut found = 0;
     let mut k = 0;
     while k < len {
-        if row[k] / 64 == i {
+        if row[k] / word::SYNC == i {
             found += 1;
         }
         k += 1;
@@ -36,9 +39,9 @@ pub fn owned(w: &[u64], p: usize, i: u64) -> usize
     requires { ⌜ Shown (now w) (λ _. p < 64) ⌝ }
     ensures { λ r. ⌜ ((v : Shown (now (w .entry)) (λ _. p < 64)) → r ≡ ownedOf i (process (v .is) p .slaves)) ⌝ }
 {
-    let many = row_work::word(w, p, 3) as usize;
-    let first = 2556 + 128 * p;
-    let end = first + 76;
+    let many = row_work::word(w, p, process::SLAVES) as usize;
+    let first = row::FIRST_OWNED + process::WORDS * p;
+    let end = first + process::OWNED_MOST;
     count_of(&w[first..end], many, i)
 }
 
@@ -57,8 +60,8 @@ fn sort_one<'a>(
     ensures { λ r. ⌜ OneFurther i n k gone (now (row .entry)) (now (places .entry)) r (now (row .exit)) (now (places .exit)) ⌝ }
 {
     let x = row[k];
-    if (x / 64 == i) & (gone < n) {
-        places[gone] = x % 64;
+    if (x / word::SYNC == i) & (gone < n) {
+        places[gone] = x % word::PLACES;
         return gone + 1;
     }
     row[k - gone] = x;
@@ -109,11 +112,11 @@ pub fn release<'a>(w: &'a mut [u64], p: usize, i: u64, n: usize, places: &'a mut
     ensures { λ _. ⌜ ((d : Doing (now (w .entry)) (Owns p i n) (changed p (letGo i n)))
         → now (places .exit) ≡ sets (now (places .entry)) 0 (freed i n (process (d .is) p .slaves))) ⌝ }
 {
-    let many = row_work::word(w, p, 3) as usize;
-    let first = 2556 + 128 * p;
-    let end = first + 76;
+    let many = row_work::word(w, p, process::SLAVES) as usize;
+    let first = row::FIRST_OWNED + process::WORDS * p;
+    let end = first + process::OWNED_MOST;
     let left = sort_out(&mut w[first..end], many, i, n, places);
-    row_work::set_word(w, p, 3, left as u64);
+    row_work::set_word(w, p, process::SLAVES, left as u64);
 }
 
 // ---- claimed
@@ -123,9 +126,9 @@ fn add_slave(w: &mut [u64], p: usize, i: u64, r: u64)
     requires { ⌜ Doing (now w) (Lives p) (changed p (joined i r)) ⌝ }
     ensures { λ _. ⌜ Done (now (w .entry)) (Lives p) (changed p (joined i r)) (now (w .exit)) ⌝ }
 {
-    let many = row_work::word(w, p, 3);
-    row_work::set_word(w, p, 52 + many as usize, 64 * i + r);
-    row_work::set_word(w, p, 3, many + 1);
+    let many = row_work::word(w, p, process::SLAVES);
+    row_work::set_word(w, p, process::OWNED + many as usize, word::SYNC * i + r);
+    row_work::set_word(w, p, process::SLAVES, many + 1);
 }
 
 // The first that waits for sync i becomes its last slave.

@@ -9,6 +9,21 @@ ghost use Rattle.semantics.specs.Sound.{entersAt, asksAt, namedThere, chained, 
 ghost use Rattle.row_sound.specs.Chain.{isBody, actionIn, Branching, branchEnters, Standing, Linking, linked};
 ghost use Rattle.row_sound.specs.Chain.{Viewed, Chained, Asking};
 ghost use Rattle.row_sound.specs.Handed.{Handed};
+use base_numbers::kind;
+use base_numbers::limit;
+use base_numbers::map;
+use base_numbers::process;
+use base_numbers::row;
+use base_numbers::word;
+
+// Kinds of actions, as numbers read from a file.
+const DO: usize = kind::DO as usize;
+
+const REQ: usize = kind::REQ as usize;
+
+const TRY: usize = kind::TRY as usize;
+
+const WHILE: usize = kind::WHILE as usize;
 
 // ---- blocks
 
@@ -34,7 +49,7 @@ fn is_body(map: &[u32], classes: usize, b: usize) -> bool
     let mut found = false;
     let mut i = 0;
     while i < classes {
-        found = (b == number_at(map, 1281 + i)) | found;
+        found = (b == number_at(map, map::BODY + i)) | found;
         i += 1;
     }
     found
@@ -46,7 +61,11 @@ fn action_in(map: &[u32], b: usize, at: usize) -> usize
     ensures { λ r. ⌜ r ≡ actionIn (now (map .entry)) b at ⌝ }
 {
     let a = number_at(map, b) + at;
-    if a < number_at(map, b + 1) { a } else { 1024 }
+    if a < number_at(map, b + 1) {
+        a
+    } else {
+        limit::ACTIONS
+    }
 }
 
 // Whether a branch of action a enters block b.
@@ -54,12 +73,12 @@ fn branch_enters<'a>(bytes: &'a [u8], map: &'a [u32], a: usize, b: usize) -> boo
     requires { ⌜ Branching (now bytes) (now map) a ⌝ }
     ensures { λ r. ⌜ r ≡ branchEnters (now (bytes .entry)) (now (map .entry)) a b ⌝ }
 {
-    let from = number_at(map, 1345 + a);
-    let many = number_at(map, 1345 + (a + 1)) - from;
+    let from = number_at(map, map::FROM + a);
+    let many = number_at(map, map::FROM + (a + 1)) - from;
     let mut found = false;
     let mut k = 0;
     while k < many {
-        let at = number_at(map, 2370 + (from + k));
+        let at = number_at(map, map::CLAIM + (from + k));
         found = (number_in(bytes, at - 2) == b) | found;
         k += 1;
     }
@@ -71,16 +90,16 @@ fn enters_at<'a>(bytes: &'a [u8], map: &'a [u32], a: usize, b: usize, rounds: us
     requires { ⌜ Standing (now bytes) (now map) a ⌝ }
     ensures { λ r. ⌜ ((v : Standing (now (bytes .entry)) (now (map .entry)) a) → r ≡ entersAt (v .action) b rounds) ⌝ }
 {
-    if a == 1024 {
+    if a == limit::ACTIONS {
         return false;
     }
-    let at = number_at(map, 257 + a);
+    let at = number_at(map, map::PLACE + a);
     let kind = number_in(bytes, at + 2);
-    if kind == 20 {
+    if kind == DO {
         return (number_in(bytes, at + 6) == b)
             & ((1 <= rounds) & (rounds <= number_in(bytes, at + 4)));
     }
-    if (kind == 26) | (kind == 27) {
+    if (kind == TRY) | (kind == WHILE) {
         return branch_enters(bytes, map, a, b) & (rounds == 1);
     }
     false
@@ -91,12 +110,12 @@ fn asks_at<'a>(bytes: &'a [u8], map: &'a [u32], a: usize) -> bool
     requires { ⌜ Standing (now bytes) (now map) a ⌝ }
     ensures { λ r. ⌜ ((v : Standing (now (bytes .entry)) (now (map .entry)) a) → r ≡ asksAt (v .action)) ⌝ }
 {
-    if a == 1024 {
+    if a == limit::ACTIONS {
         return false;
     }
-    let at = number_at(map, 257 + a);
+    let at = number_at(map, map::PLACE + a);
     let kind = number_in(bytes, at + 2);
-    (kind == 25) | (kind == 26)
+    (kind == REQ) | (kind == TRY)
 }
 
 // Whether the block of `word` is named where the one of `outer` stands, or is the body of a class where there is none.
@@ -112,15 +131,15 @@ fn named<'a>(
     ensures { λ r. ⌜ ((v : Linking (now (bytes .entry)) (now (map .entry)) classes k outer word)
         → r ≡ namedThere (v .model) (v .frame) (v .around)) ⌝ }
 {
-    let b = (word % 65536) as usize;
-    let rounds = (word / 4294967296) as usize;
+    let b = (word % word::BLOCKS) as usize;
+    let rounds = (word / word::ROUND) as usize;
     if k == 0 {
         return is_body(map, classes, b) & (rounds == 1);
     }
     let a = action_in(
         map,
-        (outer % 65536) as usize,
-        (outer / 65536 % 65536) as usize,
+        (outer % word::BLOCKS) as usize,
+        (outer / word::ACTION % word::ACTIONS) as usize,
     );
     enters_at(bytes, map, a, b, rounds)
 }
@@ -141,8 +160,8 @@ fn link<'a>(
     if !named(bytes, map, classes, k, outer, word) {
         return false;
     }
-    let b = (word % 65536) as usize;
-    let at = (word / 65536 % 65536) as usize;
+    let b = (word % word::BLOCKS) as usize;
+    let at = (word / word::ACTION % word::ACTIONS) as usize;
     number_at(map, b) + at <= number_at(map, b + 1)
 }
 
@@ -152,7 +171,7 @@ fn chained<'a>(bytes: &'a [u8], map: &'a [u32], w: &'a [u64], classes: usize, p:
     ensures { λ r. ⌜ ((v : Viewed (now (bytes .entry)) (now (map .entry)) (now (w .entry)) classes)
         → r ≡ chained (v .model) (process (v .is) p .frames)) ⌝ }
 {
-    let depth = row_work::word(w, p, 2) as usize;
+    let depth = row_work::word(w, p, process::DEPTH) as usize;
     let mut k = 0;
     while k < depth {
         if !link(
@@ -160,8 +179,8 @@ fn chained<'a>(bytes: &'a [u8], map: &'a [u32], w: &'a [u64], classes: usize, p:
             map,
             classes,
             k,
-            row_work::word(w, p, 43 + k),
-            row_work::word(w, p, 44 + k),
+            row_work::word(w, p, process::BEFORE_BLOCKS + k),
+            row_work::word(w, p, process::BLOCKS + k),
         ) {
             return false;
         }
@@ -177,7 +196,7 @@ fn all_chained<'a>(bytes: &'a [u8], map: &'a [u32], w: &'a [u64], classes: usize
 {
     let mut ok = true;
     let mut p = 0;
-    while p < 64 {
+    while p < limit::PLACES {
         ok = chained(bytes, map, w, classes, p) & ok;
         p += 1;
     }
@@ -190,15 +209,15 @@ fn asks<'a>(bytes: &'a [u8], map: &'a [u32], w: &'a [u64], classes: usize, p: us
     ensures { λ r. ⌜ ((v : Asking (now (bytes .entry)) (now (map .entry)) (now (w .entry)) classes p)
         → r ≡ asksAt (standsIn (v .viewed .model) (process (v .viewed .is) p .frames))) ⌝ }
 {
-    let depth = row_work::word(w, p, 2) as usize;
+    let depth = row_work::word(w, p, process::DEPTH) as usize;
     if depth == 0 {
         return false;
     }
-    let word = row_work::word(w, p, 43 + depth);
+    let word = row_work::word(w, p, process::BEFORE_BLOCKS + depth);
     let a = action_in(
         map,
-        (word % 65536) as usize,
-        (word / 65536 % 65536) as usize,
+        (word % word::BLOCKS) as usize,
+        (word / word::ACTION % word::ACTIONS) as usize,
     );
     asks_at(bytes, map, a)
 }
@@ -208,11 +227,18 @@ fn blocked_stand<'a>(bytes: &'a [u8], map: &'a [u32], w: &'a [u64], classes: usi
     ensures { λ r. ⌜ ((v : Chained (now (bytes .entry)) (now (map .entry)) (now (w .entry)) classes)
         → r ≡ blockedStand (v .viewed .model) (v .viewed .is)) ⌝ }
 {
-    let n = w[6] as usize;
+    let n = w[row::BLOCKED] as usize;
     let mut ok = true;
     let mut k = 0;
     while k < n {
-        ok = asks(bytes, map, w, classes, (w[136 + k] % 64) as usize) & ok;
+        ok = asks(
+            bytes,
+            map,
+            w,
+            classes,
+            (w[row::QUEUE + k] % word::PLACES) as usize,
+        )
+            & ok;
         k += 1;
     }
     ok

@@ -9,6 +9,13 @@ ghost use Rattle.row_sound_lists.specs.Tests.{slavesKnown, alike, vacant
 ghost use Rattle.row_sound_lists.specs.Tests.{inEvents, inQueue, inWaiting, inSlaves, owned, placeListed};
 ghost use Rattle.row_sound_lists.specs.Tests.{heldAll, returningAt, returningAll, amountsAdd};
 ghost use Rattle.row_sound_lists.specs.Counted.{Counted, soundBeside};
+use base_numbers::code;
+use base_numbers::limit;
+use base_numbers::most;
+use base_numbers::notice;
+use base_numbers::process;
+use base_numbers::row;
+use base_numbers::word;
 
 fn one_if(b: bool) -> usize
     ensures { λ r. ⌜ (r ≡ oneIf b) × (r ≤ 1) ⌝ }
@@ -43,8 +50,8 @@ fn waiter_tied(w: &[u64], word: u64) -> bool
     requires { ⌜ length (now w) ≡ 10696 ⌝ }
     ensures { λ r. ⌜ r ≡ tied (now (w .entry)) word ⌝ }
 {
-    let own = row_work::word(w, (word % 64) as usize, 1);
-    4294967295 - word / 64 % 4294967296 == own
+    let own = row_work::word(w, (word % word::PLACES) as usize, process::PRIORITY);
+    code::HIGHEST - word / word::KEY % word::RANKS == own
 }
 
 fn waiters_tied(w: &[u64], from: usize, n: usize) -> bool
@@ -66,7 +73,7 @@ fn queue_fits(w: &[u64], from: usize, count: usize) -> bool
     ensures { λ r. ⌜ r ≡ queueFits (now (w .entry)) from count ⌝ }
 {
     let n = w[count] as usize;
-    rising(w, from, n, 64) & waiters_tied(w, from, n)
+    rising(w, from, n, word::KEY) & waiters_tied(w, from, n)
 }
 
 fn waiting_fits(w: &[u64], syncs: usize) -> bool
@@ -76,7 +83,7 @@ fn waiting_fits(w: &[u64], syncs: usize) -> bool
     let mut ok = true;
     let mut i = 0;
     while i < syncs {
-        ok = queue_fits(w, 456 + 64 * i, 104 + i) & ok;
+        ok = queue_fits(w, row::WAITING + row::WAITERS_MOST * i, row::WAITS + i) & ok;
         i += 1;
     }
     ok
@@ -89,9 +96,9 @@ fn return_fits(known: u64, last: u64, rank: u64, word: u64) -> bool
 {
     let amount = base_ordered::amount_of(word);
     let giver = base_ordered::giver_of(word);
-    (rank == 2147468648)
+    (rank == code::OF_RETURNS)
         & ((base_ordered::number_of(word) < known)
-            & (((1 <= amount) & (amount <= 1000000)) & ((1 <= giver) & (giver <= last))))
+            & (((1 <= amount) & (amount <= most::AMOUNT)) & ((1 <= giver) & (giver <= last))))
 }
 
 // Whether the word of an event of this rank fits, where `own` is the rank of the process in the place that it names.
@@ -99,25 +106,30 @@ fn word_fits(last: u64, resources: u64, bins: u64, rank: u64, own: u64, word: u6
     ensures { λ r. ⌜ r ≡ wordFits last resources bins rank own word ⌝ }
 {
     let kind = base_ordered::kind_of(word);
-    if kind == 0 {
+    if kind == notice::WAKES {
         return rank == own;
     }
-    return_fits(either(kind == 1, resources, bins), last, rank, word)
+    return_fits(
+        either(kind == notice::RESOURCE, resources, bins),
+        last,
+        rank,
+        word,
+    )
 }
 
 fn event_fits(w: &[u64], resources: u64, bins: u64, k: usize) -> bool
     requires { ⌜ (length (now w) ≡ 10696) × (k < 128) ⌝ }
     ensures { λ r. ⌜ r ≡ eventFits (now (w .entry)) resources bins k ⌝ }
 {
-    let key = w[200 + k];
-    let word = w[328 + k];
-    let own = row_work::word(w, base_ordered::number_of(word) as usize, 1);
-    (w[0] <= key / 4294967296)
+    let key = w[row::KEYS + k];
+    let word = w[row::NOTICES + k];
+    let own = row_work::word(w, base_ordered::number_of(word) as usize, process::PRIORITY);
+    (w[row::CLOCK] <= key / word::TIME)
         & word_fits(
-            w[2],
+            w[row::LAST],
             resources,
             bins,
-            4294967295 - key % 4294967296,
+            code::HIGHEST - key % word::RANKS,
             own,
             word,
         )
@@ -140,8 +152,8 @@ fn events_fit(w: &[u64], resources: u64, bins: u64) -> bool
     requires { ⌜ Bounded (now w) ⌝ }
     ensures { λ r. ⌜ r ≡ eventsFit (now (w .entry)) resources bins ⌝ }
 {
-    let n = w[5] as usize;
-    rising(w, 200, n, 1) & each_event_fits(w, resources, bins, n)
+    let n = w[row::EVENTS] as usize;
+    rising(w, row::KEYS, n, 1) & each_event_fits(w, resources, bins, n)
 }
 
 // ---- places
@@ -150,11 +162,11 @@ fn slaves_known(w: &[u64], syncs: u64, p: usize) -> bool
     requires { ⌜ Bounded (now w) × (p < 64) ⌝ }
     ensures { λ r. ⌜ r ≡ slavesKnown (now (w .entry)) syncs p ⌝ }
 {
-    let n = row_work::word(w, p, 3) as usize;
+    let n = row_work::word(w, p, process::SLAVES) as usize;
     let mut ok = true;
     let mut k = 0;
     while k < n {
-        ok = (row_work::word(w, p, 52 + k) / 64 < syncs) & ok;
+        ok = (row_work::word(w, p, process::OWNED + k) / word::SYNC < syncs) & ok;
         k += 1;
     }
     ok
@@ -167,8 +179,8 @@ fn alike(w: &[u64], number: u64) -> usize
 {
     let mut found = 0;
     let mut q = 0;
-    while q < 64 {
-        found = one_if(number == row_work::word(w, q, 0)) + found;
+    while q < limit::PLACES {
+        found = one_if(number == row_work::word(w, q, process::NUMBER)) + found;
         q += 1;
     }
     found
@@ -178,25 +190,26 @@ fn vacant(w: &[u64], p: usize) -> bool
     requires { ⌜ (length (now w) ≡ 10696) × (p < 64) ⌝ }
     ensures { λ r. ⌜ r ≡ vacantRow (now (w .entry)) p ⌝ }
 {
-    (row_work::word(w, p, 0) == 0)
-        & ((row_work::word(w, p, 1) == 2147483648) & (row_work::word(w, p, 3) == 0))
+    (row_work::word(w, p, process::NUMBER) == 0)
+        & ((row_work::word(w, p, process::PRIORITY) == code::ZERO_WORD)
+            & (row_work::word(w, p, process::SLAVES) == 0))
 }
 
 fn living(w: &[u64], syncs: u64, p: usize) -> bool
     requires { ⌜ Bounded (now w) × (p < 64) ⌝ }
     ensures { λ r. ⌜ r ≡ livingRow (now (w .entry)) syncs p ⌝ }
 {
-    let number = row_work::word(w, p, 0);
-    (2147473648 <= row_work::word(w, p, 1))
+    let number = row_work::word(w, p, process::NUMBER);
+    (code::LOWEST_WORD <= row_work::word(w, p, process::PRIORITY))
         & (slaves_known(w, syncs, p)
-            & (((1 <= number) & (number <= w[2])) & (alike(w, number) == 1)))
+            & (((1 <= number) & (number <= w[row::LAST])) & (alike(w, number) == 1)))
 }
 
 fn place_fits(w: &[u64], syncs: u64, p: usize) -> bool
     requires { ⌜ Bounded (now w) × (p < 64) ⌝ }
     ensures { λ r. ⌜ r ≡ placeFits (now (w .entry)) syncs p ⌝ }
 {
-    if row_work::word(w, p, 2) == 0 {
+    if row_work::word(w, p, process::DEPTH) == 0 {
         return vacant(w, p);
     }
     living(w, syncs, p)
@@ -208,7 +221,7 @@ fn places_fit(w: &[u64], syncs: u64) -> bool
 {
     let mut ok = true;
     let mut p = 0;
-    while p < 64 {
+    while p < limit::PLACES {
         ok = place_fits(w, syncs, p) & ok;
         p += 1;
     }
@@ -221,12 +234,14 @@ fn in_events(w: &[u64], p: u64) -> usize
     requires { ⌜ Bounded (now w) ⌝ }
     ensures { λ r. ⌜ (r ≡ inEvents (now (w .entry)) p) × (r ≤ 128) ⌝ }
 {
-    let n = w[5] as usize;
+    let n = w[row::EVENTS] as usize;
     let mut found = 0;
     let mut k = 0;
     while k < n {
-        let word = w[328 + k];
-        found = one_if((base_ordered::kind_of(word) == 0) & (p == base_ordered::number_of(word)))
+        let word = w[row::NOTICES + k];
+        found = one_if(
+            (base_ordered::kind_of(word) == notice::WAKES) & (p == base_ordered::number_of(word)),
+        )
             + found;
         k += 1;
     }
@@ -241,7 +256,7 @@ fn in_queue(w: &[u64], from: usize, count: usize, p: u64) -> usize
     let mut found = 0;
     let mut k = 0;
     while k < n {
-        found = one_if(p == w[from + k] % 64) + found;
+        found = one_if(p == w[from + k] % word::PLACES) + found;
         k += 1;
     }
     found
@@ -254,7 +269,7 @@ fn in_waiting(w: &[u64], syncs: usize, p: u64) -> usize
     let mut found = 0;
     let mut i = 0;
     while i < syncs {
-        found = in_queue(w, 456 + 64 * i, 104 + i, p) + found;
+        found = in_queue(w, row::WAITING + row::WAITERS_MOST * i, row::WAITS + i, p) + found;
         i += 1;
     }
     found
@@ -264,11 +279,11 @@ fn in_slaves(w: &[u64], p: u64, q: usize) -> usize
     requires { ⌜ Bounded (now w) × (q < 64) ⌝ }
     ensures { λ r. ⌜ (r ≡ inSlaves (now (w .entry)) p q) × (r ≤ 64) ⌝ }
 {
-    let n = row_work::word(w, q, 3) as usize;
+    let n = row_work::word(w, q, process::SLAVES) as usize;
     let mut found = 0;
     let mut k = 0;
     while k < n {
-        found = one_if(p == row_work::word(w, q, 52 + k) % 64) + found;
+        found = one_if(p == row_work::word(w, q, process::OWNED + k) % word::PLACES) + found;
         k += 1;
     }
     found
@@ -280,7 +295,7 @@ fn owned(w: &[u64], p: u64) -> usize
 {
     let mut found = 0;
     let mut q = 0;
-    while q < 64 {
+    while q < limit::PLACES {
         found = in_slaves(w, p, q) + found;
         q += 1;
     }
@@ -294,8 +309,8 @@ fn place_listed(w: &[u64], syncs: usize, p: usize) -> bool
 {
     let at = p as u64;
     let waiting = in_waiting(w, syncs, at) + owned(w, at);
-    let listed = in_events(w, at) + (in_queue(w, 136, 6, at) + waiting);
-    one_if(w[3] == at + 1) + listed == one_if(row_work::word(w, p, 2) != 0)
+    let listed = in_events(w, at) + (in_queue(w, row::QUEUE, row::BLOCKED, at) + waiting);
+    one_if(w[row::FLOOR] == at + 1) + listed == one_if(row_work::word(w, p, process::DEPTH) != 0)
 }
 
 fn in_one(w: &[u64], syncs: usize) -> bool
@@ -304,7 +319,7 @@ fn in_one(w: &[u64], syncs: usize) -> bool
 {
     let mut ok = true;
     let mut p = 0;
-    while p < 64 {
+    while p < limit::PLACES {
         ok = place_listed(w, syncs, p) & ok;
         p += 1;
     }
@@ -319,8 +334,8 @@ fn held_all(w: &[u64], i: usize) -> u64
 {
     let mut found = 0;
     let mut q = 0;
-    while q < 64 {
-        found = row_work::word(w, q, 12 + i) + found;
+    while q < limit::PLACES {
+        found = row_work::word(w, q, process::HELD + i) + found;
         q += 1;
     }
     found
@@ -330,8 +345,9 @@ fn returning_at(w: &[u64], i: u64, k: usize) -> u64
     requires { ⌜ (length (now w) ≡ 10696) × (k < 128) ⌝ }
     ensures { λ r. ⌜ (r ≡ returningAt (now (w .entry)) i k) × (r < 1048576) ⌝ }
 {
-    let word = w[328 + k];
-    let here = (base_ordered::kind_of(word) == 1) & (i == base_ordered::number_of(word));
+    let word = w[row::NOTICES + k];
+    let here = (base_ordered::kind_of(word) == notice::RESOURCE)
+        & (i == base_ordered::number_of(word));
     if here {
         base_ordered::amount_of(word)
     } else {
@@ -343,7 +359,7 @@ fn returning_all(w: &[u64], i: u64) -> u64
     requires { ⌜ Bounded (now w) ⌝ }
     ensures { λ r. ⌜ (r ≡ returningAll (now (w .entry)) i) × (r ≤ 134217728) ⌝ }
 {
-    let n = w[5] as usize;
+    let n = w[row::EVENTS] as usize;
     let mut found = 0;
     let mut k = 0;
     while k < n {
@@ -357,7 +373,7 @@ fn amounts_add<'a>(w: &'a [u64], totals: &'a [u64], i: usize) -> bool
     requires { ⌜ Bounded (now w) × ((i < 32) × (i < length (now totals))) ⌝ }
     ensures { λ r. ⌜ r ≡ amountsAdd (now (w .entry)) (now (totals .entry)) i ⌝ }
 {
-    w[8 + i] + held_all(w, i) + returning_all(w, i as u64) == totals[i]
+    w[row::FREE + i] + held_all(w, i) + returning_all(w, i as u64) == totals[i]
 }
 
 fn adds_up<'a>(w: &'a [u64], totals: &'a [u64], resources: usize) -> bool
@@ -388,9 +404,9 @@ pub fn sound_beside<'a>(
     ensures { λ r. ⌜ ((v : Counted (now (w .entry)) (now (totals .entry)) resources bins syncs)
         → r ≡ soundBeside (v .model) (v .is)) ⌝ }
 {
-    let few = row_lists::returns(w) <= 64;
+    let few = row_lists::returns(w) <= limit::RETURNS;
     let places = places_fit(w, syncs as u64) & in_one(w, syncs);
     let lists = events_fit(w, resources as u64, bins as u64)
-        & (queue_fits(w, 136, 6) & waiting_fits(w, syncs));
+        & (queue_fits(w, row::QUEUE, row::BLOCKED) & waiting_fits(w, syncs));
     (few & (places & lists)) & adds_up(w, totals, resources)
 }

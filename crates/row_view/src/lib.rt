@@ -10,15 +10,15 @@ ghost use Rattle.file_index.specs.Index.{Readable};
 ghost use Rattle.row_view.specs.View.{seated as seatedOf};
 ghost use Rattle.row_view.specs.Fits.{countsIn, Counted, Showing, Few, frameFits, returnFits, noticeFits, passes, fits};
 ghost use Rattle.row_view.specs.Fits.{waitingFits, processFits, placeFits, processesFit, headFits, thingsFit, listsFit};
+use base_numbers::limit;
+use base_numbers::most;
+use base_numbers::notice;
+use base_numbers::process;
+use base_numbers::row;
+use base_numbers::word;
 
-// The largest code of a number, word of a slave, word of one that waits, and key of an event.
-const CODE: u64 = 4294967295;
-
-const SLAVE: u64 = 2047;
-
-const WAITER: u64 = 274877906943;
-
-const KEY: u64 = 8589934596294967295;
+// The words of wakes are below this.
+const WAKES: u64 = word::KINDS * most::PLACES;
 
 // How many resources, bins, syncs and variables a model has.
 pub struct Counts {
@@ -78,23 +78,26 @@ enum Rule {
 fn frame_fits(x: u64) -> bool
     ensures { λ r. ⌜ r ≡ frameFits x ⌝ }
 {
-    (x % 65536 < 256) & ((x / 65536 % 65536 <= 1024) & (x / 4294967296 < 65536))
+    (x % word::BLOCKS < most::BLOCKS)
+        & ((x / word::ACTION % word::ACTIONS <= most::ACTIONS) & (x / word::ROUND < word::ROUNDS))
 }
 
 // Whether x is the word of a return.
 fn return_fits(x: u64) -> bool
     ensures { λ r. ⌜ r ≡ returnFits x ⌝ }
 {
-    (x % 4 < 3)
-        & ((x / 4 % 64 < 32) & ((x / 256 % 1048576 <= 1000000) & (x / 268435456 <= 2147483647)))
+    (x % word::KINDS < 3)
+        & ((x / word::KINDS % word::NUMBERS < most::THINGS)
+            & ((x / word::AMOUNT % word::AMOUNTS <= most::AMOUNT)
+                & (x / word::GIVER <= limit::LAST_NUMBER)))
 }
 
 // Whether x is the word of what an event does.
 fn notice_fits(x: u64) -> bool
     ensures { λ r. ⌜ r ≡ noticeFits x ⌝ }
 {
-    if x % 4 == 0 {
-        return x < 256;
+    if x % word::KINDS == notice::WAKES {
+        return x < WAKES;
     }
     return_fits(x)
 }
@@ -148,13 +151,27 @@ fn process_fits(row: &[u64], resources: u64) -> bool
     requires { ⌜ length (now row) ≡ 128 ⌝ }
     ensures { λ r. ⌜ r ≡ processFits resources (now (row .entry)) ⌝ }
 {
-    let d = row[2];
-    let n = row[3];
-    let numbers = (row[0] <= 2147483647) & (row[1] <= CODE);
-    let locals = row_fits(&row[4..12], seated(d, 8), Rule::Most(CODE));
-    let held = row_fits(&row[12..44], seated(d, resources), Rule::Most(1000000));
-    let frames = row_fits(&row[44..52], d, Rule::Frame);
-    let slaves = (n <= 64) & row_fits(&row[52..128], n, Rule::Most(SLAVE));
+    let d = row[process::DEPTH];
+    let n = row[process::SLAVES];
+    let numbers = (row[process::NUMBER] <= limit::LAST_NUMBER)
+        & (row[process::PRIORITY] <= most::CODE);
+    let locals = row_fits(
+        &row[process::LOCALS..process::HELD],
+        seated(d, most::LOCALS),
+        Rule::Most(most::CODE),
+    );
+    let held = row_fits(
+        &row[process::HELD..process::BLOCKS],
+        seated(d, resources),
+        Rule::Most(most::AMOUNT),
+    );
+    let frames = row_fits(&row[process::BLOCKS..process::OWNED], d, Rule::Frame);
+    let slaves = (n <= most::PLACES)
+        & row_fits(
+            &row[process::OWNED..process::WORDS],
+            n,
+            Rule::Most(most::SLAVE),
+        );
     numbers & (locals & (held & (frames & slaves)))
 }
 
@@ -163,7 +180,7 @@ fn place_fits(row: &[u64], resources: u64, digit: u64) -> bool
     requires { ⌜ length (now row) ≡ 128 ⌝ }
     ensures { λ r. ⌜ r ≡ placeFits resources (now (row .entry)) digit ⌝ }
 {
-    let lives = seated(row[2], 1);
+    let lives = seated(row[process::DEPTH], 1);
     process_fits(row, resources) & (digit == lives)
 }
 
@@ -174,13 +191,13 @@ fn processes_fit(rows: &[u64], resources: u64, living: u64) -> bool
 {
     let mut ok = true;
     let mut digits = living;
-    let mut left: usize = 64;
+    let mut left: usize = limit::PLACES;
     let mut rest = rows;
     while 0 < left {
-        ok = ok & place_fits(&rest[0..128], resources, digits % 2);
+        ok = ok & place_fits(&rest[0..process::WORDS], resources, digits % 2);
         digits = digits / 2;
         left -= 1;
-        rest = &rest[128..];
+        rest = &rest[process::WORDS..];
     }
     ok & (digits == 0)
 }
@@ -196,9 +213,14 @@ fn waiting_fits<'a>(counts: &'a [u64], lists: &'a [u64]) -> bool
     let mut i = 0;
     let mut rest = lists;
     while i < counts.len() {
-        ok = ok & row_fits(&rest[0..64], counts[i], Rule::Most(WAITER));
+        ok = ok
+            & row_fits(
+                &rest[0..row::WAITERS_MOST],
+                counts[i],
+                Rule::Most(most::WAITER),
+            );
         i += 1;
-        rest = &rest[64..];
+        rest = &rest[row::WAITERS_MOST..];
     }
     ok & words_fit(rest, Rule::Most(0))
 }
@@ -210,7 +232,10 @@ fn head_fits(w: &[u64]) -> bool
     requires { ⌜ length (now w) ≡ 10696 ⌝ }
     ensures { λ r. ⌜ r ≡ headFits (now (w .entry)) ⌝ }
 {
-    (w[0] <= 2000000000) & ((w[1] <= 1) & ((w[2] <= 2147483647) & ((w[3] <= 64) & (w[7] == 0))))
+    (w[row::CLOCK] <= limit::LATEST)
+        & ((w[row::CLOSED] <= 1)
+            & ((w[row::LAST] <= limit::LAST_NUMBER)
+                & ((w[row::FLOOR] <= most::PLACES) & (w[row::SPARE] == 0))))
 }
 
 // What is free, the bins, the variables, and how many wait for each sync.
@@ -218,10 +243,22 @@ fn things_fit(w: &[u64], resources: u64, bins: u64, syncs: u64, variables: u64) 
     requires { ⌜ length (now w) ≡ 10696 ⌝ }
     ensures { λ r. ⌜ r ≡ thingsFit resources bins syncs variables (now (w .entry)) ⌝ }
 {
-    let free = row_fits(&w[8..40], resources, Rule::Most(1000000));
-    let binned = row_fits(&w[40..72], bins, Rule::Most(1000000000));
-    let values = row_fits(&w[72..104], variables, Rule::Most(CODE));
-    let counts = row_fits(&w[104..136], syncs, Rule::Most(64));
+    let free = row_fits(
+        &w[row::FREE..row::BINS],
+        resources,
+        Rule::Most(most::AMOUNT),
+    );
+    let binned = row_fits(
+        &w[row::BINS..row::GLOBALS],
+        bins,
+        Rule::Most(limit::FULL_BIN),
+    );
+    let values = row_fits(
+        &w[row::GLOBALS..row::WAITS],
+        variables,
+        Rule::Most(most::CODE),
+    );
+    let counts = row_fits(&w[row::WAITS..row::QUEUE], syncs, Rule::Most(most::PLACES));
     free & (binned & (values & counts))
 }
 
@@ -230,11 +267,19 @@ fn lists_fit(w: &[u64], syncs: u64) -> bool
     requires { ⌜ (length (now w) ≡ 10696) × (syncs ≤ 32) ⌝ }
     ensures { λ r. ⌜ r ≡ listsFit syncs (now (w .entry)) ⌝ }
 {
-    let blocked = row_fits(&w[136..200], w[6], Rule::Most(WAITER));
-    let keys = row_fits(&w[200..328], w[5], Rule::Most(KEY));
-    let words = row_fits(&w[328..456], w[5], Rule::Notice);
-    let to = 104 + (syncs as usize);
-    let waiting = waiting_fits(&w[104..to], &w[456..2504]);
+    let blocked = row_fits(
+        &w[row::QUEUE..row::KEYS],
+        w[row::BLOCKED],
+        Rule::Most(most::WAITER),
+    );
+    let keys = row_fits(
+        &w[row::KEYS..row::NOTICES],
+        w[row::EVENTS],
+        Rule::Most(most::KEY),
+    );
+    let words = row_fits(&w[row::NOTICES..row::WAITING], w[row::EVENTS], Rule::Notice);
+    let to = row::WAITS + (syncs as usize);
+    let waiting = waiting_fits(&w[row::WAITS..to], &w[row::WAITING..row::PROCESSES]);
     blocked & (keys & (words & waiting))
 }
 
@@ -244,7 +289,7 @@ pub fn shows(resources: usize, bins: usize, syncs: usize, variables: usize, w: &
     ensures { λ r. ⌜ ((m : Model) → Counted m resources bins syncs variables →
         (r ≡ true → Showing m (now (w .entry))) × (r ≡ false → Showing m (now (w .entry)) → ⊥)) ⌝ }
 {
-    if w.len() != 10696 {
+    if w.len() != row::WORDS {
         return false;
     }
     let head = head_fits(w);
@@ -256,6 +301,10 @@ pub fn shows(resources: usize, bins: usize, syncs: usize, variables: usize, w: &
         variables as u64,
     );
     let lists = lists_fit(w, syncs as u64);
-    let processes = processes_fit(&w[2504..10696], resources as u64, w[4]);
+    let processes = processes_fit(
+        &w[row::PROCESSES..row::WORDS],
+        resources as u64,
+        w[row::LIVING],
+    );
     head & (things & (lists & processes))
 }
