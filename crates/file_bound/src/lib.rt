@@ -4,7 +4,7 @@ ghost use Prim.Native.Nat.{_+_, _≤_, _<_};
 ghost use lib.Dec.{eqb};
 ghost use lib.ListN.{length, getD};
 ghost use Rattle.semantics.specs.Words.{if_then_else_};
-ghost use Rattle.semantics.specs.Bytes.{u16, spans, recordsFrom};
+ghost use Rattle.semantics.specs.Bytes.{u16, recordsFrom};
 ghost use Rattle.semantics.specs.Decode.{gather};
 ghost use Rattle.semantics.specs.Bound.{bound as boundOf};
 ghost use Rattle.semantics.specs.Desk.{boundFile};
@@ -19,14 +19,6 @@ pub enum Bounded {
     None,
     Over,
     At(u32),
-}
-
-// How many bytes the record has with which s begins.
-fn span(s: &[u8]) -> usize
-    requires { ⌜ 2 ≤ length (now s) ⌝ }
-    ensures { λ r. ⌜ (r ≡ spans (now (s .entry))) × (r ≤ 65537) ⌝ }
-{
-    2 + (file_fields::u16_at(s, 0) as usize)
 }
 
 // The body block of a class.
@@ -87,24 +79,24 @@ fn total(s: &[u8]) -> u64
     requires { ⌜ Endable (now s) ⌝ }
     ensures { λ r. ⌜ r ≡ cap (boundOf (gather (recordsFrom 0 (now (s .entry))) .model)) ⌝ }
 {
-    let x = file_index::index_of(s);
-    let body = x.body;
+    let i = file_index::index_of(s);
+    let body = i.body;
     let g = file_index::graph_of(s, true, body);
-    let first = x.first;
+    let first = i.first;
     let from = g.from;
     let goes = g.goes;
     let own = g.own;
     let times = g.times;
-    let blocks = x.blocks;
+    let blocks = i.blocks;
     let mut memo = [0u64; 256];
     let mut w: u64 = 0;
-    let mut rest = s;
-    while 0 < rest.len() {
-        let size = span(rest);
-        let kind = file_fields::u16_at(rest, 2);
+    let mut at = file_reader::first(s);
+    while at < s.len() {
+        let x = file_reader::read(s, at);
+        let end = file_reader::next(s, at);
         let v = entity_weight(
-            kind,
-            &rest[4..size],
+            x.kind,
+            &s[at + 4..end],
             body,
             &first,
             &from,
@@ -115,7 +107,7 @@ fn total(s: &[u8]) -> u64
             &mut memo,
         );
         w = added(w, v);
-        rest = &rest[size..];
+        at = end;
     }
     w
 }

@@ -2,10 +2,10 @@
 use mathlib.Core.Path.{_≡_, refl, sym, _∙_, ap}
 use mathlib.Core.List.{List, [], _∷_}
 use mathlib.Core.Bool.{Bool, true, false, _&&_}
-use Prim.Native.Nat.{ℕ, _-_, _≤_, _<_}
+use Prim.Native.Nat.{ℕ, _≤_, _<_}
 use borrow.Author.Tests.{ltb-true, eqb-true}
 use lib.Dec.{eqb, ltb}
-use lib.ListN.{length, getD, take, drop, replicate}
+use lib.ListN.{length, getD, replicate}
 use Rattle.semantics.specs.Words.{if_then_else_, passed, collect}
 use Rattle.semantics.specs.Numbers as No
 use Rattle.semantics.specs.Model.{Action, Model, block}
@@ -22,16 +22,20 @@ use Rattle.file_index.specs.Index.{Readable, indexOf, graphOf}
 use Rattle.file_index.specs.Ties.{goesOf, Ties, GraphTies}
 use Rattle.file_index.specs.declared.Graph as G
 use Rattle.file_index.specs.declared.Index as I
-use Rattle.file_index.proofs.Records.{left, left-all, left-none, On, on-all}
+use Rattle.file_index.proofs.Records.{Fine, fine-first, step-there, judged-there, fine-there}
 use Rattle.file_index.proofs.Standing.{Accepted}
 use Rattle.file_index.proofs.Ties.{goes-inner, index-ties, graph-ties}
 use Rattle.file_depth.specs.Deep.{Graph, namesIn, depthOf}
 use Rattle.file_depth.proofs.Model.{depth-is, all-collect}
 use Rattle.file_depth.specs.Deep.{Known}
 use Rattle.file_depth.proofs.Laws.{known-none}
-use Rattle.file_check.specs.Check.{spanOf, Named}
+use Rattle.file_reader.specs.Reads.{recordAt}
+use Rattle.file_reader.specs.Records.{bodyAt}
+use Rattle.file_reader.specs.Walk.{onward, onward-ends, Step}
+use Rattle.file_reader.specs.declared.Record.{Record}
+use Rattle.file_check.specs.Check.{Named}
 use Rattle.file_check.proofs.Laid.{laid}
-use Rattle.file_check.proofs.Pass.{record-here, judged-on, on-behind}
+use Rattle.file_check.proofs.Pass.{sized-on}
 
 -- Without STARTs a block goes to the blocks that its actions name.
 collect-inner : (m : Model) (xs : List Action) → collect (goesOf false m) xs ≡ collect inner xs
@@ -118,39 +122,44 @@ module _ (s : List ℕ) where
   abbrev whole-file : List Raw
   whole-file = recordsFrom 0 s
 
-  pub record Turn (first from goes : List ℕ) (blocks : ℕ) (memo rest : List ℕ) : Type 0 where
-    pub on : On s rest
+  pub record Turn (first from goes : List ℕ) (blocks : ℕ) (memo : List ℕ) (at : ℕ) : Type 0 where
+    pub on : Fine (onward s at)
     pub graph : Graph first from goes blocks
     pub right : (b : ℕ) → b < blocks → depthOf (namesIn first from goes) blocks b ≡ depth (gather whole-file .model) b
-    pub classes : Classes blocks (left s rest)
+    pub classes : Classes blocks (onward s at)
     pub known : Known (depthOf (namesIn first from goes) blocks) blocks memo
-    pub goes-on : thirdPass (gather whole-file .model) (left s rest) ≡ thirdPass (gather whole-file .model) whole-file
+    pub goes-on : thirdPass (gather whole-file .model) (onward s at) ≡ thirdPass (gather whole-file .model) whole-file
 
   pub begun : Named s → (i : I.Index) → i ≡ indexOf whole-file → (g : G.Graph) → g ≡ graphOf false (i .body) whole-file
-      → Turn (i .first) (g .from) (g .goes) (i .blocks) (replicate 256 0) s
+      → Turn (i .first) (g .from) (g .goes) (i .blocks) (replicate 256 0) 0
   begun n i e g f =
-      let m : Model = gather whole-file .model in
       let q : g ≡ graphOf false (indexOf whole-file .body) whole-file = f ∙ rw e in
       rw (q, e) (record {
-        on = on-all s (readable s n);
+        on = fine-first s (readable s n);
         graph = graph-right s n;
         right = λ b h. depths s n b (rw (blocks-are s n) at h);
-        classes = rw (blocks-are s n, left-all s) (classes-all s n);
+        classes = rw (blocks-are s n) (classes-all s n);
         known = known-none _ _ (graph-right s n .laid .few);
-        goes-on = ap (thirdPass m) (left-all s);
+        goes-on = refl;
       })
 
-  module _ {first from goes : List ℕ} {blocks : ℕ} {memo rest : List ℕ} (w : Turn first from goes blocks memo rest)
-      (h : 0 < length rest) {z : ℕ} (j : z ≡ spanOf rest) {k : ℕ} (i : k ≡ u16 rest 2) where
-    abbrev body : List ℕ
-    body = take (z - 4) (drop 4 rest)
+  module _ {first from goes : List ℕ} {blocks : ℕ} {memo : List ℕ} {at : ℕ} (w : Turn first from goes blocks memo at)
+      (h : at < length s) {x : Record} (f : x ≡ recordAt s at) {n : ℕ} (i : n ≡ recordAt s at .next) where
+    abbrev k : ℕ
+    k = x .kind
 
-    classes-here : (k ≡ 5 → u16 body 0 < blocks) × Classes blocks (left s (take (length rest - z) (drop z rest)))
-    classes-here = rw (record-here h (w .on) j i) at (w .classes)
+    abbrev body : List ℕ
+    body = bodyAt s at n
+
+    pub step : Step s at k n
+    step = step-there s at h (w .on) f i
+
+    classes-here : (k ≡ 5 → u16 body 0 < blocks) × Classes blocks (onward s n)
+    classes-here = rw (step .here) at (w .classes)
 
     pub class-is : k ≡ 5 → (2 ≤ length body) × (u16 body 0 < blocks)
     unfolding rowOf
-    class-is e = (rw e at (judged-on h (w .on) j i .head-in), classes-here .0 e)
+    class-is e = (rw e at (sized-on (judged-there s at h (w .on) f i) .head-in), classes-here .0 e)
 
     module _ {t : Bool} (e : t ≡ (eqb k 5 && ltb 8 (depthOf (namesIn first from goes) blocks (u16 body 0)))) where
       test-is : t ≡ (eqb k 5 && ltb 8 (depth (gather whole-file .model) (u16 body 0)))
@@ -158,31 +167,30 @@ module _ (s : List ℕ) where
         where
           go : (b : Bool) → eqb k 5 ≡ b → (b && ltb 8 (depthOf (namesIn first from goes) blocks (u16 body 0)))
               ≡ (b && ltb 8 (depth (gather whole-file .model) (u16 body 0)))
-          go false f = refl
-          go true f = ap (ltb 8) (w .right (u16 body 0) (classes-here .0 (eqb-true k 5 f)))
+          go false g = refl
+          go true g = ap (ltb 8) (w .right (u16 body 0) (classes-here .0 (eqb-true k 5 g)))
 
       third-step : (b : Bool) → t ≡ b → thirdPass (gather whole-file .model) whole-file
-          ≡ (if b then refused No.DEEP (length s - length rest)
-          else thirdPass (gather whole-file .model) (left s (take (length rest - z) (drop z rest))))
+          ≡ (if b then refused No.DEEP at else thirdPass (gather whole-file .model) (onward s n))
       unfolding thirdPass
-      third-step b f = sym (w .goes-on) ∙ rw (record-here h (w .on) j i, thirdPass, sym test-is, f) refl
+      third-step b g = sym (w .goes-on) ∙ rw (step .here, thirdPass, sym test-is, g) refl
 
-      pub third-refused : t ≡ true → thirdPass (gather whole-file .model) whole-file ≡ refused 10 (length s - length rest)
-      third-refused f = third-step true f
+      pub third-refused : t ≡ true → thirdPass (gather whole-file .model) whole-file ≡ refused 10 at
+      third-refused g = third-step true g
 
       pub turned : t ≡ false → {after : List ℕ} → Known (depthOf (namesIn first from goes) blocks) blocks after
-          → Turn first from goes blocks after (take (length rest - z) (drop z rest))
-      turned f q =
+          → Turn first from goes blocks after n
+      turned g q =
           record {
-            on = on-behind h (w .on) j i;
+            on = fine-there s at h (w .on) f i;
             graph = w .graph;
             right = w .right;
             classes = classes-here .1;
             known = q;
-            goes-on = sym (third-step false f);
+            goes-on = sym (third-step false g);
           }
 
-  pub third-ends : {first from goes : List ℕ} {blocks : ℕ} {memo rest : List ℕ} → Turn first from goes blocks memo rest
-      → length rest ≡ 0 → thirdPass (gather whole-file .model) whole-file ≡ accepted passed
+  pub third-ends : {first from goes : List ℕ} {blocks : ℕ} {memo : List ℕ} {at : ℕ} → Turn first from goes blocks memo at
+      → length s ≤ at → thirdPass (gather whole-file .model) whole-file ≡ accepted passed
   unfolding thirdPass
-  third-ends {rest = rest} w h = sym (w .goes-on) ∙ rw (left-none s rest h)
+  third-ends {at = at} w h = sym (w .goes-on) ∙ rw (onward-ends s at h)

@@ -2,8 +2,7 @@
 use Prim.Native.Nat.{ℕ, _≤_}
 use mathlib.Core.List.{List}
 use lib.ListN.{length}
-use Rattle.semantics.specs.Words.{if_then_else_}
-use Rattle.semantics.specs.Bytes.{whole, spans, recordsFrom}
+use Rattle.semantics.specs.Bytes.{recordsFrom}
 use Rattle.semantics.specs.Decode.{Checked, refused, accepted, noneSeen}
 use Rattle.promises.specs.Passes.{TwoPasses}
 use Rattle.file_check.specs.declared.First.{First}
@@ -17,10 +16,6 @@ refusalOf (accepted a) = record { number = 0; place = 0 }
 abbrev pub firstOf : Checked (List ℕ) → First
 firstOf (refused n p) = record { number = n; place = p; seen = noneSeen }
 firstOf (accepted seen) = record { number = 0; place = 0; seen = seen }
-
--- How many bytes the record has with which bs begins; 0 where it is torn.
-abbrev pub spanOf : List ℕ → ℕ
-spanOf bs = if whole bs then spans bs else 0
 
 -- The bytes of a file that passes 1 to 9.
 pub record Named (bs : List ℕ) : Type 0 where

@@ -10,7 +10,7 @@ ghost use Rattle.semantics.specs.Decode.{gather, thirdPass, decode};
 ghost use Rattle.file_index.specs.Index.{Readable};
 ghost use Rattle.file_depth.specs.Deep.{Graph, Known, namesIn, depthOf, measured};
 ghost use Rattle.semantics.specs.Words.{if_then_else_};
-ghost use Rattle.file_check.specs.Check.{refusalOf, firstOf, spanOf, Named};
+ghost use Rattle.file_check.specs.Check.{refusalOf, firstOf, Named};
 
 // The number, 1 to 10, and the byte place of the record; 0 and 0: accepted.
 pub struct Refusal {
@@ -24,32 +24,23 @@ pub struct First {
     pub seen: [u32; 17],
 }
 
-// How many bytes the record at the front has; 0 where the bytes end inside it, or its length is under 2.
-fn span(bs: &[u8]) -> usize
-    ensures { λ r. ⌜ r ≡ spanOf (now (bs .entry)) ⌝ }
-{
-    let x = file_reader::read(bs, 0);
-    if x.whole { x.next } else { 0 }
-}
-
 // Record by record: 1 to 7.
 fn first_pass(s: &[u8]) -> First
     ensures { λ r. ⌜ r ≡ firstOf (firstPass noneSeen (recordsFrom 0 (now (s .entry)))) ⌝ }
 {
-    let mut rest = s;
+    let mut at = file_reader::first(s);
     let mut seen = [0u32; 17];
-    while 0 < rest.len() {
-        let at = s.len() - rest.len();
-        let size = span(rest);
-        if size == 0 {
+    while at < s.len() {
+        let x = file_reader::read(s, at);
+        if !x.whole {
             return First {
                 number: 1,
                 place: at,
                 seen: [0u32; 17],
             };
         }
-        let kind = file_fields::u16_at(rest, 2);
-        let n = file_check_record::judge(seen, kind, &rest[4..size]);
+        let end = file_reader::next(s, at);
+        let n = file_check_record::judge(seen, x.kind, &s[at + 4..end]);
         if n != 0 {
             return First {
                 number: n,
@@ -57,9 +48,9 @@ fn first_pass(s: &[u8]) -> First
                 seen: [0u32; 17],
             };
         }
-        let g = file_check_record::group_of(kind);
+        let g = file_check_record::group_of(x.kind);
         seen[g] = seen[g] + 1;
-        rest = &rest[size..];
+        at = end;
     }
     First {
         number: 0,
@@ -81,21 +72,20 @@ fn second_pass(s: &[u8], n: [u32; 17]) -> Refusal
     requires { ⌜ Readable (now s) ⌝ }
     ensures { λ r. ⌜ r ≡ refusalOf (secondPass n 0 (recordsFrom 0 (now (s .entry)))) ⌝ }
 {
-    let mut rest = s;
+    let mut at = file_reader::first(s);
     let mut own: u32 = 0;
-    while 0 < rest.len() {
-        let at = s.len() - rest.len();
-        let size = span(rest);
-        let kind = file_fields::u16_at(rest, 2);
-        let x = file_check_record::name(n, own, kind, &rest[4..size]);
-        if x != 0 {
+    while at < s.len() {
+        let x = file_reader::read(s, at);
+        let end = file_reader::next(s, at);
+        let r = file_check_record::name(n, own, x.kind, &s[at + 4..end]);
+        if r != 0 {
             return Refusal {
-                number: x,
+                number: r,
                 place: at,
             };
         }
-        own = opened(own, kind);
-        rest = &rest[size..];
+        own = opened(own, x.kind);
+        at = end;
     }
     Refusal {
         number: 0,
@@ -139,22 +129,21 @@ fn third_pass(s: &[u8]) -> Refusal
     ensures { λ r. ⌜ r ≡ refusalOf
         (thirdPass (gather (recordsFrom 0 (now (s .entry))) .model) (recordsFrom 0 (now (s .entry)))) ⌝ }
 {
-    let x = file_index::index_of(s);
-    let body = x.body;
+    let i = file_index::index_of(s);
+    let body = i.body;
     let g = file_index::graph_of(s, false, body);
-    let first = x.first;
+    let first = i.first;
     let from = g.from;
     let goes = g.goes;
-    let blocks = x.blocks;
+    let blocks = i.blocks;
     let mut memo = [0u16; 256];
-    let mut rest = s;
-    while 0 < rest.len() {
-        let at = s.len() - rest.len();
-        let size = span(rest);
-        let kind = file_fields::u16_at(rest, 2);
+    let mut at = file_reader::first(s);
+    while at < s.len() {
+        let x = file_reader::read(s, at);
+        let end = file_reader::next(s, at);
         if too_deep(
-            kind,
-            &rest[4..size],
+            x.kind,
+            &s[at + 4..end],
             &first,
             &from,
             &goes,
@@ -166,7 +155,7 @@ fn third_pass(s: &[u8]) -> Refusal
                 place: at,
             };
         }
-        rest = &rest[size..];
+        at = end;
     }
     Refusal {
         number: 0,
