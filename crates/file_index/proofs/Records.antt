@@ -1,81 +1,26 @@
 -- The records of a file that the first pass accepts, one after the other: each is whole, of a kind, and judged.
 -- Assumes nothing.
-use mathlib.Core.Path.{_≡_, refl, sym, _∙_, ap}
+use mathlib.Core.Path.{_≡_, refl, _∙_, ap}
 use mathlib.Core.List.{List, [], _∷_}
 use mathlib.Core.Bool.{Bool, true, false, _&&_}
-use Prim.Native.Nat.{ℕ, zero, suc, _+_, _-_, _≤_, _<_}
+use Prim.Native.Nat.{ℕ, _+_, _-_, _≤_, _<_}
 use native.Mathlib.Omega.{arith}
-use borrow.Author.Tests.{leb-true, ltb-true, eqb-true, eqb-false, ne-eqb}
-use lib.Dec.{eqb, leb, ltb}
+use borrow.Author.Tests.{leb-true, ltb-true}
+use lib.Dec.{leb, ltb}
 use lib.ListN.{length, getD, take, drop, length-drop}
 use Rattle.semantics.specs.Words.{Outcome, ok, fails, Passed, passed, need, _>>_}
 use Rattle.semantics.specs.Numbers as No
-use Rattle.semantics.specs.Bytes.{Raw, raw, torn, cut, recordsFrom, whole, spans, u16}
+use Rattle.semantics.specs.Bytes.{Raw, raw, torn, recordsFrom, whole, spans, u16}
 use Rattle.semantics.specs.Record.{Row, sized, valid, inSet, rowOf, bodyJudged}
 use Rattle.semantics.specs.Decode.{refused, accepted, placed, judged, saw, firstPass, noneSeen}
 use Rattle.promises.specs.Laws.{and-true, not-ok, needed-two}
 use Rattle.promises.specs.Passes.{not-accepted}
+use Rattle.file_reader.specs.Reads.{recordAt}
+use Rattle.file_reader.specs.Records.{bodyAt}
+use Rattle.file_reader.specs.Walk.{records-none, records-torn, records-whole, onward, Step, reads-torn, reads-step}
+use Rattle.file_reader.specs.declared.Record.{Record}
 use Rattle.file_check_parts.proofs.Laws.{rest-of}
 use Rattle.file_index.specs.Index.{Judged, Readable}
-
--- CUTTING. Any number of steps from the number of bytes on cuts the same records.
-cut-none : (n at : ℕ) (bs : List ℕ) → length bs ≡ 0 → cut n at bs ≡ []
-unfolding cut
-cut-none zero at bs h = refl
-cut-none (suc n) at bs h = rw h
-
-module _ (at : ℕ) (bs : List ℕ) (h : 0 < length bs) where
-  cut-torn : (n : ℕ) → length bs ≤ n → whole bs ≡ false → cut n at bs ≡ torn at ∷ []
-  unfolding cut
-  cut-torn zero l w = absurd (omega arith)
-  cut-torn (suc n) l w = rw (ne-eqb (length bs) 0 (λ (q : length bs ≡ 0). omega arith), w)
-
-  cut-whole : (n : ℕ) → whole bs ≡ true →
-      cut (suc n) at bs ≡ raw at (u16 bs 2) (take (spans bs - 4) (drop 4 bs)) ∷ cut n (at + spans bs) (drop (spans bs) bs)
-  unfolding cut
-  cut-whole n w = rw (ne-eqb (length bs) 0 (λ (q : length bs ≡ 0). omega arith), w)
-
-enough : (n m at : ℕ) (bs : List ℕ) → length bs ≤ n → length bs ≤ m → cut n at bs ≡ cut m at bs
-enough zero m at bs h k = cut-none zero at bs (omega arith) ∙ sym (cut-none m at bs (omega arith))
-enough (suc n) zero at bs h k = cut-none (suc n) at bs (omega arith) ∙ sym (cut-none zero at bs (omega arith))
-enough (suc n) (suc m) at bs h k =
-    let z : ℕ = spans bs in
-    go (eqb (length bs) 0) refl (whole bs) refl
-    (λ l. enough n m (at + z) (drop z bs) (omega (arith, length-drop z bs)) (omega (arith, length-drop z bs)))
-  where
-    go : (t : Bool) → eqb (length bs) 0 ≡ t → (u : Bool) → whole bs ≡ u →
-        (0 < length bs → cut n (at + spans bs) (drop (spans bs) bs) ≡ cut m (at + spans bs) (drop (spans bs) bs)) →
-        cut (suc n) at bs ≡ cut (suc m) at bs
-    go true e u w i =
-        let l = eqb-true (length bs) 0 e in cut-none (suc n) at bs l ∙ sym (cut-none (suc m) at bs l)
-    go false e true w i =
-        let f = eqb-false (length bs) 0 e in
-        let l : 0 < length bs = omega arith in
-        cut-whole at bs l n w ∙ ap (λ rs. raw at (u16 bs 2) (take (spans bs - 4) (drop 4 bs)) ∷ rs) (i l)
-        ∙ sym (cut-whole at bs l m w)
-    go false e false w i =
-        let f = eqb-false (length bs) 0 e in
-        let l : 0 < length bs = omega arith in
-        cut-torn at bs l (suc n) h w ∙ sym (cut-torn at bs l (suc m) k w)
-
-records-none : (at : ℕ) (bs : List ℕ) → length bs ≡ 0 → recordsFrom at bs ≡ []
-unfolding recordsFrom
-records-none at bs h = cut-none (length bs) at bs h
-
-pub records-torn : (at : ℕ) (bs : List ℕ) → 0 < length bs → whole bs ≡ false → recordsFrom at bs ≡ torn at ∷ []
-unfolding recordsFrom
-records-torn at bs h w = cut-torn at bs h (length bs) (omega arith) w
-
-pub records-whole : (at : ℕ) (bs : List ℕ) → 0 < length bs → whole bs ≡ true →
-    recordsFrom at bs
-    ≡ raw at (u16 bs 2) (take (spans bs - 4) (drop 4 bs)) ∷ recordsFrom (at + spans bs) (drop (spans bs) bs)
-unfolding recordsFrom
-records-whole at bs h w =
-    enough (length bs) (suc (length bs)) at bs (omega arith) (omega arith)
-    ∙ cut-whole at bs h (length bs) w
-    ∙ ap (λ rs. raw at (u16 bs 2) (take (spans bs - 4) (drop 4 bs)) ∷ rs)
-    (enough (length bs) (length (drop (spans bs) bs)) (at + spans bs) (drop (spans bs) bs)
-    (omega (arith, length-drop (spans bs) bs)) (omega arith))
 
 -- FINE RECORDS.
 abbrev pub Fine : List Raw → Type 0
@@ -202,3 +147,23 @@ module _ {s rest : List ℕ} (h : 0 < length rest) (o : On s rest) where
 
       pub on-next : On s rest′
       on-next = record { short = omega (arith, shorter, o .short); fine = (rw here at (o .fine)) .1 }
+
+-- BY A READER, from the first byte of the file on.
+pub fine-first : (s : List ℕ) → Readable s → Fine (onward s 0)
+fine-first s r = fine-all noneSeen (recordsFrom 0 s) (r .accepts .0) (r .accepts .1)
+
+-- It stands at byte place `at`, from which on the records are fine, and reads x; the next place is n.
+module _ (s : List ℕ) (at : ℕ) (h : at < length s) (f : Fine (onward s at)) {x : Record} (e : x ≡ recordAt s at)
+    {n : ℕ} (i : n ≡ recordAt s at .next) where
+  pub step-there : Step s at (x .kind) n
+  step-there = go (x .whole) refl
+    where
+      go : (t : Bool) → x .whole ≡ t → Step s at (x .kind) n
+      go true w = reads-step s at h e w i
+      go false w = absurd (rw (reads-torn s at h e w) at f)
+
+  pub judged-there : Judged (x .kind) (bodyAt s at n)
+  judged-there = (rw (step-there .here) at f) .0
+
+  pub fine-there : Fine (onward s n)
+  fine-there = (rw (step-there .here) at f) .1

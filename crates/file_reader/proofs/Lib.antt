@@ -2,4 +2,5 @@ pub mod Places
 pub mod Held
 pub mod Proved
 pub mod Called
-pub mod Standing
+pub mod Asked
+pub mod Told

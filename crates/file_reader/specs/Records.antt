@@ -13,9 +13,9 @@ use Rattle.semantics.specs.Bytes.{spans, whole, Raw, raw, torn, cut, recordsFro
 use Rattle.file_reader.specs.Reads.{recordAt}
 use Rattle.file_reader.specs.declared.Record.{Record}
 
--- The bytes of the record x that stands at byte place `at`, behind its length and its kind.
-abbrev pub bodyAt : List ℕ → ℕ → Record → List ℕ
-bodyAt bs at x = take (x .next - (at + 4)) (drop (at + 4) bs)
+-- The bytes of the record that stands at byte place `at`, behind its length and its kind, where the next one begins at n.
+abbrev pub bodyAt : List ℕ → ℕ → ℕ → List ℕ
+bodyAt bs at n = take (n - (at + 4)) (drop (at + 4) bs)
 
 -- What is read from byte place `at` on, in n moves at most: up to the end, or to where no whole record stands.
 unfoldable pub readFrom : ℕ → List ℕ → ℕ → List Raw
@@ -25,7 +25,7 @@ readFrom (suc n) bs at =
     if leb (length bs) at
     then []
     else if x .whole
-    then raw at (x .kind) (bodyAt bs at x) ∷ readFrom n bs (x .next)
+    then raw at (x .kind) (bodyAt bs at (x .next)) ∷ readFrom n bs (x .next)
     else torn at ∷ []
 
 -- The end is where no byte is left.

@@ -89,3 +89,17 @@ pub fn read(s: &[u8], at: usize) -> Record
 {
     stands_at(Reader { src: s, at })
 }
+
+// The byte at which a reader begins.
+pub fn first(s: &[u8]) -> usize
+    ensures { λ r. ⌜ r ≡ start (s .entry) .at ⌝ }
+{
+    start(s).at
+}
+
+// The byte to which a reader moves on that stands at byte `at` of s.
+pub fn next(s: &[u8], at: usize) -> usize
+    ensures { λ r. ⌜ r ≡ recordAt (now (s .entry)) at .next ⌝ }
+{
+    moves_on(Reader { src: s, at }).at
+}

@@ -32,9 +32,9 @@ use denote.Triple.Table.{cited}
 use denote.Triple.Walked.{says, walkOf, ends-at}
 use Rattle.file_reader.specs.Reads.{standsAt}
 use Rattle.file_reader.specs.declared.Reader.{Reader}
+use Rattle.file_reader.proofs.Asked.{record-type, record-laws, record-there, StandsAt, asked}
 use Rattle.file_reader.proofs.Held.{Held, type, laws, fieldsOf, holds, has, alive, reader, Entry, twice, again}
 use Rattle.file_reader.proofs.Proved.{stays, proved-held}
-use Rattle.file_reader.proofs.Standing.{StandsAt, stood}
 use Rattle.file_reader.proofs.Reader as T
 use Rattle.file_reader.proofs.Reader.Laws as T′
 use Rattle.file_reader.proofs.Record as S
@@ -76,7 +76,7 @@ module _ {M : Type 1} (𝓤 : URA M) (H : Heap 𝓤) (A : Atoms 𝓤) (W : Given
       by ! (own-put 𝓤 H A W (type (κ, tt)) (laws (κ, tt)) 1 (fieldsOf (κ, tt) d) (standsAt d .next) (T′.lowered d))
 
   module _ (C : Calls 𝓤 H) (Λ : Loops 𝓤 H) (fm : FmC 𝓤 H (W .laws) C)
-      (known : Triple 𝓤 (C #stands-at) (StandsAt 𝓤 H A mem run)) where
+      (known : Triple 𝓤 (C #stands-at) (StandsAt 𝓤 H A)) where
     walk : Is (Held (κ, tt)) d (T′.lowered d ∷ [])
         → ent 𝓤 (Entry 𝓤 H A slot κ q d) (WpFn 𝓤 H C Λ code.function (T′.lowered d ∷ []) Post)
     walk is =
@@ -92,7 +92,7 @@ module _ {M : Type 1} (𝓤 : URA M) (H : Heap 𝓤) (A : Atoms 𝓤) (W : Given
         move ! (10 ∷ []) $ use1 W (‵ (holds κ d) ⊛ (alive κ q ⊛ ‵ (holds κ d))) (twice 𝓤 H A slot κ q d W) $
         split ! $ move ! (1 ∷ []) $ split ! $ move ! (2 ∷ 0 ∷ 1 ∷ []) $
         -- _3 = stands_at(_4)
-        stood 𝓤 H A mem run κ q d W ! fm known (and-then ! (load ! (from ! (stop !)) (look ! 2 refl)) (no-more !)) (λ is′.
+        asked record-type record-laws record-there 𝓤 H A κ q d W ! fm known (and-then ! (load ! (from ! (stop !)) (look ! 2 refl)) (no-more !)) (λ is′.
         -- [the answer; the share; what the reader owns; _4; …; room for _3; …; _2; …; _1; …; room for _0; …]
         let wt′ = LL.lawful S.the-type S′.the-laws 𝓤 H A W .typed (standsAt d) _ is′ .0 in
         land ! (from ! (stop !)) (init ! 5 refl wt′) $
@@ -112,5 +112,5 @@ moves-on-spec 𝓤 H 𝓜 𝓖 𝓡 =
     (code.unfolded 𝓤 H 𝓜 𝓡)
     (λ fm κ q d g is.
     walk 𝓤 H (𝓖 .A) (givenOf 𝓤 H 𝓜 𝓖) (𝓜 .mem) (𝓡 .run) κ q d _ _ fm
-    (cited 𝓤 H (StandsAt 𝓤 H (𝓖 .A) (𝓜 .mem) (𝓡 .run)) 𝓜 𝓡 code.env #stands-at callee-def.routine
+    (cited 𝓤 H (StandsAt 𝓤 H (𝓖 .A)) 𝓜 𝓡 code.env #stands-at callee-def.routine
     code.calls-file-reader·stands-at (callee-thm.met 𝓤 H 𝓜 𝓖 𝓡)) is)

@@ -117,7 +117,7 @@ module _ {M : Type 1} (𝓤 : URA M) (H : Heap 𝓤) (A : Atoms 𝓤) (mem : Mem
           split ! $ move ! (1 ∷ []) $ split ! $ move ! (2 ∷ 0 ∷ []) $
           use2 W (raw (RecordAt .pre with-them)) (apart (wt .1 .1 .0 .fits)) $
           -- _0 = record_at(_2, _3)
-          called ! (λ ws. sem 𝓤 H A (lasts callee.ended (κ, tt) (d .src, (d .at, tt)) ws)) κ q (standsAt d)
+          called S.the-type S′.the-laws ! (λ ws. sem 𝓤 H A (lasts callee.ended (κ, tt) (d .src, (d .at, tt)) ws)) κ q (standsAt d)
           fm RecordAt known with-them (λ u. id⊢ 𝓤 _)
           (and-then ! (load ! (from ! (stop !)) (look ! 4 refl))
           (and-then ! (load ! (from ! (stop !)) (look ! 2 refl)) (no-more !))) (λ is′.
