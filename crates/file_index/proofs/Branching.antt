@@ -3,13 +3,17 @@ use mathlib.Core.Path.{_≡_, refl, sym, _∙_, ap}
 use mathlib.Core.List.{List, [], _∷_, _++_, map}
 use Prim.Native.Nat.{ℕ, _+_, _-_, _≤_, _<_}
 use native.Mathlib.Omega.{arith}
-use lib.ListN.{length, take, drop, set, length-drop}
+use lib.ListN.{length, drop, set, length-drop}
 use lib.Seq.{length-take-le, sets}
 use Rattle.semantics.specs.Words.{collect}
-use Rattle.semantics.specs.Bytes.{Raw, recordsFrom, spans, u16}
+use Rattle.semantics.specs.Bytes.{Raw, recordsFrom}
 use Rattle.file_index.specs.Index.{Act, Readable, pad, given, acts, actsOf, runs}
 use Rattle.file_index.specs.Branches.{namedIn, Offered, offeredIn, offeredBy, Rows, rows, Roomy, Noted, branchesOf}
-use Rattle.file_index.proofs.Records.{On, left, on-all, left-all, left-none, here, on-next, span-fits}
+use Rattle.file_reader.specs.Reads.{recordAt}
+use Rattle.file_reader.specs.Records.{bodyAt}
+use Rattle.file_reader.specs.Walk.{onward, onward-ends, Step}
+use Rattle.file_reader.specs.declared.Record.{Record}
+use Rattle.file_index.proofs.Records.{Fine, fine-first, step-there, fine-there}
 use Rattle.file_index.proofs.Filled.{Fills, Next, fills-length, next-room, next-filled, zeros, zeros-length, zeros-none}
 use Rattle.file_index.proofs.Filled.{zeros-filled}
 use Rattle.file_index.proofs.Bodies.{offered-none}
@@ -28,13 +32,13 @@ abbrev emptyRows : Rows
 emptyRows = rows (zeros 4_096) (zeros 4_096) (zeros 4_096) (zeros 4_096)
 
 -- Each array has the front of its table; the tables of the rest are still to come.
-pub record Branching (s from : List ℕ) (out : Rows) (actions ends : ℕ) (rest : List ℕ) : Type 0 where
+pub record Branching (s from : List ℕ) (out : Rows) (actions ends at : ℕ) : Type 0 where
   pub short : length s ≤ 65_535
-  pub on : On s rest
-  pub froms : Fills (zeros 1_025) 0 (fromsOf 0 (recordsFrom 0 s)) from actions (fromsOf ends (left s rest))
-  pub branches : RowsFill emptyRows 0 (allOffered (recordsFrom 0 s)) out ends (allOffered (left s rest))
+  pub fine : Fine (onward s at)
+  pub froms : Fills (zeros 1_025) 0 (fromsOf 0 (recordsFrom 0 s)) from actions (fromsOf ends (onward s at))
+  pub branches : RowsFill emptyRows 0 (allOffered (recordsFrom 0 s)) out ends (allOffered (onward s at))
 
-pub branches-start : (s : List ℕ) → Readable s → Branching s (zeros 1_025) emptyRows 0 0 s
+pub branches-start : (s : List ℕ) → Readable s → Branching s (zeros 1_025) emptyRows 0 0 0
 branches-start s r =
     let xs : List Act = actsOf (recordsFrom 0 s) in
     let few = few-acts s r in
@@ -42,15 +46,15 @@ branches-start s r =
     omega (arith, few-offered s r, zeros-length 4_096) in
     record {
       short = r .short;
-      on = on-all s r;
+      fine = fine-first s r;
       froms =
-          zeros-none 1_025 _ _ (omega (arith, runs-count (λ a. length (offeredBy a)) 0 xs)) (ap (fromsOf 0) (left-all s));
+          zeros-none 1_025 _ _ (omega (arith, runs-count (λ a. length (offeredBy a)) 0 xs)) refl;
       branches =
           rows-none emptyRows 0 _ _ (record { claim = room; resources = room; bins = room; syncs = room })
-          (ap allOffered (left-all s));
+          refl;
     }
 
-module _ {s from : List ℕ} {out : Rows} {actions ends : ℕ} {rest : List ℕ} (x : Branching s from out actions ends rest) where
+module _ {s from : List ℕ} {out : Rows} {actions ends at : ℕ} (x : Branching s from out actions ends at) where
   pub from-long : 1_025 ≡ length from
   from-long = sym (fills-length (x .froms) ∙ zeros-length 1_025)
 
@@ -69,65 +73,68 @@ module _ {s from : List ℕ} {out : Rows} {actions ends : ℕ} {rest : List ℕ}
   pub ends-few : ends ≤ 4_096
   ends-few = omega (arith, x .branches .claim .count, x .branches .claim .fits, zeros-length 4_096)
 
-  -- The record that stands here has z bytes and is of kind k.
-  module _ (h : 0 < length rest) {z k : ℕ} (e : z ≡ spans rest) (i : k ≡ u16 rest 2) where
-    abbrev bs : List ℕ
-    bs = take (z - 4) (drop 4 rest)
+  -- The record y stands here, and the next one at n.
+  module _ (h : at < length s) {y : Record} (e : y ≡ recordAt s at) {n : ℕ} (i : n ≡ recordAt s at .next) where
+    abbrev k : ℕ
+    k = y .kind
 
-    abbrev at : ℕ
-    at = length s - length rest
+    abbrev bs : List ℕ
+    bs = bodyAt s at n
 
     abbrev next : List Raw
-    next = left s (take (length rest - z) (drop z rest))
+    next = onward s n
+
+    there : Step s at k n
+    there = step-there s at h (x .fine) e i
 
     pub body-in : at + 4 + length bs ≤ 65_535
     body-in =
-        let w = span-fits h (x .on) e in
-        let l = length-take-le (z - 4) (drop 4 rest) (omega (arith, length-drop 4 rest)) in
-        omega (arith, x .on .short, x .short)
+        let w = there in
+        let l = length-take-le (n - (at + 4)) (drop (at + 4) s) (omega (arith, length-drop (at + 4) s)) in
+        omega (arith, x .short)
 
     froms-on : Next (zeros 1_025) 0 (fromsOf 0 (recordsFrom 0 s)) from actions (given (acts k) ends)
         (fromsOf (ends + length (offeredIn (at + 4) k bs)) next)
     froms-on =
         record {
-          fills = rw (here h (x .on) e i, from-turn at k bs next offeredBy (offered-none (at + 4) k bs) ends) at (x .froms);
+          fills = rw (there .here, from-turn at k bs next offeredBy (offered-none (at + 4) k bs) ends) at (x .froms);
         }
 
     pub from-room : actions + length (given (acts k) ends) ≤ length from
     from-room = next-room froms-on
 
-    branches-here : allOffered (left s rest) ≡ offeredIn (at + 4) k bs ++ allOffered next
-    branches-here = ap allOffered (here h (x .on) e i) ∙ lists-turn at k bs next offeredBy (offered-none (at + 4) k bs)
+    branches-here : allOffered (onward s at) ≡ offeredIn (at + 4) k bs ++ allOffered next
+    branches-here = ap allOffered (there .here) ∙ lists-turn at k bs next offeredBy (offered-none (at + 4) k bs)
 
     pub rows-roomy : Roomy (ends + length (offeredIn (at + 4) k bs)) out
     rows-roomy = rows-room (x .branches) (offeredIn (at + 4) k bs) (allOffered next) branches-here
 
     pub branches-turn : {j : ℕ} {after : Rows} → Noted ends (offeredIn (at + 4) k bs) out j after →
         Branching s (sets from actions (given (acts k) ends)) after (actions + length (given (acts k) ends)) j
-        (take (length rest - z) (drop z rest))
+        n
     branches-turn w =
         record {
           short = x .short;
-          on = on-next h (x .on) e i;
+          fine = fine-there s at h (x .fine) e i;
           froms = rw (noted-next w) (next-filled froms-on);
           branches = rows-next (x .branches) (offeredIn (at + 4) k bs) (allOffered next) branches-here w;
         }
 
   -- Nothing is left.
-  module _ (h : length rest ≡ 0) where
+  module _ (h : length s ≤ at) where
     froms-last : Next (zeros 1_025) 0 (fromsOf 0 (recordsFrom 0 s)) from actions (ends ∷ []) []
     unfolding runs actsOf
-    froms-last = record { fills = rw (left-none s rest h) at (x .froms) }
+    froms-last = record { fills = rw (onward-ends s at h) at (x .froms) }
 
     pub last-room : actions < 1_025
     last-room = omega (arith, next-room froms-last, from-long)
 
     -- one of the rows
     row-filled : (f : Offered → ℕ) {row : List ℕ} →
-        Fills (zeros 4_096) 0 (map f (allOffered (recordsFrom 0 s))) row ends (map f (allOffered (left s rest))) →
+        Fills (zeros 4_096) 0 (map f (allOffered (recordsFrom 0 s))) row ends (map f (allOffered (onward s at))) →
         row ≡ pad 4_096 (map f (allOffered (recordsFrom 0 s)))
     unfolding actsOf
-    row-filled f y = zeros-filled 4_096 (ap (λ l. map f (allOffered l)) (left-none s rest h)) y .1
+    row-filled f y = zeros-filled 4_096 (ap (λ l. map f (allOffered l)) (onward-ends s at h)) y .1
 
     pub branches-end : record {
       from = set from actions ends;

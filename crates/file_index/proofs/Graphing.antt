@@ -2,14 +2,18 @@
 use mathlib.Core.Path.{_≡_, refl, sym, _∙_, ap}
 use mathlib.Core.List.{List, [], _∷_, map}
 use mathlib.Core.Bool.{Bool}
-use Prim.Native.Nat.{ℕ, _+_, _-_, _≤_, _<_}
+use Prim.Native.Nat.{ℕ, _+_, _≤_, _<_}
 use native.Mathlib.Omega.{arith}
-use lib.ListN.{length, take, drop, set, length-map}
+use lib.ListN.{length, set, length-map}
 use lib.Seq.{sets}
 use Rattle.semantics.specs.Words.{if_then_else_, collect}
-use Rattle.semantics.specs.Bytes.{Raw, recordsFrom, spans, u16}
+use Rattle.semantics.specs.Bytes.{Raw, recordsFrom}
 use Rattle.file_index.specs.Index.{Act, Readable, given, acts, actsOf, ownIn, timesIn, goesIn, goesBy, runs, graphOf}
-use Rattle.file_index.proofs.Records.{On, left, on-all, left-all, left-none, here, on-next}
+use Rattle.file_reader.specs.Reads.{recordAt}
+use Rattle.file_reader.specs.Records.{bodyAt}
+use Rattle.file_reader.specs.Walk.{onward, onward-ends, Step}
+use Rattle.file_reader.specs.declared.Record.{Record}
+use Rattle.file_index.proofs.Records.{Fine, fine-first, step-there, fine-there}
 use Rattle.file_index.proofs.Filled.{Fills, Next, fills-length, next-room, next-filled, zeros, zeros-length, zeros-none}
 use Rattle.file_index.proofs.Filled.{zeros-filled, given-count, given-if}
 use Rattle.file_index.proofs.Limits.{few-acts, few-goes, runs-count}
@@ -30,32 +34,32 @@ abbrev namesOf : Bool → List ℕ → List Raw → List ℕ
 namesOf start bodies rs = collect (goesBy start bodies) (actsOf rs)
 
 -- Each array has the front of its table; the tables of the rest are still to come.
-pub record Graphing (s : List ℕ) (start : Bool) (bodies own times from goes : List ℕ) (actions ends : ℕ) (rest : List ℕ)
+pub record Graphing (s : List ℕ) (start : Bool) (bodies own times from goes : List ℕ) (actions ends at : ℕ)
     : Type 0 where
-  pub on : On s rest
-  pub owns : Fills (zeros 1_024) 0 (ownsOf (recordsFrom 0 s)) own actions (ownsOf (left s rest))
-  pub timed : Fills (zeros 1_024) 0 (timesOf (recordsFrom 0 s)) times actions (timesOf (left s rest))
+  pub fine : Fine (onward s at)
+  pub owns : Fills (zeros 1_024) 0 (ownsOf (recordsFrom 0 s)) own actions (ownsOf (onward s at))
+  pub timed : Fills (zeros 1_024) 0 (timesOf (recordsFrom 0 s)) times actions (timesOf (onward s at))
   pub froms : Fills (zeros 1_025) 0 (fromsOf start bodies 0 (recordsFrom 0 s)) from actions
-      (fromsOf start bodies ends (left s rest))
-  pub names : Fills (zeros 4_096) 0 (namesOf start bodies (recordsFrom 0 s)) goes ends (namesOf start bodies (left s rest))
+      (fromsOf start bodies ends (onward s at))
+  pub names : Fills (zeros 4_096) 0 (namesOf start bodies (recordsFrom 0 s)) goes ends (namesOf start bodies (onward s at))
 
 pub graph-starts : (s : List ℕ) (start : Bool) (bodies : List ℕ) → Readable s →
-    Graphing s start bodies (zeros 1_024) (zeros 1_024) (zeros 1_025) (zeros 4_096) 0 0 s
+    Graphing s start bodies (zeros 1_024) (zeros 1_024) (zeros 1_025) (zeros 4_096) 0 0 0
 graph-starts s start bodies r =
     let xs : List Act = actsOf (recordsFrom 0 s) in
     let few = few-acts s r in
     record {
-      on = on-all s r;
-      owns = zeros-none 1_024 _ _ (omega (arith, length-map xs (λ a. ownIn (a .kind)))) (ap ownsOf (left-all s));
-      timed = zeros-none 1_024 _ _ (omega (arith, length-map xs (λ a. timesIn (a .kind) (a .body)))) (ap timesOf (left-all s));
+      fine = fine-first s r;
+      owns = zeros-none 1_024 _ _ (omega (arith, length-map xs (λ a. ownIn (a .kind)))) refl;
+      timed = zeros-none 1_024 _ _ (omega (arith, length-map xs (λ a. timesIn (a .kind) (a .body)))) refl;
       froms =
           zeros-none 1_025 _ _ (omega (arith, runs-count (λ a. length (goesBy start bodies a)) 0 xs))
-          (ap (fromsOf start bodies 0) (left-all s));
-      names = zeros-none 4_096 _ _ (few-goes s r start bodies) (ap (namesOf start bodies) (left-all s));
+          refl;
+      names = zeros-none 4_096 _ _ (few-goes s r start bodies) refl;
     }
 
-module _ {s : List ℕ} {start : Bool} {bodies own times from goes : List ℕ} {actions ends : ℕ} {rest : List ℕ}
-    (x : Graphing s start bodies own times from goes actions ends rest) where
+module _ {s : List ℕ} {start : Bool} {bodies own times from goes : List ℕ} {actions ends at : ℕ}
+    (x : Graphing s start bodies own times from goes actions ends at) where
   pub own-long : 1_024 ≡ length own
   own-long = sym (fills-length (x .owns) ∙ zeros-length 1_024)
 
@@ -71,25 +75,28 @@ module _ {s : List ℕ} {start : Bool} {bodies own times from goes : List ℕ} {
   pub ends-few : ends ≤ 4_096
   ends-few = omega (arith, x .names .count, x .names .fits, zeros-length 4_096)
 
-  -- The record that stands here has z bytes and is of kind k.
-  module _ (h : 0 < length rest) {z k : ℕ} (e : z ≡ spans rest) (i : k ≡ u16 rest 2) where
-    abbrev bs : List ℕ
-    bs = take (z - 4) (drop 4 rest)
+  -- The record y stands here, and the next one at n.
+  module _ (h : at < length s) {y : Record} (e : y ≡ recordAt s at) {n : ℕ} (i : n ≡ recordAt s at .next) where
+    abbrev k : ℕ
+    k = y .kind
 
-    abbrev at : ℕ
-    at = length s - length rest
+    abbrev bs : List ℕ
+    bs = bodyAt s at n
 
     abbrev next : List Raw
-    next = left s (take (length rest - z) (drop z rest))
+    next = onward s n
+
+    there : Step s at k n
+    there = step-there s at h (x .fine) e i
 
     owns-on : Next (zeros 1_024) 0 (ownsOf (recordsFrom 0 s)) own actions (given (acts k) (ownIn k)) (ownsOf next)
     owns-on =
-        record { fills = rw (here h (x .on) e i, acts-turn at k bs next (λ a. ownIn (a .kind))) at (x .owns) }
+        record { fills = rw (there .here, acts-turn at k bs next (λ a. ownIn (a .kind))) at (x .owns) }
 
     timed-on : Next (zeros 1_024) 0 (timesOf (recordsFrom 0 s)) times actions (given (acts k) (timesIn k bs)) (timesOf next)
     timed-on =
         record {
-          fills = rw (here h (x .on) e i, acts-turn at k bs next (λ a. timesIn (a .kind) (a .body))) at (x .timed);
+          fills = rw (there .here, acts-turn at k bs next (λ a. timesIn (a .kind) (a .body))) at (x .timed);
         }
 
     froms-on : Next (zeros 1_025) 0 (fromsOf start bodies 0 (recordsFrom 0 s)) from actions (given (acts k) ends)
@@ -97,7 +104,7 @@ module _ {s : List ℕ} {start : Bool} {bodies own times from goes : List ℕ} {
     froms-on =
         record {
           fills = rw (
-            here h (x .on) e i,
+            there .here,
             from-turn at k bs next (goesBy start bodies) (goes-none start bodies k bs) ends,
           ) at (x .froms);
         }
@@ -107,7 +114,7 @@ module _ {s : List ℕ} {start : Bool} {bodies own times from goes : List ℕ} {
     names-on =
         record {
           fills = rw (
-            here h (x .on) e i,
+            there .here,
             lists-turn at k bs next (goesBy start bodies) (goes-none start bodies k bs),
           ) at (x .names);
         }
@@ -136,10 +143,10 @@ module _ {s : List ℕ} {start : Bool} {bodies own times from goes : List ℕ} {
           Graphing s start bodies (sets own actions (given (acts k) v)) (sets times actions (given (acts k) w))
           (sets from actions (given (acts k) ends)) (sets goes ends (goesIn start bodies k bs))
           (actions + length (given (acts k) ends)) (ends + length (goesIn start bodies k bs))
-          (take (length rest - z) (drop z rest))
+          n
       graph-turn l =
           record {
-            on = on-next h (x .on) e i;
+            fine = fine-there s at h (x .fine) e i;
             owns = rw (same-own, same-count ends (ownIn k)) (next-filled owns-on);
             timed = rw (l, same-count ends (timesIn k bs)) (next-filled timed-on);
             froms = next-filled froms-on;
@@ -147,10 +154,10 @@ module _ {s : List ℕ} {start : Bool} {bodies own times from goes : List ℕ} {
           }
 
   -- Nothing is left.
-  module _ (h : length rest ≡ 0) where
+  module _ (h : length s ≤ at) where
     froms-last : Next (zeros 1_025) 0 (fromsOf start bodies 0 (recordsFrom 0 s)) from actions (ends ∷ []) []
     unfolding runs actsOf
-    froms-last = record { fills = rw (left-none s rest h) at (x .froms) }
+    froms-last = record { fills = rw (onward-ends s at h) at (x .froms) }
 
     pub last-room : actions < 1_025
     last-room = omega (arith, next-room froms-last, from-long)
@@ -159,8 +166,8 @@ module _ {s : List ℕ} {start : Bool} {bodies own times from goes : List ℕ} {
         ≡ graphOf start bodies (recordsFrom 0 s)
     unfolding graphOf actsOf
     graph-ends =
-        let o = zeros-filled 1_024 (ap ownsOf (left-none s rest h)) (x .owns) in
-        let t = zeros-filled 1_024 (ap timesOf (left-none s rest h)) (x .timed) in
+        let o = zeros-filled 1_024 (ap ownsOf (onward-ends s at h)) (x .owns) in
+        let t = zeros-filled 1_024 (ap timesOf (onward-ends s at h)) (x .timed) in
         let f = zeros-filled 1_025 refl (next-filled froms-last) in
-        let n = zeros-filled 4_096 (ap (namesOf start bodies) (left-none s rest h)) (x .names) in
+        let n = zeros-filled 4_096 (ap (namesOf start bodies) (onward-ends s at h)) (x .names) in
         rw (o .1, t .1, f .1, n .1)

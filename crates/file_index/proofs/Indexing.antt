@@ -4,12 +4,16 @@ use mathlib.Core.List.{List, [], _∷_, map}
 use Prim.Native.Nat.{ℕ, _+_, _-_, _≤_, _<_}
 use native.Mathlib.Omega.{arith}
 use lib.Dec.{eqb}
-use lib.ListN.{length, take, drop, set, length-map}
+use lib.ListN.{length, set, length-map}
 use lib.Seq.{sets}
 use Rattle.semantics.specs.Words.{if_then_else_}
-use Rattle.semantics.specs.Bytes.{Raw, recordsFrom, spans, u16}
+use Rattle.semantics.specs.Bytes.{Raw, recordsFrom, u16}
 use Rattle.file_index.specs.Index.{Readable, given, acts, actsOf, firstsOf, bodiesOf, indexOf}
-use Rattle.file_index.proofs.Records.{On, left, on-all, left-all, left-none, here, on-next}
+use Rattle.file_reader.specs.Reads.{recordAt}
+use Rattle.file_reader.specs.Records.{bodyAt}
+use Rattle.file_reader.specs.Walk.{onward, onward-ends, Step}
+use Rattle.file_reader.specs.declared.Record.{Record}
+use Rattle.file_index.proofs.Records.{Fine, fine-first, step-there, fine-there}
 use Rattle.file_index.proofs.Filled.{Fills, Next, fills-length, next-room, next-filled, zeros, zeros-length, zeros-none}
 use Rattle.file_index.proofs.Filled.{zeros-filled, given-count, given-if}
 use Rattle.file_index.proofs.Limits.{few-bodies, few-firsts, few-acts}
@@ -22,23 +26,23 @@ few-places : (s : List ℕ) → Readable s → length (placesOf (recordsFrom 0 s
 few-places s r = omega (arith, length-map (actsOf (recordsFrom 0 s)) (λ a. a .place), few-acts s r)
 
 -- Each array has the front of its table; the tables of the rest are still to come.
-pub record Indexing (s first place body : List ℕ) (blocks actions classes : ℕ) (rest : List ℕ) : Type 0 where
-  pub on : On s rest
-  pub firsts : Fills (zeros 257) 0 (firstsOf 0 (recordsFrom 0 s)) first blocks (firstsOf actions (left s rest))
-  pub places : Fills (zeros 1_024) 0 (placesOf (recordsFrom 0 s)) place actions (placesOf (left s rest))
-  pub bodies : Fills (zeros 64) 0 (bodiesOf (recordsFrom 0 s)) body classes (bodiesOf (left s rest))
+pub record Indexing (s first place body : List ℕ) (blocks actions classes at : ℕ) : Type 0 where
+  pub fine : Fine (onward s at)
+  pub firsts : Fills (zeros 257) 0 (firstsOf 0 (recordsFrom 0 s)) first blocks (firstsOf actions (onward s at))
+  pub places : Fills (zeros 1_024) 0 (placesOf (recordsFrom 0 s)) place actions (placesOf (onward s at))
+  pub bodies : Fills (zeros 64) 0 (bodiesOf (recordsFrom 0 s)) body classes (bodiesOf (onward s at))
 
-pub index-starts : (s : List ℕ) → Readable s → Indexing s (zeros 257) (zeros 1_024) (zeros 64) 0 0 0 s
+pub index-starts : (s : List ℕ) → Readable s → Indexing s (zeros 257) (zeros 1_024) (zeros 64) 0 0 0 0
 index-starts s r =
     record {
-      on = on-all s r;
-      firsts = zeros-none 257 _ _ (few-firsts s r) (ap (firstsOf 0) (left-all s));
-      places = zeros-none 1_024 _ _ (few-places s r) (ap placesOf (left-all s));
-      bodies = zeros-none 64 _ _ (few-bodies s r) (ap bodiesOf (left-all s));
+      fine = fine-first s r;
+      firsts = zeros-none 257 _ _ (few-firsts s r) refl;
+      places = zeros-none 1_024 _ _ (few-places s r) refl;
+      bodies = zeros-none 64 _ _ (few-bodies s r) refl;
     }
 
-module _ {s first place body : List ℕ} {blocks actions classes : ℕ} {rest : List ℕ}
-    (x : Indexing s first place body blocks actions classes rest) where
+module _ {s first place body : List ℕ} {blocks actions classes at : ℕ}
+    (x : Indexing s first place body blocks actions classes at) where
   pub first-long : 257 ≡ length first
   first-long = sym (fills-length (x .firsts) ∙ zeros-length 257)
 
@@ -51,29 +55,32 @@ module _ {s first place body : List ℕ} {blocks actions classes : ℕ} {rest : 
   pub actions-few : actions ≤ 1_024
   actions-few = omega (arith, x .places .count, x .places .fits, zeros-length 1_024)
 
-  -- The record that stands here has z bytes and is of kind k.
-  module _ (h : 0 < length rest) {z k : ℕ} (e : z ≡ spans rest) (i : k ≡ u16 rest 2) where
-    abbrev bs : List ℕ
-    bs = take (z - 4) (drop 4 rest)
+  -- The record y stands here, and the next one at n.
+  module _ (h : at < length s) {y : Record} (e : y ≡ recordAt s at) {n : ℕ} (i : n ≡ recordAt s at .next) where
+    abbrev k : ℕ
+    k = y .kind
 
-    abbrev at : ℕ
-    at = length s - length rest
+    abbrev bs : List ℕ
+    bs = bodyAt s at n
 
     abbrev next : List Raw
-    next = left s (take (length rest - z) (drop z rest))
+    next = onward s n
+
+    there : Step s at k n
+    there = step-there s at h (x .fine) e i
 
     firsts-on : Next (zeros 257) 0 (firstsOf 0 (recordsFrom 0 s)) first blocks (given (eqb k 6) actions)
         (firstsOf (if acts k then actions + 1 else actions) next)
     unfolding firstsOf
-    firsts-on = record { fills = rw (here h (x .on) e i) at (x .firsts) }
+    firsts-on = record { fills = rw (there .here) at (x .firsts) }
 
     places-on : Next (zeros 1_024) 0 (placesOf (recordsFrom 0 s)) place actions (given (acts k) at) (placesOf next)
     places-on =
-        record { fills = rw (here h (x .on) e i, acts-turn at k bs next (λ a. a .place)) at (x .places) }
+        record { fills = rw (there .here, acts-turn at k bs next (λ a. a .place)) at (x .places) }
 
     bodies-on : Next (zeros 64) 0 (bodiesOf (recordsFrom 0 s)) body classes (given (eqb k 5) (u16 bs 0)) (bodiesOf next)
     unfolding bodiesOf
-    bodies-on = record { fills = rw (here h (x .on) e i) at (x .bodies) }
+    bodies-on = record { fills = rw (there .here) at (x .bodies) }
 
     pub first-room : blocks + length (given (eqb k 6) actions) ≤ length first
     first-room = next-room firsts-on
@@ -91,20 +98,20 @@ module _ {s first place body : List ℕ} {blocks actions classes : ℕ} {rest : 
       pub index-turn : Indexing s (sets first blocks (given (eqb k 6) actions)) (sets place actions (given (acts k) at))
           (sets body classes (given (eqb k 5) v)) (blocks + length (given (eqb k 6) actions))
           (actions + length (given (acts k) at)) (classes + length (given (eqb k 5) v))
-          (take (length rest - z) (drop z rest))
+          n
       index-turn =
           record {
-            on = on-next h (x .on) e i;
+            fine = fine-there s at h (x .fine) e i;
             firsts = rw (given-count (acts k) at actions) (next-filled firsts-on);
             places = next-filled places-on;
             bodies = rw same-body (next-filled bodies-on);
           }
 
   -- Nothing is left.
-  module _ (h : length rest ≡ 0) where
+  module _ (h : length s ≤ at) where
     firsts-last : Next (zeros 257) 0 (firstsOf 0 (recordsFrom 0 s)) first blocks (actions ∷ []) []
     unfolding firstsOf
-    firsts-last = record { fills = rw (left-none s rest h) at (x .firsts) }
+    firsts-last = record { fills = rw (onward-ends s at h) at (x .firsts) }
 
     pub last-room : blocks < 257
     last-room = omega (arith, next-room firsts-last, first-long)
@@ -121,8 +128,8 @@ module _ {s first place body : List ℕ} {blocks actions classes : ℕ} {rest : 
     unfolding indexOf actsOf bodiesOf
     index-ends =
         let f = zeros-filled 257 refl (next-filled firsts-last) in
-        let p = zeros-filled 1_024 (ap placesOf (left-none s rest h)) (x .places) in
-        let b = zeros-filled 64 (ap bodiesOf (left-none s rest h)) (x .bodies) in
+        let p = zeros-filled 1_024 (ap placesOf (onward-ends s at h)) (x .places) in
+        let b = zeros-filled 64 (ap bodiesOf (onward-ends s at h)) (x .bodies) in
         let n : blocks ≡ length (firstsOf 0 (recordsFrom 0 s)) - 1 = omega (arith, f .0) in
         let a : actions ≡ length (actsOf (recordsFrom 0 s)) = p .0 ∙ length-map (actsOf (recordsFrom 0 s)) (λ a. a .place) in
         rw (f .1, p .1, b .1, n, a, b .0)

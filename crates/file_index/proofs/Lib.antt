@@ -12,6 +12,7 @@ pub mod Branching
 pub mod Runs
 pub mod Gathered
 pub mod Standing
+pub mod Counting
 pub mod Offers
 pub mod Ties
 pub mod BranchTies

@@ -1,5 +1,5 @@
 -- What the rest of the engine reads an accepted model file by: where its blocks, classes and actions stand, which blocks each
--- action names, and whether it may loop.
+-- action names, whether it may loop, and how many things it declares.
 -- Assumes nothing.
 use Prim.Native.Nat.{ℕ, _+_, _-_, _≤_, _<_}
 use mathlib.Core.Path.{_≡_}
@@ -9,12 +9,14 @@ use lib.Dec.{eqb, leb, ltb}
 use lib.ListN.{length, getD, drop, replicate}
 use lib.Seq.{sets}
 use Rattle.semantics.specs.Words.{if_then_else_, ok, passed, collect}
+use Rattle.semantics.specs.Model.{Model}
 use Rattle.semantics.specs.Bytes.{u16, Raw, raw, torn, recordsFrom}
 use Rattle.semantics.specs.Record.{branchesFrom, branchesFit, rowOf, bodyJudged}
 use Rattle.semantics.specs.Decode.{accepted, firstPass, noneSeen, opened}
 use Rattle.semantics.specs.Bound.{ownWeights}
 use Rattle.file_index.specs.declared.Index.{Index}
 use Rattle.file_index.specs.declared.Graph.{Graph}
+use Rattle.file_index.specs.declared.Counts.{Counts}
 
 -- The bytes of a file that the first pass accepts.
 pub record Readable (bs : List ℕ) : Type 0 where
@@ -137,3 +139,8 @@ loopsFrom bodies own (raw at k bs ∷ rs) = loopsAt bodies own k bs || loopsFrom
 unfoldable pub loopsIn : List ℕ → List Raw → Bool
 unfolding loopsFrom
 loopsIn bodies rs = loopsFrom bodies 0 rs
+
+-- HOW MANY resources, bins, syncs and variables a model has.
+abbrev pub countsIn : Model → Counts
+countsIn m =
+    record { resources = length (m .totals); bins = length (m .amounts); syncs = m .syncs; variables = length (m .vars) }

@@ -1,15 +1,15 @@
 // What the rest of the engine reads an accepted model file by: where its blocks, classes and actions stand, which blocks each
-// action names, whether it may loop, and the branches of each REQ, TRY and WHILE.
+// action names, whether it may loop, the branches of each REQ, TRY and WHILE, and how many things it declares.
 ghost use mathlib.Core.Path.{_≡_};
 ghost use mathlib.Core.List.{[], _∷_};
 ghost use Prim.Native.Nat.{_+_, _≤_, _<_};
 ghost use lib.Dec.{leb, eqb};
 ghost use lib.ListN.{length, getD};
 ghost use Rattle.semantics.specs.Words.{if_then_else_};
-ghost use Rattle.semantics.specs.Bytes.{u16, spans, recordsFrom};
-ghost use Rattle.semantics.specs.Decode.{opened};
+ghost use Rattle.semantics.specs.Bytes.{u16, recordsFrom};
+ghost use Rattle.semantics.specs.Decode.{opened, gather};
 ghost use Rattle.file_index.specs.Index.{Readable, Judged, given, Wrote, indexOf, ownIn, timesIn, branchBlocks, Branched};
-ghost use Rattle.file_index.specs.Index.{goesIn, graphOf, loopsAt, loopsIn};
+ghost use Rattle.file_index.specs.Index.{goesIn, graphOf, loopsAt, loopsIn, countsIn};
 ghost use Rattle.file_index.specs.Branches.{bitOf, namedIn, Claimed, offered, offeredTry, offeredIn, rows, Roomy, Noted};
 ghost use Rattle.file_index.specs.Branches.{Tried, branchesOf};
 
@@ -44,6 +44,14 @@ pub struct Branches {
     pub syncs: [u32; 4096],
 }
 
+// How many resources, bins, syncs and variables a model has.
+pub struct Counts {
+    pub resources: usize,
+    pub bins: usize,
+    pub syncs: usize,
+    pub variables: usize,
+}
+
 // The own weights of the kinds 16 to 30.
 const OWN: [u16; 15] = [1, 1, 1, 1, 1, 2, 2, 1, 1, 1, 1, 1, 1, 1, 1];
 
@@ -54,14 +62,6 @@ fn pair_at(s: &[u8], at: usize) -> u16
     ensures { λ r. ⌜ r ≡ u16 (now (s .entry)) at ⌝ }
 {
     file_fields::u16_at(s, at) as u16
-}
-
-// How many bytes the record has with which s begins.
-fn span(s: &[u8]) -> usize
-    requires { ⌜ 2 ≤ length (now s) ⌝ }
-    ensures { λ r. ⌜ (r ≡ spans (now (s .entry))) × (r ≤ 65537) ⌝ }
-{
-    2 + (file_fields::u16_at(s, 0) as usize)
 }
 
 // The body block of a class; 0 of a number that no class has.
@@ -108,16 +108,16 @@ pub fn index_of(s: &[u8]) -> Index
     let mut blocks = 0;
     let mut actions = 0;
     let mut classes = 0;
-    let mut rest = s;
-    while 0 < rest.len() {
-        let size = span(rest);
-        let kind = file_fields::u16_at(rest, 2);
-        let at = (s.len() - rest.len()) as u16;
-        let block = class_body(kind, &rest[4..size]);
+    let mut at = file_reader::first(s);
+    while at < s.len() {
+        let x = file_reader::read(s, at);
+        let kind = x.kind;
+        let end = file_reader::next(s, at);
+        let block = class_body(kind, &s[at + 4..end]);
         blocks = noted(kind == 6, actions as u16, blocks, &mut first);
         classes = noted(kind == 5, block, classes, &mut body);
-        actions = noted(16 <= kind, at, actions, &mut place);
-        rest = &rest[size..];
+        actions = noted(16 <= kind, at as u16, actions, &mut place);
+        at = end;
     }
     first[blocks] = actions as u16;
     Index {
@@ -201,16 +201,17 @@ pub fn graph_of(s: &[u8], start: bool, body: [u16; 64]) -> Graph
     let mut goes = [0u16; 4096];
     let mut actions = 0;
     let mut ends = 0;
-    let mut rest = s;
-    while 0 < rest.len() {
-        let size = span(rest);
-        let kind = file_fields::u16_at(rest, 2);
-        let bs = &rest[4..size];
+    let mut at = file_reader::first(s);
+    while at < s.len() {
+        let x = file_reader::read(s, at);
+        let kind = x.kind;
+        let end = file_reader::next(s, at);
+        let bs = &s[at + 4..end];
         noted(16 <= kind, own_weight(kind), actions, &mut own);
         noted(16 <= kind, times_of(kind, bs), actions, &mut times);
         actions = noted(16 <= kind, ends as u16, actions, &mut from);
         ends = named(start, body, kind, bs, ends, &mut goes);
-        rest = &rest[size..];
+        at = end;
     }
     from[actions] = ends as u16;
     Graph {
@@ -342,16 +343,17 @@ pub fn branches_of(s: &[u8]) -> Branches
     let mut syncs = [0u32; 4096];
     let mut actions = 0;
     let mut ends = 0;
-    let mut rest = s;
-    while 0 < rest.len() {
-        let size = span(rest);
-        let kind = file_fields::u16_at(rest, 2);
-        let at = s.len() - rest.len() + 4;
-        let bs = &rest[4..size];
+    let mut at = file_reader::first(s);
+    while at < s.len() {
+        let x = file_reader::read(s, at);
+        let kind = x.kind;
+        let end = file_reader::next(s, at);
+        let start = at + 4;
+        let bs = &s[start..end];
         actions = noted(16 <= kind, ends as u16, actions, &mut from);
         ends = branches_noted(
             kind,
-            at,
+            start,
             bs,
             ends,
             &mut claim,
@@ -359,7 +361,7 @@ pub fn branches_of(s: &[u8]) -> Branches
             &mut bins,
             &mut syncs,
         );
-        rest = &rest[size..];
+        at = end;
     }
     from[actions] = ends as u16;
     Branches {
@@ -400,13 +402,51 @@ pub fn loops(s: &[u8], body: [u16; 64]) -> bool
 {
     let mut found = false;
     let mut own = 0;
-    let mut rest = s;
-    while 0 < rest.len() {
-        let size = span(rest);
-        let kind = file_fields::u16_at(rest, 2);
-        found = found | may_loop(body, own, kind, &rest[4..size]);
+    let mut at = file_reader::first(s);
+    while at < s.len() {
+        let x = file_reader::read(s, at);
+        let kind = x.kind;
+        let end = file_reader::next(s, at);
+        found = found | may_loop(body, own, kind, &s[at + 4..end]);
         own = opened(own, kind);
-        rest = &rest[size..];
+        at = end;
     }
     found
+}
+
+// ---- the counts
+
+// One more than n, if `on`.
+fn tally(n: usize, on: bool) -> usize
+    requires { ⌜ n ≤ 65535 ⌝ }
+    ensures { λ r. ⌜ r ≡ n + (if on then 1 else 0) ⌝ }
+{
+    if on { n + 1 } else { n }
+}
+
+// How many of each a file declares that the first pass accepts.
+pub fn counts_of(s: &[u8]) -> Counts
+    requires { ⌜ Readable (now s) ⌝ }
+    ensures { λ r. ⌜ r ≡ countsIn (gather (recordsFrom 0 (now (s .entry))) .model) ⌝ }
+{
+    let mut resources = 0;
+    let mut bins = 0;
+    let mut syncs = 0;
+    let mut variables = 0;
+    let mut at = file_reader::first(s);
+    while at < s.len() {
+        let x = file_reader::read(s, at);
+        let kind = x.kind;
+        resources = tally(resources, kind == 1);
+        bins = tally(bins, kind == 2);
+        syncs = tally(syncs, kind == 3);
+        variables = tally(variables, kind == 4);
+        at = file_reader::next(s, at);
+    }
+    Counts {
+        resources: resources,
+        bins: bins,
+        syncs: syncs,
+        variables: variables,
+    }
 }

@@ -1,5 +1,4 @@
 pub mod Walks
-pub mod Counting
 pub mod Turns
 pub mod Tested
 pub mod Words

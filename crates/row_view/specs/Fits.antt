@@ -11,15 +11,9 @@ use Rattle.semantics.specs.Model.{Model}
 use Rattle.base_ordered.specs.Lines.{kindOf, numberOf, amountOf, giverOf}
 use Rattle.row_work.specs.Work.{workOf, Sized}
 use Rattle.row_view.specs.View.{cut, seated, viewIn}
-use Rattle.row_view.specs.declared.Counts.{Counts}
 use Rattle.row_view.specs.declared.Rule.{Rule}
 
--- HOW MANY resources, bins, syncs and variables a model has.
-abbrev pub countsIn : Model → Counts
-countsIn m =
-    record { resources = length (m .totals); bins = length (m .amounts); syncs = m .syncs; variables = length (m .vars) }
-
--- The same, said of four numbers; and no more than a file may declare.
+-- HOW MANY resources, bins, syncs and variables a model has, said of four numbers; and no more than a file may declare.
 pub record Counted (m : Model) (resources bins syncs variables : ℕ) : Type 0 where
   pub resources-are : length (m .totals) ≡ resources
   pub bins-are : length (m .amounts) ≡ bins

@@ -15,11 +15,12 @@ use Rattle.promises.specs.Sound.{ProcOk, Sound}
 use Rattle.promises.specs.Says.{Says, says-is, says-eq, says-for, _and_}
 use Rattle.promises.specs.Decides.{sound-yes}
 use Rattle.promises.specs.Accepted.{accepted-fit, accepted-nested}
+use Rattle.file_index.specs.Index.{countsIn}
+use Rattle.file_index.specs.declared.Counts.{Counts}
 use Rattle.row_work.specs.Work.{workOf, Sized}
 use Rattle.row_work.specs.Sized.{IsByte, accepted-rounds, sound-sized}
 use Rattle.row_view.specs.View.{viewIn, sameRow, soundRow}
-use Rattle.row_view.specs.Fits.{countsIn, Counted, Few, Showing}
-use Rattle.row_view.specs.declared.Counts.{Counts}
+use Rattle.row_view.specs.Fits.{Counted, Few, Showing}
 use Rattle.row_view.specs.Back.{Furnished, Shaped, view-back}
 
 pub says-same-row : (xs ys : List ℕ) → Says (sameRow xs ys) (xs ≡ ys)

@@ -1,14 +1,12 @@
-// Whether a row of words shows a state that the work can hold, for any row; and how many things an accepted model file declares.
+// Whether a row of words shows a state that the work can hold, for any row.
 ghost use mathlib.Core.Path.{_≡_};
 ghost use mathlib.Core.Bool.{true, false};
-ghost use Prim.Native.Nat.{_+_, _*_, _≤_};
+ghost use Prim.Native.Nat.{_*_, _≤_};
 ghost use lib.ListN.{length};
-ghost use Rattle.semantics.specs.Words.{all, if_then_else_};
+ghost use Rattle.semantics.specs.Words.{all};
 ghost use Rattle.semantics.specs.Model.{Model};
-ghost use Rattle.semantics.specs.Decode.{accepted, decode};
-ghost use Rattle.file_index.specs.Index.{Readable};
 ghost use Rattle.row_view.specs.View.{seated as seatedOf};
-ghost use Rattle.row_view.specs.Fits.{countsIn, Counted, Showing, Few, frameFits, returnFits, noticeFits, passes, fits};
+ghost use Rattle.row_view.specs.Fits.{Counted, Showing, Few, frameFits, returnFits, noticeFits, passes, fits};
 ghost use Rattle.row_view.specs.Fits.{waitingFits, processFits, placeFits, processesFit, headFits, thingsFit, listsFit};
 use base_numbers::limit;
 use base_numbers::most;
@@ -19,51 +17,6 @@ use base_numbers::word;
 
 // The words of wakes are below this.
 const WAKES: u64 = word::KINDS * most::PLACES;
-
-// How many resources, bins, syncs and variables a model has.
-pub struct Counts {
-    pub resources: usize,
-    pub bins: usize,
-    pub syncs: usize,
-    pub variables: usize,
-}
-
-// ---- what a file declares
-
-// One more than n, if `on`.
-fn tally(n: usize, on: bool) -> usize
-    requires { ⌜ n ≤ 65535 ⌝ }
-    ensures { λ r. ⌜ r ≡ n + (if on then 1 else 0) ⌝ }
-{
-    if on { n + 1 } else { n }
-}
-
-// How many of each an accepted model file declares.
-pub fn counts_of(s: &[u8]) -> Counts
-    requires { ⌜ Readable (now s) ⌝ }
-    ensures { λ r. ⌜ ((m : Model) → decode (now (s .entry)) ≡ accepted m → r ≡ countsIn m) ⌝ }
-{
-    let mut resources = 0;
-    let mut bins = 0;
-    let mut syncs = 0;
-    let mut variables = 0;
-    let mut at = 0;
-    while at < s.len() {
-        let x = file_reader::read(s, at);
-        let kind = x.kind;
-        resources = tally(resources, kind == 1);
-        bins = tally(bins, kind == 2);
-        syncs = tally(syncs, kind == 3);
-        variables = tally(variables, kind == 4);
-        at = x.next;
-    }
-    Counts {
-        resources: resources,
-        bins: bins,
-        syncs: syncs,
-        variables: variables,
-    }
-}
 
 // ---- words and rows of words
 

@@ -8,15 +8,17 @@ use mir.Val.{Fits}
 use lib.ListN.{getD, replicate}
 use Rattle.semantics.specs.Model.{Model}
 use Rattle.semantics.specs.Bytes.{recordsFrom}
-use Rattle.semantics.specs.Decode.{accepted, decode}
+use Rattle.semantics.specs.Decode.{decode, gather}
 use Rattle.semantics.specs.State.{fresh}
 use Rattle.semantics.specs.Sound.{soundIn}
 use Rattle.promises.specs.Fit.{Fit, Nested}
 use Rattle.promises.specs.Says.{Says}
 use Rattle.promises.specs.Accepted.{accepted-fit, accepted-nested}
-use Rattle.file_index.specs.Index.{Readable, indexOf}
+use Rattle.file_index.specs.Index.{Readable, indexOf, countsIn}
 use Rattle.file_index.specs.declared.Index.{Index}
+use Rattle.file_index.specs.declared.Counts.{Counts}
 use Rattle.file_index.proofs.Standing.{accepted-by}
+use Rattle.file_index.proofs.Counting.{counts-accepted}
 use Rattle.file_index.proofs.Ties.{index-ties}
 use Rattle.file_check.specs.Check.{refusalOf}
 use Rattle.file_check.specs.declared.Refusal.{Refusal}
@@ -28,9 +30,8 @@ use Rattle.file_map.specs.MapOf.{mapOf}
 use Rattle.file_map.proofs.Mapped.{mapped as mapped-by}
 use Rattle.row_begin_end.specs.Fresh.{Loaded}
 use Rattle.row_view.specs.View.{cut, viewIn, soundRow}
-use Rattle.row_view.specs.Fits.{countsIn, Counted, Few, Showing}
+use Rattle.row_view.specs.Fits.{Counted, Few, Showing}
 use Rattle.row_view.specs.Rows.{says-sound-row, shows-none, counted-by, few-by}
-use Rattle.row_view.specs.declared.Counts.{Counts}
 use Rattle.row_sound.specs.Handed as sound
 use Rattle.run_file.proofs.Says.{all-bytes}
 use Rattle.run_row.specs.Handed.{Passing}
@@ -78,12 +79,12 @@ module _ {bs : List ℕ} (p : Passing bs) where
     loaded = record { model = m; is-accepted = p .passes; is-mapped = maps; is-empty = refl }
 
   -- What it declares, k, and a row.
-  module _ (k : Counts) (c : (m : Model) → decode bs ≡ accepted m → k ≡ countsIn m) where
+  module _ (k : Counts) (c : k ≡ countsIn (gather (recordsFrom 0 bs) .model)) where
     abbrev pub counted : Counted m (k .resources) (k .bins) (k .syncs) (k .variables)
-    counted = counted-by bs m (p .passes) (c m (p .passes))
+    counted = counted-by bs m (p .passes) (counts-accepted bs m (p .passes) c)
 
     pub few : Few (k .resources) (k .bins) (k .syncs) (k .variables)
-    few = few-by bs m (p .passes) (c m (p .passes))
+    few = few-by bs m (p .passes) (counts-accepted bs m (p .passes) c)
 
     module _ (w : List ℕ) (b : Bool)
         (s : (m : Model) → Counted m (k .resources) (k .bins) (k .syncs) (k .variables)

@@ -39,7 +39,7 @@ fn sound_of<'a>(s: &'a [u8], map: &'a [u32], w: &'a [u64]) -> bool
     requires { ⌜ now map ≡ mapOf (recordsFrom 0 (now s)) ⌝ }
     ensures { λ r. ⌜ r ≡ soundRow (now (s .entry)) (now (w .entry)) ⌝ }
 {
-    let counts = row_view::counts_of(s);
+    let counts = file_index::counts_of(s);
     let resources = counts.resources;
     let bins = counts.bins;
     let syncs = counts.syncs;

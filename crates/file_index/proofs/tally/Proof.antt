@@ -1,8 +1,8 @@
--- `row_view::tally` meets its contract. Assumes nothing.
+-- `file_index::tally` meets its contract. Assumes nothing.
 use native.Mathlib.Omega.{arith}
 use mathlib.Core.Path.{refl}
-use Rattle.row_view.proofs.tally.Statement.{statement}
-use Rattle.row_view.proofs.tally.Tie as tie
+use Rattle.file_index.proofs.tally.Statement.{statement}
+use Rattle.file_index.proofs.tally.Tie as tie
 
 add-result : tie.Need-add-result
 add-result c = omega arith
