@@ -242,6 +242,11 @@ pub mod row {
     pub const EVENTS_MOST: usize = 128;
 
     pub const WAITERS_MOST: usize = 64;
+
+    // How many numbers all waiting lists have, and all processes.
+    pub const WAITERS_ALL: usize = 2048;
+
+    pub const PROCESSES_ALL: usize = 8192;
 }
 
 // The row of one process: where each part begins.
@@ -265,6 +270,9 @@ pub mod process {
     pub const OWNED: usize = 52;
 
     pub const WORDS: usize = 128;
+
+    // How many numbers the slaves have: more than the 64 that there can be, so that a row has a power of 2.
+    pub const OWNED_MOST: usize = 76;
 }
 
 // The map of a model: where each part begins.
