@@ -2,8 +2,8 @@
 
     python3 -B fuzz/engine.py OUT [EDIT]    writes OUT; EDIT is a must-fail edit of the source, CRATE/NAME, and is made first
 
-It goes the way of tests/native.py: the source without its contracts, nothing else changed. It proves nothing. `desk_check`,
-`desk_bound` and `desk_run` keep their names as plain functions, so that they stand beside those of the proved library.
+It goes the way of tests/native.py: the source without its contracts, nothing else changed. It proves nothing. The
+functions of `desk_c` keep their names as plain functions, so that they stand beside those of the proved library.
 """
 import pathlib
 import sys

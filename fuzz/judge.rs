@@ -1,4 +1,5 @@
-//! What libFuzzer calls: check, bound and run of the library desk, and of its source as Rust, are judged by the second program.
+//! What libFuzzer calls: check, bound and run of the library desk, and of its source as Rust, are judged by the second program;
+//! and so is a run that is opened and moved on in calls.
 //!
 //! An input is a u16 limit, a u16 room in bytes, and a model file. Any difference in a refusal, its place, a bound, an answer,
 //! its steps or a byte of what was lent is told, and the program aborts.
@@ -12,14 +13,21 @@ mod write;
 use lent::Lent;
 use reference::bound::Bound;
 use reference::model::Refusal;
-use reference::run::Answer;
+use reference::run::{Answer, Outcome, State};
 use std::cell::RefCell;
 use std::fmt::Debug;
 
 /// A call makes at most so many steps, so that many calls are made.
 const MOST_STEPS: u32 = 4095;
+/// An open run is moved on by so many calls, each with at most so many steps and bytes: so few that several end by LIMIT or 30.
+const CALLS: usize = 4;
+const FEW_STEPS: u32 = 15;
+const FEW_BYTES: usize = 127;
 /// What is lent to be written holds this byte everywhere, and so do the bytes in front of it.
 const UNTOUCHED: u8 = 0xa5;
+const UNTOUCHED_WORD: u64 = u64::from_le_bytes([UNTOUCHED; 8]);
+/// The words of an open run.
+const WORDS: usize = 10_696;
 const IN_FRONT: usize = 64;
 const MOST_BYTES: usize = 1 << 20;
 
@@ -27,6 +35,16 @@ extern "C" {
     fn desk_check(file: *const u8, length: usize) -> u32;
     fn desk_bound(file: *const u8, length: usize) -> u64;
     fn desk_run(file: *const u8, length: usize, limit: u32, journal: *mut u8, room: usize) -> u64;
+    fn desk_open(file: *const u8, length: usize, run: *mut u64, words: usize) -> u32;
+    fn desk_move(
+        file: *const u8,
+        length: usize,
+        run: *mut u64,
+        words: usize,
+        limit: u32,
+        journal: *mut u8,
+        room: usize,
+    ) -> u64;
 }
 
 /// One who is judged.
@@ -35,9 +53,11 @@ struct Desk {
     check: fn(&[u8]) -> u32,
     bound: fn(&[u8]) -> u64,
     run: fn(&[u8], u32, &mut [u8]) -> u64,
+    open: fn(&[u8], &mut [u64]) -> u32,
+    move_on: fn(&[u8], &mut [u64], u32, &mut [u8]) -> u64,
 }
 
-// SAFETY, three times: a slice is its pointer and its length, which is what the header asks for.
+// SAFETY, five times: a slice is its pointer and its length, which is what the header asks for.
 const DESKS: [Desk; 2] = [
     Desk {
         name: "the library",
@@ -52,21 +72,43 @@ const DESKS: [Desk; 2] = [
                 journal.len(),
             )
         },
+        open: |file, run| unsafe {
+            desk_open(file.as_ptr(), file.len(), run.as_mut_ptr(), run.len())
+        },
+        move_on: |file, run, limit, journal| unsafe {
+            desk_move(
+                file.as_ptr(),
+                file.len(),
+                run.as_mut_ptr(),
+                run.len(),
+                limit,
+                journal.as_mut_ptr(),
+                journal.len(),
+            )
+        },
     },
     Desk {
         name: "its source as Rust",
-        check: engine::desk::desk_check,
-        bound: engine::desk::desk_bound,
-        run: engine::desk::desk_run,
+        check: engine::desk_c::desk_check,
+        bound: engine::desk_c::desk_bound,
+        run: engine::desk_c::desk_run,
+        open: engine::desk_c::desk_open,
+        move_on: engine::desk_c::desk_move,
     },
 ];
 
-/// What the second program says, in the numbers of desk/desk.h.
+/// What a run or a call tells, and its lines.
+struct Told {
+    word: u64,
+    journal: Vec<u8>,
+}
+
+/// What the second program says, in the numbers of desk/desk.h; of a refused file there are no calls.
 struct Judgement {
     check: u32,
     bound: u64,
-    run: u64,
-    journal: Vec<u8>,
+    run: Told,
+    calls: Vec<Told>,
 }
 
 fn refusal(refusal: Refusal) -> u32 {
@@ -86,6 +128,13 @@ fn number(answer: Answer) -> u16 {
     }
 }
 
+fn told(outcome: Outcome) -> Told {
+    Told {
+        word: u64::from(number(outcome.answer)) << 32 | u64::from(outcome.steps),
+        journal: outcome.journal,
+    }
+}
+
 /// What is asked of each: a model, a limit, and room for a journal.
 struct Request<'a> {
     model: &'a [u8],
@@ -101,6 +150,23 @@ impl Request<'_> {
         let room = usize::from(u16::from_le_bytes([head[2], head[3]]));
         Some(Request { model, limit, room })
     }
+
+    /// The limit and the room of a call on an open run.
+    fn few(&self) -> (u32, usize) {
+        (self.limit & FEW_STEPS, self.room & FEW_BYTES)
+    }
+}
+
+/// The calls on an open run, as the second program makes them.
+fn calls(asked: &Request) -> Vec<Told> {
+    let Ok(model) = reference::model::decode(asked.model) else {
+        return Vec::new();
+    };
+    let (limit, room) = asked.few();
+    let mut run = State::fresh(&model);
+    (0..CALLS)
+        .map(|_| told(run.run(&model, limit, room)))
+        .collect()
 }
 
 fn judgement(asked: &Request) -> Judgement {
@@ -110,19 +176,19 @@ fn judgement(asked: &Request) -> Judgement {
         Ok(Bound::Over) => 2 << 32,
         Err(told) => refused(told),
     };
-    let (run, journal) = match reference::run(asked.model, asked.limit, asked.room) {
-        Ok(outcome) => (
-            u64::from(number(outcome.answer)) << 32 | u64::from(outcome.steps),
-            outcome.journal,
-        ),
-        Err(told) => (refused(told), Vec::new()),
+    let run = match reference::run(asked.model, asked.limit, asked.room) {
+        Ok(outcome) => told(outcome),
+        Err(refusal) => Told {
+            word: refused(refusal),
+            journal: Vec::new(),
+        },
     };
     let check = reference::check(asked.model).map_or_else(refusal, |()| 0);
     Judgement {
         check,
         bound,
         run,
-        journal,
+        calls: calls(asked),
     }
 }
 
@@ -136,12 +202,24 @@ fn same<T: Debug + PartialEq>(desk: &Desk, what: &str, found: T, expected: T) {
     }
 }
 
-/// Two rows of bytes; where they differ, the first place is told.
-fn same_bytes(desk: &Desk, what: &str, found: &[u8], expected: &[u8]) {
+/// Two rows of bytes or of words; where they differ, the first place is told.
+fn same_row<T: Debug + PartialEq>(desk: &Desk, what: &str, found: &[T], expected: &[T]) {
     if found != expected {
         let both = found.iter().zip(expected).enumerate();
         both.for_each(|(at, (one, other))| same(desk, what, (at, one), (at, other)));
     }
+}
+
+/// That the journal holds the lines told and nothing else was written.
+fn same_journal(desk: &Desk, found: &[u8], lines: &[u8]) {
+    let mut left = vec![UNTOUCHED; found.len()];
+    left[IN_FRONT..IN_FRONT + lines.len()].copy_from_slice(lines);
+    same_row(
+        desk,
+        "the journal, with 64 bytes in front of it",
+        found,
+        &left,
+    );
 }
 
 fn judge(desk: &Desk, asked: &Request, expected: &Judgement, file: &mut [u8], journal: &mut [u8]) {
@@ -153,17 +231,42 @@ fn judge(desk: &Desk, asked: &Request, expected: &Judgement, file: &mut [u8], jo
         desk,
         "run",
         (desk.run)(file, asked.limit, &mut journal[IN_FRONT..]),
-        expected.run,
+        expected.run.word,
     );
-    let mut left = vec![UNTOUCHED; IN_FRONT + asked.room];
-    left[IN_FRONT..IN_FRONT + expected.journal.len()].copy_from_slice(&expected.journal);
-    same_bytes(
-        desk,
-        "the journal, with 64 bytes in front of it",
-        journal,
-        &left,
-    );
-    same_bytes(
+    same_journal(desk, journal, &expected.run.journal);
+}
+
+/// A run opened in the row and moved on. A refused file leaves the row as it was.
+fn judge_open_run(
+    desk: &Desk,
+    asked: &Request,
+    expected: &Judgement,
+    file: &[u8],
+    run: &mut [u64],
+    journal: &mut [u8],
+) {
+    let limit = asked.few().0;
+    run.fill(UNTOUCHED_WORD);
+    same(desk, "open", (desk.open)(file, run), expected.check);
+    if expected.calls.is_empty() {
+        same_row(
+            desk,
+            "a row with no run in it",
+            run,
+            &[UNTOUCHED_WORD; WORDS],
+        );
+    }
+    for call in &expected.calls {
+        journal.fill(UNTOUCHED);
+        same(
+            desk,
+            "move on",
+            (desk.move_on)(file, run, limit, &mut journal[IN_FRONT..]),
+            call.word,
+        );
+        same_journal(desk, journal, &call.journal);
+    }
+    same_row(
         desk,
         "the file, which may not be written",
         file,
@@ -174,6 +277,36 @@ fn judge(desk: &Desk, asked: &Request, expected: &Judgement, file: &mut [u8], jo
 thread_local! {
     static FILE: RefCell<Lent> = RefCell::new(Lent::new(MOST_BYTES));
     static JOURNAL: RefCell<Lent> = RefCell::new(Lent::new(IN_FRONT + usize::from(u16::MAX)));
+    static RUN: RefCell<Lent> = RefCell::new(Lent::new(8 * WORDS));
+}
+
+fn judge_all(
+    asked: &Request,
+    expected: &Judgement,
+    file: &mut Lent,
+    journal: &mut Lent,
+    run: &mut Lent,
+) {
+    let file = file.last(asked.model.len());
+    // SAFETY: any bytes are numbers; they end where a page does, so all of them are whole words.
+    let (_, run, _) = unsafe { run.last(8 * WORDS).align_to_mut::<u64>() };
+    for desk in &DESKS {
+        judge(
+            desk,
+            asked,
+            expected,
+            file,
+            journal.last(IN_FRONT + asked.room),
+        );
+        judge_open_run(
+            desk,
+            asked,
+            expected,
+            file,
+            run,
+            journal.last(IN_FRONT + asked.few().1),
+        );
+    }
 }
 
 /// # Safety
@@ -186,15 +319,7 @@ pub unsafe extern "C" fn LLVMFuzzerTestOneInput(data: *const u8, size: usize) ->
     let expected = judgement(&asked);
     FILE.with_borrow_mut(|file| {
         JOURNAL.with_borrow_mut(|journal| {
-            for desk in &DESKS {
-                judge(
-                    desk,
-                    &asked,
-                    &expected,
-                    file.last(asked.model.len()),
-                    journal.last(IN_FRONT + asked.room),
-                );
-            }
+            RUN.with_borrow_mut(|run| judge_all(&asked, &expected, file, journal, run))
         })
     });
     0

@@ -1,20 +1,22 @@
 -- What the numbers for C say, by what check, bound, run and opening answer. Assumes nothing.
 use Prim.Native.Nat.{ℕ, _+_, _≤_}
-use mathlib.Core.Path.{_≡_, refl, _∙_, ap}
+use mathlib.Core.Path.{_≡_, refl, sym, _∙_, ap, subst}
 use mathlib.Core.List.{List}
 use mathlib.Core.Bool.{Bool, true, false}
 use lib.ListN.{length}
 use lib.Dec.{eqb}
 use native.Mathlib.Omega.{arith}
+use borrow.Author.Tests.{eq-eqb, ne-eqb}
 use Rattle.semantics.specs.Model.{Model}
 use Rattle.semantics.specs.Decode.{Checked, refused, accepted, andThen, decode}
 use Rattle.semantics.specs.Words.{passed, if_then_else_}
 use Rattle.semantics.specs.Numbers as No
-use Rattle.semantics.specs.State.{fresh}
 use Rattle.semantics.specs.Bound as definition
 use Rattle.semantics.specs.Bound.{NONE, OVER, AT, boundIs}
 use Rattle.semantics.specs.Run.{Answer, CLOSED, IDLE, LIMIT, FAULT}
+use Rattle.semantics.specs.Journal.{written}
 use Rattle.semantics.specs.Desk.{Told, checkFile, boundFile, runFile}
+use Rattle.promises.specs.Laws.{AllOf}
 use Rattle.file_check.specs.Check.{refusalOf}
 use Rattle.file_check.specs.declared.Refusal.{Refusal}
 use Rattle.file_check.proofs.Pass.{Number}
@@ -25,10 +27,19 @@ use Rattle.run_limit.specs.declared.Ran.{Ran}
 use Rattle.run_limit.specs.Ran.{answerOf}
 use Rattle.run_file.specs.declared.Whole.{Whole}
 use Rattle.run_file.specs.Whole.{toldAs, wholeOf}
-use Rattle.row_work.specs.Work.{workOf}
-use Rattle.run_row.specs.Open.{openedAs, opensAs, openRow, TellsOpened}
-use Rattle.run_row.specs.Call.{Called, TellsCall}
-use Rattle.desk_c.specs.Word.{refusal, checkWord, boundWord, toldWord, runWord, moveWord}
+use Rattle.row_work.specs.Sized.{IsByte}
+use Rattle.row_struct.specs.declared.State.{State}
+use Rattle.row_struct.specs.State.{rowOf}
+use Rattle.run_row.specs.Open as handed
+use Rattle.run_row.specs.Open.{opensAs, openRow}
+use Rattle.run_row.specs.Call.{Called, asked, callRow, away, TellsCall}
+use Rattle.run_row.specs.Own.{other-length}
+use Rattle.run_row.proofs.Moves.{turned-says}
+use Rattle.run_by_value.specs.declared.Moved.{Moved}
+use Rattle.run_by_value.specs.Moved.{ranOf, TellsMoved}
+use Rattle.run_lent.specs.declared.Opened.{Opened}
+use Rattle.run_lent.specs.Opened.{TellsOpened}
+use Rattle.desk_c.specs.Word.{refusal, checkWord, boundWord, toldWord, runWord, openWord, moveWord}
 
 -- The number and the place of a refusal fit into its word, and so does 20.
 abbrev pub Fit : ℕ → ℕ → Type 0
@@ -125,22 +136,65 @@ module _ (bs : List ℕ) (limit : ℕ) (j : List ℕ) (w : Whole) (e : w ≡ who
   unfolding runFile
   run-small = rw e (whole-small (runFile bs limit j) (told-stated (decode bs) _ (decode-stated bs)))
 
--- OPENING, r.
-opens-small : (w : List ℕ) (p : Checked Model) → Stated 65_535 p → Fit (opensAs w p .number) (opensAs w p .place)
-opens-small w (refused n p) h = stated-fit n p h
-opens-small w (accepted m) h = by (eqb (length w) 10_696)
-  where
-    by : (b : Bool)
-        → let o = if b then openedAs 0 0 (workOf (fresh m)) else openedAs No.STATE 0 w in Fit (o .number) (o .place)
-    by true = (omega arith, omega arith)
-    by false = (omega arith, omega arith)
+-- OPENING: r is what is told of the file, and w the row lent.
+module _ (bs : List ℕ) (r : Opened) (t : TellsOpened (decode bs) r) where
+  pub open-small : Fit (r .number) (r .place)
+  open-small = rw (t .number-is, t .place-is) (check-small bs (refusalOf (decode bs)) refl)
 
-pub open-small : (bs w : List ℕ) (r : Refusal) (w′ : List ℕ) → TellsOpened (openRow bs w) r w′ → Fit (r .number) (r .place)
-unfolding openRow
-open-small bs w r w′ t = rw (t .number-is, t .place-is) (opens-small w (decode bs) (decode-stated bs))
+  module _ (w : List ℕ) where
+    abbrev Opens : ℕ → List ℕ → Type 0
+    Opens word w′ = (word ≡ openWord (openRow bs w)) × (w′ ≡ openRow bs w .row)
 
--- MOVING ON, r.
-pub move-says : (d : Called) (r : Ran) (w′ j j′ : List ℕ) → TellsCall d r w′ j j′
-    → toldWord (answerOf (r .answer)) (r .steps) ≡ moveWord d
-move-says d r w′ j j′ t =
-    ap (λ a. toldWord a (r .steps)) (t .answer-is) ∙ ap (toldWord (d .answer)) (t .steps-are)
+    pub open-refused : (r .number ≡ 0 → ⊥) → Opens (refusal (r .number) (r .place)) w
+    unfolding openRow
+    open-refused n = go (decode bs) t
+      where
+        go : (d : Checked Model) → TellsOpened d r
+            → (refusal (r .number) (r .place) ≡ openWord (opensAs w d)) × (w ≡ opensAs w d .row)
+        go (refused k p) u = (ap (λ x. refusal x (r .place)) (u .number-is) ∙ ap (refusal k) (u .place-is), refl)
+        go (accepted m) u = absurd (n (u .number-is))
+
+    module _ (z : r .number ≡ 0) where
+      accepts : (d : Checked Model) → Stated 65_535 d → TellsOpened d r → (b : Bool) → eqb (length w) 10_696 ≡ b
+          → opensAs w d ≡ (if b then handed.openedAs 0 0 (rowOf (r .state)) else handed.openedAs No.STATE 0 w)
+      accepts (refused k p) h u b e = absurd (omega (arith, h .0 .0, u .number-is, z))
+      accepts (accepted m) h u b e = rw (e, u .row-is) refl
+
+      pub open-no-room : (length w ≡ 10_696 → ⊥) → Opens (refusal No.STATE 0) w
+      unfolding openRow
+      open-no-room n =
+          let e = accepts (decode bs) (decode-stated bs) t false (ne-eqb (length w) 10_696 n) in
+          (ap openWord (sym e), ap (λ d. d .row) (sym e))
+
+      pub open-fresh : length w ≡ 10_696 → (w′ : List ℕ) → w′ ≡ rowOf (r .state) → Opens 0 w′
+      unfolding openRow
+      open-fresh l w′ x =
+          let e = accepts (decode bs) (decode-stated bs) t true (eq-eqb (length w) 10_696 l) in
+          (ap openWord (sym e), x ∙ ap (λ d. d .row) (sym e))
+
+-- MOVING ON: the word, the row w′ and the journal, j before and j′ after, tell the call d.
+module _ (d : Called) (word : ℕ) (w′ j j′ : List ℕ) where
+  abbrev pub Moves : Type 0
+  Moves = (word ≡ moveWord d) × ((w′ ≡ d .row) × (j′ ≡ written (d .lines) j))
+
+  pub move-says : (r : Ran) → TellsCall d r w′ j j′ → word ≡ toldWord (answerOf (r .answer)) (r .steps) → Moves
+  move-says r t e = (
+    e ∙ ap (λ a. toldWord a (r .steps)) (t .answer-is) ∙ ap (toldWord (d .answer)) (t .steps-are),
+    (t .row-is, t .journal-is),
+  )
+
+module _ (bs : List ℕ) (limit : ℕ) (j w : List ℕ) where
+  abbrev called : List ℕ → Called
+  called x = callRow bs (asked limit j) x
+
+  -- A row of another length.
+  pub move-away : AllOf IsByte bs → (length w ≡ 10_696 → ⊥) → Moves (called w) (toldWord (FAULT No.STATE) 0) w j j
+  move-away h n = move-says (called w) _ w j j away (turned-says bs w limit j away refl (other-length bs w h n)) refl
+
+  -- A row of its length is that of a struct, s; r is what is told of that.
+  pub move-moved : (s : State) → rowOf s ≡ w → (r : Moved) (word : ℕ) (w′ j′ : List ℕ)
+      → TellsMoved (called (rowOf s)) r j j′ → w′ ≡ rowOf (r .state) → word ≡ toldWord (answerOf (r .answer)) (r .steps)
+      → Moves (called w) word w′ j j′
+  move-moved s e r word w′ j′ t x y =
+      subst (λ v. Moves (called v) word w′ j j′) e
+      (subst (λ v. Moves (called (rowOf s)) word v j j′) (sym x) (move-says (called (rowOf s)) word _ j j′ (ranOf r) (t .tells) y))

@@ -2,8 +2,9 @@
 use Prim.Native.Nat.{ℕ, _+_, _*_}
 use Rattle.semantics.specs.Decode.{Checked, refused, accepted}
 use Rattle.semantics.specs.Bound.{Bounded, NONE, OVER, AT}
-use Rattle.semantics.specs.Run.{Answer, CLOSED, IDLE, LIMIT, FAULT}
+use Rattle.semantics.specs.Run.{Answer}
 use Rattle.semantics.specs.Desk.{Told}
+use Rattle.run_limit.specs.Ran.{numberOf}
 use Rattle.run_row.specs.Open.{Opened}
 use Rattle.run_row.specs.Call.{Called}
 
@@ -24,14 +25,8 @@ boundWord (accepted OVER) = 8_589_934_592
 boundWord (refused n p) = 12_884_901_888 + refusal n p
 
 -- Run: in the high 32 bits the answer, and in the low ones the steps; or 3 with the refusal.
-abbrev pub answerWord : Answer → ℕ
-answerWord CLOSED = 0
-answerWord IDLE = 1
-answerWord LIMIT = 2
-answerWord (FAULT k) = k
-
 abbrev pub toldWord : Answer → ℕ → ℕ
-toldWord a steps = answerWord a * 4_294_967_296 + steps
+toldWord a steps = numberOf a * 4_294_967_296 + steps
 
 abbrev pub runWord : Checked Told → ℕ
 runWord (accepted t) = toldWord (t .answer) (t .steps)

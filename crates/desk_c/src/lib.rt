@@ -1,4 +1,6 @@
 // The booking desk's entry points for C, on bytes and numbers; desk/desk.h says the same to C. Any bytes get an answer.
+use base_numbers::fault;
+use base_numbers::row;
 use file_bound::Bounded;
 use run_file::Whole;
 use run_limit::Answer;
@@ -10,15 +12,27 @@ ghost use Rattle.semantics.specs.Journal.{written};
 ghost use Rattle.run_file.specs.Whole.{journalAfter};
 ghost use Rattle.run_row.specs.Open.{openRow};
 ghost use Rattle.run_row.specs.Call.{asked, callRow};
-ghost use Rattle.desk_c.specs.Word.{refusal as refusalWord, checkWord, boundWord, answerWord, toldWord, runWord};
+ghost use Rattle.desk_c.specs.Word.{refusal as refusalWord, checkWord, boundWord, toldWord, runWord};
 ghost use Rattle.desk_c.specs.Word.{openWord, moveWord};
+
+// A place is below this: it has the low 16 bits of a refusal.
+const PLACES: u32 = 65536;
+
+// The lowest of the high 32 bits. What these are besides a number of an answer: no bound, a bound over 4,294,967,295, a refusal.
+const HIGH: u64 = 4294967296;
+
+const NONE: u64 = HIGH;
+
+const OVER: u64 = 2 * HIGH;
+
+const REFUSED: u64 = 3 * HIGH;
 
 fn refusal(number: u32, place: usize) -> u32
     requires { ⌜ number ≤ 20 ⌝ }
     requires { ⌜ place ≤ 65535 ⌝ }
     ensures { λ r. ⌜ r ≡ refusalWord number place ⌝ }
 {
-    number * 65536 + (place as u32)
+    number * PLACES + (place as u32)
 }
 
 #[no_mangle]
@@ -35,20 +49,9 @@ pub extern "C" fn desk_bound(file: &[u8]) -> u64
 {
     match file_bound::bound(file) {
         Bounded::At(n) => n as u64,
-        Bounded::None => 4294967296,
-        Bounded::Over => 8589934592,
-        Bounded::Refused(number, place) => 12884901888 + (refusal(number, place) as u64),
-    }
-}
-
-fn answer_number(answer: Answer) -> u32
-    ensures { λ r. ⌜ r ≡ answerWord (answerOf answer) ⌝ }
-{
-    match answer {
-        Answer::Closed => 0,
-        Answer::Idle => 1,
-        Answer::Limit => 2,
-        Answer::Fault(number) => number,
+        Bounded::None => NONE,
+        Bounded::Over => OVER,
+        Bounded::Refused(number, place) => REFUSED + (refusal(number, place) as u64),
     }
 }
 
@@ -56,7 +59,7 @@ fn answer_number(answer: Answer) -> u32
 fn told(answer: Answer, steps: u32) -> u64
     ensures { λ r. ⌜ r ≡ toldWord (answerOf answer) steps ⌝ }
 {
-    (answer_number(answer) as u64) * 4294967296 + (steps as u64)
+    (run_limit::number_of(answer) as u64) * HIGH + (steps as u64)
 }
 
 #[no_mangle]
@@ -67,7 +70,7 @@ pub extern "C" fn desk_run<'a>(file: &'a [u8], limit: u32, journal: &'a mut [u8]
 {
     match run_file::run_whole(file, limit, journal) {
         Whole::Ran(answer, steps) => told(answer, steps),
-        Whole::Refused(number, place) => 12884901888 + (refusal(number, place) as u64),
+        Whole::Refused(number, place) => REFUSED + (refusal(number, place) as u64),
     }
 }
 
@@ -76,8 +79,16 @@ pub extern "C" fn desk_open<'a>(file: &'a [u8], run: &'a mut [u64]) -> u32
     ensures { λ r. ⌜ r ≡ openWord (openRow (now (file .entry)) (now (run .entry))) ⌝ }
     ensures { λ _. ⌜ now (run .exit) ≡ openRow (now (file .entry)) (now (run .entry)) .row ⌝ }
 {
-    let opened = run_row::open_row(file, run);
-    refusal(opened.number, opened.place)
+    let opened = run_lent::open_run(file);
+    if opened.number != 0 {
+        return refusal(opened.number, opened.place);
+    }
+    if run.len() != row::WORDS {
+        return refusal(fault::STATE, 0);
+    }
+    let state = opened.state;
+    row_struct::unpack(state, run);
+    0
 }
 
 #[no_mangle]
@@ -94,7 +105,13 @@ pub extern "C" fn desk_move<'a>(
         ≡ written (callRow (now (file .entry)) (asked limit (now (journal .entry))) (now (run .entry)) .lines)
         (now (journal .entry)) ⌝ }
 {
-    let ran = run_row::run_row(file, run, limit, journal);
-    let answer = ran.answer;
-    told(answer, ran.steps)
+    if run.len() != row::WORDS {
+        return told(Answer::Fault(fault::STATE), 0);
+    }
+    let state = row_struct::pack(run);
+    let moved = run_lent::moved_on(file, state, limit, journal);
+    let left = moved.state;
+    row_struct::unpack(left, run);
+    let answer = moved.answer;
+    told(answer, moved.steps)
 }

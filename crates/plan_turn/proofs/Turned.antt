@@ -19,12 +19,12 @@ use Rattle.promises.specs.Answers.{Why, was-closed, was-idle, at-limit, at-faul
 use Rattle.promises.specs.Safe.{step-safe, safe-fault}
 use Rattle.act_floor.specs.Acting.{Open}
 use Rattle.run_limit.specs.declared.Ran.{Ran}
-use Rattle.run_limit.specs.Ran.{answerOf, RanAs}
+use Rattle.run_limit.specs.Ran.{answerOf, numberOf, RanAs}
 use Rattle.plan_text.specs.Text.{linesText}
 use Rattle.plan_text.specs.Tells.{tellsIn, Writable, tells-written}
 use Rattle.plan_text.specs.Put.{Front}
 use Rattle.plan_turn.specs.declared.Answered.{Answered}
-use Rattle.plan_turn.specs.Turn.{numberOf, AnsweredAs}
+use Rattle.plan_turn.specs.Turn.{AnsweredAs}
 
 module _ {bs map w : List ℕ} (v : Open bs map w) (limit : ℕ) (j : List ℕ) {x : Ran} {w′ j′ : List ℕ}
     (t : RanAs (run (v .model) limit (roomIn j) (v .is)) x w′ j j′) where

@@ -2,20 +2,14 @@
 use Prim.Native.Nat.{ℕ}
 use mathlib.Core.Path.{_≡_}
 use mathlib.Core.List.{List, map}
-use Rattle.semantics.specs.Run.{Answer, CLOSED, IDLE, LIMIT, FAULT, Ran}
+use Rattle.semantics.specs.Run.{Ran}
 use Rattle.semantics.specs.Journal.{written}
 use Rattle.semantics.specs.Plan.{told}
 use Rattle.row_work.specs.Work.{workOf}
+use Rattle.run_limit.specs.Ran.{numberOf}
 use Rattle.plan_text.specs.Text.{linesText}
 use Rattle.plan_text.specs.Put.{Front}
 use Rattle.plan_turn.specs.declared.Answered.{Answered}
-
--- 0 closed, 1 idle, 2 limit; else the fault's own number.
-abbrev pub numberOf : Answer → ℕ
-numberOf CLOSED = 0
-numberOf IDLE = 1
-numberOf LIMIT = 2
-numberOf (FAULT k) = k
 
 -- The code's r, the work w′, the journal and the text, each before and after, tell the run d.
 pub record AnsweredAs (d : Ran) (r : Answered) (w′ j j′ out out′ : List ℕ) : Type 0 where

@@ -1,30 +1,17 @@
 // One turn of a run that is printed: a call with an empty journal, and its lines as text.
-use run_limit::Answer;
 ghost use mathlib.Core.Path.{_≡_};
 ghost use Prim.Native.Nat.{_*_, _/_, _≤_};
 ghost use lib.ListN.{length};
 ghost use Rattle.semantics.specs.Run.{run as runOf};
 ghost use Rattle.semantics.specs.Journal.{roomIn};
 ghost use Rattle.act_floor.specs.Acting.{Open};
-ghost use Rattle.run_limit.specs.Ran.{answerOf};
-ghost use Rattle.plan_turn.specs.Turn.{numberOf, AnsweredAs};
+ghost use Rattle.plan_turn.specs.Turn.{AnsweredAs};
 
 // The answer's number, the steps done in this turn and how many bytes its lines have as text.
 pub struct Answered {
     pub answer: u32,
     pub steps: u32,
     pub bytes: usize,
-}
-
-fn number_of(answer: Answer) -> u32
-    ensures { λ r. ⌜ r ≡ numberOf (answerOf answer) ⌝ }
-{
-    match answer {
-        Answer::Closed => 0,
-        Answer::Idle => 1,
-        Answer::Limit => 2,
-        Answer::Fault(number) => number,
-    }
 }
 
 // At most `limit` steps; what the journal held is written over, and the text of the lines stands at the front of `out`.
@@ -46,7 +33,7 @@ pub fn turn<'a>(
     let steps = ran.steps;
     let lines = ran.lines;
     let answer = ran.answer;
-    let number = number_of(answer);
+    let number = run_limit::number_of(answer);
     let bytes = plan_text::lines(journal, lines, out);
     Answered {
         answer: number,

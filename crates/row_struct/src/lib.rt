@@ -1,5 +1,8 @@
 // An open run's state as a struct of arrays, by value. The engine works on one lent row of numbers (crate row_work): the struct is
 // unpacked into it when a call begins and packed from it when the call ends.
+use base_numbers::limit;
+use base_numbers::process;
+use base_numbers::row;
 ghost use mathlib.Core.Path.{_≡_};
 ghost use Prim.Native.Nat.{_+_, _≤_};
 ghost use lib.ListN.{length, take, drop};
@@ -13,10 +16,10 @@ pub struct Process {
     pub priority: u64,
     pub depth: u64,
     pub slaves: u64,
-    pub locals: [u64; 8],
-    pub held: [u64; 32],
-    pub blocks: [u64; 8],
-    pub owned: [u64; 76],
+    pub locals: [u64; limit::LOCALS],
+    pub held: [u64; limit::THINGS],
+    pub blocks: [u64; limit::DEPTH],
+    pub owned: [u64; process::OWNED_MOST],
 }
 
 // A state: the clock, whether it is closed, the last number given, who has the floor (0 for nobody, else the place and 1), the
@@ -32,15 +35,15 @@ pub struct State {
     pub events: u64,
     pub blocked: u64,
     pub spare: u64,
-    pub free: [u64; 32],
-    pub bins: [u64; 32],
-    pub globals: [u64; 32],
-    pub waits: [u64; 32],
-    pub queue: [u64; 64],
-    pub keys: [u64; 128],
-    pub words: [u64; 128],
-    pub waiting: [u64; 2048],
-    pub processes: [Process; 64],
+    pub free: [u64; limit::THINGS],
+    pub bins: [u64; limit::THINGS],
+    pub globals: [u64; limit::THINGS],
+    pub waits: [u64; limit::THINGS],
+    pub queue: [u64; limit::PLACES],
+    pub keys: [u64; row::EVENTS_MOST],
+    pub words: [u64; row::EVENTS_MOST],
+    pub waiting: [u64; row::WAITERS_ALL],
+    pub processes: [Process; limit::PLACES],
 }
 
 // `from`, number by number, over a row of its length.
@@ -74,23 +77,23 @@ fn unpack_process(q: Process, w: &mut [u64])
 {
     let head = [q.number, q.priority, q.depth, q.slaves];
     lay(&head, w, 0);
-    lay(&q.locals, w, 4);
-    lay(&q.held, w, 12);
-    lay(&q.blocks, w, 44);
-    lay(&q.owned, w, 52);
+    lay(&q.locals, w, process::LOCALS);
+    lay(&q.held, w, process::HELD);
+    lay(&q.blocks, w, process::BLOCKS);
+    lay(&q.owned, w, process::OWNED);
 }
 
 // The rows of all processes.
-fn unpack_processes(ps: [Process; 64], w: &mut [u64])
+fn unpack_processes(ps: [Process; limit::PLACES], w: &mut [u64])
     requires { ⌜ length (now w) ≡ 8192 ⌝ }
     ensures { λ _. ⌜ now (w .exit) ≡ collect processRowOf ps ⌝ }
     ensures { λ _. ⌜ ProcessesFull ps ⌝ }
 {
     let mut p = 0;
-    while p < 64 {
+    while p < limit::PLACES {
         let q = ps[p];
-        let from = 128 * p;
-        let to = from + 128;
+        let from = process::WORDS * p;
+        let to = from + process::WORDS;
         unpack_process(q, &mut w[from..to]);
         p += 1;
     }
@@ -113,16 +116,16 @@ pub fn unpack(state: State, w: &mut [u64])
         state.spare,
     ];
     lay(&head, w, 0);
-    lay(&state.free, w, 8);
-    lay(&state.bins, w, 40);
-    lay(&state.globals, w, 72);
-    lay(&state.waits, w, 104);
-    lay(&state.queue, w, 136);
-    lay(&state.keys, w, 200);
-    lay(&state.words, w, 328);
-    lay(&state.waiting, w, 456);
+    lay(&state.free, w, row::FREE);
+    lay(&state.bins, w, row::BINS);
+    lay(&state.globals, w, row::GLOBALS);
+    lay(&state.waits, w, row::WAITS);
+    lay(&state.queue, w, row::QUEUE);
+    lay(&state.keys, w, row::KEYS);
+    lay(&state.words, w, row::NOTICES);
+    lay(&state.waiting, w, row::WAITING);
     let ps = state.processes;
-    unpack_processes(ps, &mut w[2504..10696]);
+    unpack_processes(ps, &mut w[row::PROCESSES..row::WORDS]);
 }
 
 // ---- from the row to the struct
@@ -137,56 +140,56 @@ fn lift(w: &[u64], at: usize, part: &mut [u64])
 }
 
 // The part as an array of each length that a field has.
-fn eight_at(w: &[u64], at: usize) -> [u64; 8]
+fn eight_at(w: &[u64], at: usize) -> [u64; limit::LOCALS]
     requires { ⌜ at + 8 ≤ length (now w) ⌝ }
     ensures { λ r. ⌜ r ≡ take 8 (drop at (now (w .entry))) ⌝ }
 {
-    let mut part = [0u64; 8];
+    let mut part = [0u64; limit::LOCALS];
     lift(w, at, &mut part);
     part
 }
 
-fn amounts_at(w: &[u64], at: usize) -> [u64; 32]
+fn amounts_at(w: &[u64], at: usize) -> [u64; limit::THINGS]
     requires { ⌜ at + 32 ≤ length (now w) ⌝ }
     ensures { λ r. ⌜ r ≡ take 32 (drop at (now (w .entry))) ⌝ }
 {
-    let mut part = [0u64; 32];
+    let mut part = [0u64; limit::THINGS];
     lift(w, at, &mut part);
     part
 }
 
-fn places_at(w: &[u64], at: usize) -> [u64; 64]
+fn places_at(w: &[u64], at: usize) -> [u64; limit::PLACES]
     requires { ⌜ at + 64 ≤ length (now w) ⌝ }
     ensures { λ r. ⌜ r ≡ take 64 (drop at (now (w .entry))) ⌝ }
 {
-    let mut part = [0u64; 64];
+    let mut part = [0u64; limit::PLACES];
     lift(w, at, &mut part);
     part
 }
 
-fn slaves_at(w: &[u64], at: usize) -> [u64; 76]
+fn slaves_at(w: &[u64], at: usize) -> [u64; process::OWNED_MOST]
     requires { ⌜ at + 76 ≤ length (now w) ⌝ }
     ensures { λ r. ⌜ r ≡ take 76 (drop at (now (w .entry))) ⌝ }
 {
-    let mut part = [0u64; 76];
+    let mut part = [0u64; process::OWNED_MOST];
     lift(w, at, &mut part);
     part
 }
 
-fn events_at(w: &[u64], at: usize) -> [u64; 128]
+fn events_at(w: &[u64], at: usize) -> [u64; row::EVENTS_MOST]
     requires { ⌜ at + 128 ≤ length (now w) ⌝ }
     ensures { λ r. ⌜ r ≡ take 128 (drop at (now (w .entry))) ⌝ }
 {
-    let mut part = [0u64; 128];
+    let mut part = [0u64; row::EVENTS_MOST];
     lift(w, at, &mut part);
     part
 }
 
-fn waiting_at(w: &[u64], at: usize) -> [u64; 2048]
+fn waiting_at(w: &[u64], at: usize) -> [u64; row::WAITERS_ALL]
     requires { ⌜ at + 2048 ≤ length (now w) ⌝ }
     ensures { λ r. ⌜ r ≡ take 2048 (drop at (now (w .entry))) ⌝ }
 {
-    let mut part = [0u64; 2048];
+    let mut part = [0u64; row::WAITERS_ALL];
     lift(w, at, &mut part);
     part
 }
@@ -197,15 +200,15 @@ fn pack_process(w: &[u64]) -> Process
     ensures { λ r. ⌜ processRowOf r ≡ now (w .entry) ⌝ }
     ensures { λ r. ⌜ ProcessFull r ⌝ }
 {
-    let locals = eight_at(w, 4);
-    let held = amounts_at(w, 12);
-    let blocks = eight_at(w, 44);
-    let owned = slaves_at(w, 52);
+    let locals = eight_at(w, process::LOCALS);
+    let held = amounts_at(w, process::HELD);
+    let blocks = eight_at(w, process::BLOCKS);
+    let owned = slaves_at(w, process::OWNED);
     Process {
-        number: w[0],
-        priority: w[1],
-        depth: w[2],
-        slaves: w[3],
+        number: w[process::NUMBER],
+        priority: w[process::PRIORITY],
+        depth: w[process::DEPTH],
+        slaves: w[process::SLAVES],
         locals,
         held,
         blocks,
@@ -214,17 +217,17 @@ fn pack_process(w: &[u64]) -> Process
 }
 
 // The processes whose rows these are.
-fn pack_processes(w: &[u64]) -> [Process; 64]
+fn pack_processes(w: &[u64]) -> [Process; limit::PLACES]
     requires { ⌜ length (now w) ≡ 8192 ⌝ }
     ensures { λ r. ⌜ collect processRowOf r ≡ now (w .entry) ⌝ }
     ensures { λ r. ⌜ ProcessesFull r ⌝ }
 {
-    let first = pack_process(&w[0..128]);
-    let mut ps = [first; 64];
+    let first = pack_process(&w[0..process::WORDS]);
+    let mut ps = [first; limit::PLACES];
     let mut p = 1;
-    while p < 64 {
-        let from = 128 * p;
-        let to = from + 128;
+    while p < limit::PLACES {
+        let from = process::WORDS * p;
+        let to = from + process::WORDS;
         ps[p] = pack_process(&w[from..to]);
         p += 1;
     }
@@ -237,24 +240,24 @@ pub fn pack(w: &[u64]) -> State
     ensures { λ r. ⌜ rowOf r ≡ now (w .entry) ⌝ }
     ensures { λ r. ⌜ Full r ⌝ }
 {
-    let free = amounts_at(w, 8);
-    let bins = amounts_at(w, 40);
-    let globals = amounts_at(w, 72);
-    let waits = amounts_at(w, 104);
-    let queue = places_at(w, 136);
-    let keys = events_at(w, 200);
-    let words = events_at(w, 328);
-    let waiting = waiting_at(w, 456);
-    let processes = pack_processes(&w[2504..10696]);
+    let free = amounts_at(w, row::FREE);
+    let bins = amounts_at(w, row::BINS);
+    let globals = amounts_at(w, row::GLOBALS);
+    let waits = amounts_at(w, row::WAITS);
+    let queue = places_at(w, row::QUEUE);
+    let keys = events_at(w, row::KEYS);
+    let words = events_at(w, row::NOTICES);
+    let waiting = waiting_at(w, row::WAITING);
+    let processes = pack_processes(&w[row::PROCESSES..row::WORDS]);
     State {
-        clock: w[0],
-        closed: w[1],
-        last: w[2],
-        floor: w[3],
-        living: w[4],
-        events: w[5],
-        blocked: w[6],
-        spare: w[7],
+        clock: w[row::CLOCK],
+        closed: w[row::CLOSED],
+        last: w[row::LAST],
+        floor: w[row::FLOOR],
+        living: w[row::LIVING],
+        events: w[row::EVENTS],
+        blocked: w[row::BLOCKED],
+        spare: w[row::SPARE],
         free,
         bins,
         globals,

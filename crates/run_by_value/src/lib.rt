@@ -1,4 +1,5 @@
 // An open run by value: the file and the struct of its state go in, and the struct that the call leaves comes back.
+use base_numbers::row;
 use row_struct::State;
 use run_limit::Answer;
 ghost use Rattle.row_struct.specs.State.{rowOf, Full};
@@ -20,7 +21,7 @@ pub fn run_state<'a>(s: &'a [u8], state: State, limit: u32, journal: &'a mut [u8
         (now (journal .entry)) (now (journal .exit)) ⌝ }
     ensures { λ _. ⌜ Full state ⌝ }
 {
-    let mut w = [0u64; 10696];
+    let mut w = [0u64; row::WORDS];
     row_struct::unpack(state, &mut w);
     let ran = run_row::run_row(s, &mut w, limit, journal);
     let answer = ran.answer;
@@ -31,13 +32,4 @@ pub fn run_state<'a>(s: &'a [u8], state: State, limit: u32, journal: &'a mut [u8
         lines: ran.lines,
         state: left,
     }
-}
-
-// One step, by value.
-pub fn step_state<'a>(s: &'a [u8], state: State, journal: &'a mut [u8]) -> Moved
-    ensures { λ r. ⌜ TellsMoved (callRow (now (s .entry)) (asked 1 (now (journal .entry))) (rowOf state)) r
-        (now (journal .entry)) (now (journal .exit)) ⌝ }
-    ensures { λ _. ⌜ Full state ⌝ }
-{
-    run_state(s, state, 1, journal)
 }

@@ -1,4 +1,5 @@
 // A whole run of a model file: from any bytes to the refusal, or the answer and the steps, with the journal lent.
+use base_numbers::row;
 use run_limit::Answer;
 ghost use mathlib.Core.Path.{_≡_};
 ghost use Rattle.semantics.specs.Desk.{runFile};
@@ -21,7 +22,7 @@ pub fn run_whole<'a>(s: &'a [u8], limit: u32, journal: &'a mut [u8]) -> Whole
         return Whole::Refused(refusal.number, refusal.place);
     }
     let map = file_map::map_of(s);
-    let mut w = [0u64; 10696];
+    let mut w = [0u64; row::WORDS];
     row_begin_end::fresh(s, &map.words, &mut w);
     let ran = run_limit::run(s, &map.words, &mut w, limit, journal);
     let answer = ran.answer;

@@ -1,10 +1,9 @@
-// The desk's open run: opened from a model file, lent and moved on between calls, and read. A call is the by-value call of
-// crate run_by_value, whose state is stored where the run was lent.
+// The desk's open run: opened from a model file, lent, and moved on between calls. A call is the by-value call of crate
+// run_by_value, whose state is stored where the run was lent.
+use base_numbers::row;
 use row_struct::State;
 use run_by_value::Moved;
 use run_limit::Ran;
-ghost use mathlib.Core.Path.{_≡_};
-ghost use lib.ListN.{getD};
 ghost use Rattle.semantics.specs.Decode.{decode};
 ghost use Rattle.row_struct.specs.State.{rowOf, Full};
 ghost use Rattle.run_row.specs.Call.{asked, callRow, TellsCall};
@@ -22,7 +21,7 @@ pub struct Opened {
 pub fn open_run(s: &[u8]) -> Opened
     ensures { λ r. ⌜ TellsOpened (decode (now (s .entry))) r ⌝ }
 {
-    let mut w = [0u64; 10696];
+    let mut w = [0u64; row::WORDS];
     let refusal = run_row::open_row(s, &mut w);
     let state = row_struct::pack(&w);
     Opened {
@@ -64,28 +63,4 @@ pub fn moved_on<'a>(s: &'a [u8], run: State, limit: u32, journal: &'a mut [u8]) 
         lines: ran.lines,
         state: kept,
     }
-}
-
-// The clock of the run lent.
-pub fn clock(run: &State) -> u64
-    ensures { λ r. ⌜ r ≡ now (run .entry) .clock ⌝ }
-{
-    run.clock
-}
-
-// The number at a place of a row; 0 behind its end.
-fn number_at(row: &[u64], at: usize) -> u64
-    ensures { λ r. ⌜ r ≡ getD (now (row .entry)) at 0 ⌝ }
-{
-    if at < row.len() {
-        return row[at];
-    }
-    0
-}
-
-// How much of a resource is free; 0 of one that isn't declared.
-pub fn free(run: State, resource: usize) -> u64
-    ensures { λ r. ⌜ r ≡ getD (run .free) resource 0 ⌝ }
-{
-    number_at(&run.free, resource)
 }

@@ -17,6 +17,13 @@ answerOf Idle = IDLE
 answerOf Limit = LIMIT
 answerOf (Fault k) = FAULT k
 
+-- The number of an answer: 0 closed, 1 idle, 2 limit; else the fault's own.
+abbrev pub numberOf : definition.Answer → ℕ
+numberOf CLOSED = 0
+numberOf IDLE = 1
+numberOf LIMIT = 2
+numberOf (FAULT k) = k
+
 -- The code's r, the work w′ and the journal, j before and j′ after, tell the run d.
 pub record RanAs (d : definition.Ran) (r : Ran) (w′ j j′ : List ℕ) : Type 0 where
   pub answer-is : answerOf (r .answer) ≡ d .answer

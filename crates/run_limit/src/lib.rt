@@ -1,5 +1,10 @@
 // A run with a step limit and a lent journal, on the work that shows its state.
 use act_floor::Went;
+use base_numbers::answer;
+use base_numbers::fault;
+use base_numbers::limit;
+use base_numbers::line;
+use base_numbers::row;
 ghost use mathlib.Core.Path.{_≡_};
 ghost use Prim.Native.Nat.{_+_, _-_, _*_, _/_, _≤_};
 ghost use lib.ListN.{length};
@@ -9,7 +14,10 @@ ghost use Rattle.semantics.specs.Journal.{roomIn};
 ghost use Rattle.act_floor.specs.Acting.{Open, Going, Stepped};
 ghost use Rattle.run_limit.specs.Halts.{Showing, mayGo, haltedBy};
 ghost use Rattle.run_limit.specs.Fitted.{fitted};
-ghost use Rattle.run_limit.specs.Ran.{answerOf, RanAs};
+ghost use Rattle.run_limit.specs.Ran.{answerOf, numberOf, RanAs};
+
+// The bytes of a step's lines, of which there are fewer than these.
+const STEP_BYTES: usize = limit::STEP_LINES * line::BYTES;
 
 pub enum Answer {
     Closed,
@@ -25,12 +33,24 @@ pub struct Ran {
     pub lines: usize,
 }
 
+// The number of an answer.
+pub fn number_of(told: Answer) -> u32
+    ensures { λ r. ⌜ r ≡ numberOf (answerOf told) ⌝ }
+{
+    match told {
+        Answer::Closed => answer::CLOSED,
+        Answer::Idle => answer::IDLE,
+        Answer::Limit => answer::LIMIT,
+        Answer::Fault(number) => number,
+    }
+}
+
 // Whether there is a step to make: the run is not closed, and somebody has the floor or is in the event list.
 fn goes_on(w: &[u64]) -> bool
     requires { ⌜ Showing (now w) ⌝ }
     ensures { λ r. ⌜ ((v : Showing (now (w .entry))) → r ≡ mayGo (before (v .is))) ⌝ }
 {
-    (w[1] == 0) & !((w[3] == 0) & (w[5] == 0))
+    (w[row::CLOSED] == 0) & !((w[row::FLOOR] == 0) & (w[row::EVENTS] == 0))
 }
 
 // The answer where no further step is made.
@@ -38,10 +58,10 @@ fn halted(w: &[u64]) -> Answer
     requires { ⌜ Showing (now w) ⌝ }
     ensures { λ r. ⌜ ((v : Showing (now (w .entry))) → answerOf r ≡ haltedBy (before (v .is))) ⌝ }
 {
-    if w[1] != 0 {
+    if w[row::CLOSED] != 0 {
         return Answer::Closed;
     }
-    if (w[3] == 0) & (w[5] == 0) {
+    if (w[row::FLOOR] == 0) & (w[row::EVENTS] == 0) {
         return Answer::Idle;
     }
     Answer::Limit
@@ -62,20 +82,20 @@ fn careful<'a>(
         Stepped (fitted left (stepOf (v .running .model) (v .running .is))) (r .fault) (r .lines)
         (now (w .entry)) (now (w .exit)) at (now (journal .entry)) (now (journal .exit))) ⌝ }
 {
-    let mut kept = [0u64; 10696];
+    let mut kept = [0u64; row::WORDS];
     row_struct::copy_words(w, &mut kept);
-    let mut aside = [0u8; 1056];
+    let mut aside = [0u8; STEP_BYTES];
     let went = act_step::step(s, map, w, &mut aside, 0);
     let lines = went.lines;
     if left < lines {
         row_struct::copy_words(&kept, w);
         return Went {
-            fault: 30,
+            fault: fault::JOURNAL,
             lines: 0,
         };
     }
-    let size = 16 * lines;
-    let start = 16 * at;
+    let size = line::BYTES * lines;
+    let start = line::BYTES * at;
     bytes::copy(&aside[..size], &mut journal[start..]);
     went
 }
@@ -94,8 +114,8 @@ fn advance<'a>(
         Stepped (fitted (length (now (journal .entry)) / 16 - at) (stepOf (v .running .model) (v .running .is)))
         (r .fault) (r .lines) (now (w .entry)) (now (w .exit)) at (now (journal .entry)) (now (journal .exit))) ⌝ }
 {
-    let left = journal.len() / 16 - at;
-    if left < 66 {
+    let left = journal.len() / line::BYTES - at;
+    if left < limit::STEP_LINES {
         return careful(s, map, w, journal, at, left);
     }
     act_step::step(s, map, w, journal, at)

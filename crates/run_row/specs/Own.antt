@@ -4,6 +4,7 @@ use Prim.Native.Nat.{ℕ}
 use mathlib.Core.Path.{_≡_, refl, sym, _∙_, ap, subst}
 use mathlib.Core.List.{List, [], _∷_}
 use mathlib.Core.Bool.{Bool, true, false}
+use lib.ListN.{length}
 use Rattle.semantics.specs.Numbers as No
 use Rattle.semantics.specs.Model.{Model}
 use Rattle.semantics.specs.Decode.{Checked, refused, accepted, decode}
@@ -17,8 +18,9 @@ use Rattle.promises.specs.Accepted.{accepted-fit, accepted-nested}
 use Rattle.promises.specs.Calls.{call-is, run-sound, calls-sound, never-20}
 use Rattle.row_work.specs.Work.{workOf, Sized}
 use Rattle.row_work.specs.Sized.{IsByte, accepted-rounds, sound-sized}
+use Rattle.row_work.specs.Shown.{work-long}
 use Rattle.row_view.specs.View.{viewIn, sameRow, soundRow}
-use Rattle.row_view.specs.Rows.{says-same-row, says-sound-row, sound-shaped, sound-work, work-shows}
+use Rattle.row_view.specs.Rows.{says-same-row, says-sound-row, shows-none, sound-shaped, sound-work, work-shows}
 use Rattle.row_view.specs.Back.{Shaped, view-back}
 use Rattle.run_row.specs.Call.{calledAs, turnedAway, calledIf, callRow, leavesRow}
 
@@ -83,6 +85,15 @@ row-turned bs a w z = by (decode bs) refl
     by : (d : Checked Model) → decode bs ≡ d → callRow bs a w ≡ turnedAway w
     by (refused n p) e = refused-called bs a w e
     by (accepted m) e = unsound-called bs m e a w z
+
+-- A ROW OF ANOTHER LENGTH is no state's.
+pub other-length : (bs w : List ℕ) → AllOf IsByte bs → (length w ≡ 10_696 → ⊥) → soundRow bs w ≡ false
+unfolding soundRow
+other-length bs w h n = by (decode bs) refl
+  where
+    by : (d : Checked Model) → decode bs ≡ d → soundRow bs w ≡ false
+    by (refused k p) e = rw (e, soundRow) refl
+    by (accepted m) e = shows-none bs m e h w (λ s. n (ap length (s .is-form) ∙ work-long (viewIn m w) (s .is-sized)))
 
 -- OUR OWN RUNS: fresh, and then moved by the calls l alone.
 module _ (bs : List ℕ) (m : Model) (e : decode bs ≡ accepted m) (h : AllOf IsByte bs) where

@@ -1,4 +1,6 @@
 // An open run that is handed in as any bytes and any row of words: opened, tested for soundness, and moved on by a call.
+use base_numbers::fault;
+use base_numbers::row;
 use file_check::Refusal;
 use run_limit::Answer;
 use run_limit::Ran;
@@ -19,14 +21,14 @@ pub fn open_row<'a>(s: &'a [u8], w: &'a mut [u64]) -> Refusal
     if answer.number != 0 {
         return answer;
     }
-    if w.len() != 10696 {
+    if w.len() != row::WORDS {
         return Refusal {
-            number: 20,
+            number: fault::STATE,
             place: 0,
         };
     }
     let map = file_map::map_of(s);
-    let mut begun = [0u64; 10696];
+    let mut begun = [0u64; row::WORDS];
     row_begin_end::fresh(s, &map.words, &mut begun);
     row_struct::copy_words(&begun, w);
     answer
@@ -47,13 +49,13 @@ fn sound_of<'a>(s: &'a [u8], map: &'a [u32], w: &'a [u64]) -> bool
         return false;
     }
     let index = file_index::index_of(s);
-    let mut aside = [0u64; 10696];
+    let mut aside = [0u64; row::WORDS];
     row_begin_end::fresh(s, map, &mut aside);
     row_sound::sound_in(
         s,
         map,
         w,
-        &aside[8..40],
+        &aside[row::FREE..row::BINS],
         resources,
         bins,
         syncs,
@@ -61,24 +63,12 @@ fn sound_of<'a>(s: &'a [u8], map: &'a [u32], w: &'a [u64]) -> bool
     )
 }
 
-// Whether s is an accepted model file and the row w, of any length, is the one form of a sound state of its model.
-pub fn sound_row<'a>(s: &'a [u8], w: &'a [u64]) -> bool
-    ensures { λ r. ⌜ r ≡ soundRow (now (s .entry)) (now (w .entry)) ⌝ }
-{
-    let refusal = file_check::check(s);
-    if refusal.number != 0 {
-        return false;
-    }
-    let map = file_map::map_of(s);
-    sound_of(s, &map.words, w)
-}
-
 // What is told of a run that is not sound.
 fn turned_away() -> Ran
     ensures { λ r. ⌜ r ≡ away ⌝ }
 {
     Ran {
-        answer: Answer::Fault(20),
+        answer: Answer::Fault(fault::STATE),
         steps: 0,
         lines: 0,
     }
