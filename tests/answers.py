@@ -23,7 +23,7 @@ EACH = {'List Process', 'Process', 'Model'}
 
 
 class Contract:
-    """The memories lent to a function to be written, and its clauses, with the slices at the call written as in the `requires`."""
+    """The memories lent to a function to be written, and its clauses, with what is meant at the call written as in `requires`."""
 
     def __init__(self, head):
         takes, *clauses = re.split(r'^ +(?=requires|ensures)', re.sub(r'\((\w+) \.entry\)', r'\1', head), flags=re.M)
