@@ -1,3 +1,3 @@
+pub mod Same
 pub mod Reads
 pub mod Records
-pub mod Same
