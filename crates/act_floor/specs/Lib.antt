@@ -2,3 +2,4 @@ pub mod Acting
 pub mod Running
 pub mod Floor
 pub mod Onward
+pub mod Same

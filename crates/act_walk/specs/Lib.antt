@@ -1,2 +1,3 @@
 pub mod Walking
 pub mod Visits
+pub mod Same

@@ -1,2 +1,3 @@
 pub mod Endable
 pub mod Answer
+pub mod Same

@@ -1,3 +1,4 @@
 pub mod Map
 pub mod MapOf
 pub mod Low
+pub mod Same

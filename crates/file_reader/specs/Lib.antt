@@ -1,3 +1,4 @@
+pub mod Same
 pub mod Reads
 pub mod Records
 pub mod Walk

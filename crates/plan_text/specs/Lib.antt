@@ -5,3 +5,4 @@ pub mod Writable
 pub mod Codes
 pub mod Put
 pub mod Laws
+pub mod Same

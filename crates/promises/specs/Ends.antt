@@ -4,49 +4,65 @@ use Prim.Native.Nat.{ℕ, zero, suc}
 use mathlib.Core.Path.{_≡_, refl, sym, ap}
 use mathlib.Core.List.{List}
 use mathlib.Core.Bool.{Bool, true, false}
-use Rattle.semantics.specs.Words.{Outcome, ok, fails}
+use borrow.Author.Tests.{ne-eqb}
+use lib.Dec.{eqb}
+use Rattle.semantics.specs.Words.{if_then_else_, Outcome, ok, fails}
 use Rattle.semantics.specs.Numbers as No
 use Rattle.semantics.specs.Model.{Model}
 use Rattle.semantics.specs.State.{State}
 use Rattle.semantics.specs.Walk.{Line, Next}
 use Rattle.semantics.specs.Step.{step}
-use Rattle.semantics.specs.Run.{Answer, CLOSED, IDLE, FAULT, Ran, stopped, further, Before, before, isClosed, isIdle}
+use Rattle.semantics.specs.Run.{Answer, CLOSED, IDLE, LIMIT, FAULT, Ran, stopped, further, Before, before, isClosed, isIdle}
 use Rattle.semantics.specs.Run.{goesOn}
 use Rattle.semantics.specs.Run.{Room, endless, fits, left, run, noEnd}
 use Rattle.promises.specs.Laws.{no-way}
 use Rattle.promises.specs.Answers.{run-why, Why, was-closed, was-idle, at-limit, at-fault, no-room}
 
+-- THE ANSWER OF A LATER CALL with limit n, where a has ended the run: a again. But a step that faults is not tried at the limit,
+-- and 20 comes before any step.
+abbrev pub again : Answer → ℕ → Answer
+again CLOSED n = CLOSED
+again IDLE n = IDLE
+again LIMIT n = LIMIT
+again (FAULT k) zero = if eqb k No.STATE then FAULT k else LIMIT
+again (FAULT k) (suc n) = FAULT k
+
+pub again-20 : (n : ℕ) → again (FAULT No.STATE) n ≡ FAULT No.STATE
+again-20 zero = refl
+again-20 (suc n) = refl
+
 -- A run from t stops at once, whatever its limit and room.
-abbrev pub StopsAt : Model → State → Type 0
-StopsAt m t = (n : ℕ) (r : Room) → (run m n r t .steps ≡ 0) × (run m n r t .state ≡ t)
+abbrev StopsAt : Model → Answer → State → Type 0
+StopsAt m a t = (n : ℕ) (r : Room) → run m n r t ≡ stopped (again a n) t
 
-closed-stops : (m : Model) (t : State) → before t ≡ isClosed → StopsAt m t
+closed-stops : (m : Model) (t : State) → before t ≡ isClosed → StopsAt m CLOSED t
 unfolding run
-closed-stops m t e zero r = rw (run, e) (refl, refl)
-closed-stops m t e (suc n) r = rw (run, e) (refl, refl)
+closed-stops m t e zero r = rw (run, e) refl
+closed-stops m t e (suc n) r = rw (run, e) refl
 
-idle-stops : (m : Model) (t : State) → before t ≡ isIdle → StopsAt m t
+idle-stops : (m : Model) (t : State) → before t ≡ isIdle → StopsAt m IDLE t
 unfolding run
-idle-stops m t e zero r = rw (run, e) (refl, refl)
-idle-stops m t e (suc n) r = rw (run, e) (refl, refl)
+idle-stops m t e zero r = rw (run, e) refl
+idle-stops m t e (suc n) r = rw (run, e) refl
 
-fault-stops : (m : Model) (t : State) (k : ℕ) → before t ≡ goesOn → step m t ≡ fails k → StopsAt m t
+fault-stops : (m : Model) (t : State) (k : ℕ) → before t ≡ goesOn → step m t ≡ fails k → (k ≡ No.STATE → ⊥)
+    → StopsAt m (FAULT k) t
 unfolding run
-fault-stops m t k e f zero r = rw (run, e) (refl, refl)
-fault-stops m t k e f (suc n) r = rw (run, e, f) (refl, refl)
+fault-stops m t k e f g zero r = rw (run, e, ne-eqb k No.STATE g) refl
+fault-stops m t k e f g (suc n) r = rw (run, e, f) refl
 
 why-stops : {m : Model} {n : ℕ} {r : Room} {a : Answer} {k : ℕ} {ls : List Line} {t : State} → Why m n r a k ls t →
-    noEnd a ≡ false → StopsAt m t
-why-stops {m = m} {t = t} (was-closed e) f = closed-stops m t e
-why-stops {m = m} {t = t} (was-idle e) f = idle-stops m t e
-why-stops (at-limit e h) f = no-way (sym f)
-why-stops {m = m} {t = t} (at-fault {j = j} e h g) f = fault-stops m t j e g
-why-stops (no-room e h g i) f = no-way (sym f)
+    noEnd a ≡ false → (a ≡ FAULT No.STATE → ⊥) → StopsAt m a t
+why-stops {m = m} {t = t} (was-closed e) f g = closed-stops m t e
+why-stops {m = m} {t = t} (was-idle e) f g = idle-stops m t e
+why-stops (at-limit e h) f g = no-way (sym f)
+why-stops {m = m} {t = t} (at-fault {j = j} e h i) f g = fault-stops m t j e i (λ z. g (ap FAULT z))
+why-stops (no-room e h i j) f g = no-way (sym f)
 
--- After an end (CLOSED, IDLE, or a fault other than 30) no call makes a step.
-pub end-stays : (m : Model) (n : ℕ) (r : Room) (s : State) → noEnd (run m n r s .answer) ≡ false → StopsAt m
-    (run m n r s .state)
-end-stays m n r s e = why-stops (run-why m n r s) e
+-- After an end (CLOSED, IDLE, or a fault other than 30) no run makes a step, and each answers the same again.
+pub end-stays : (m : Model) (n : ℕ) (r : Room) (s : State) → noEnd (run m n r s .answer) ≡ false
+    → (run m n r s .answer ≡ FAULT No.STATE → ⊥) → StopsAt m (run m n r s .answer) (run m n r s .state)
+end-stays m n r s e g = why-stops (run-why m n r s) e g
 
 -- A run that does not answer 30 is the run with endless room.
 abbrev Not30 : Ran → Type 0

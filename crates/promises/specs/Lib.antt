@@ -25,3 +25,4 @@ pub mod Weight
 pub mod Left
 pub mod Demand3
 pub mod Promises
+pub mod Same

@@ -13,8 +13,8 @@ use Rattle.semantics.specs.Decode.{accepted, decode}
 use Rattle.semantics.specs.State.{State, Process, fresh, process}
 use Rattle.semantics.specs.Walk.{Next}
 use Rattle.semantics.specs.Step.{step}
-use Rattle.semantics.specs.Sound.{soundIn, sound}
-use Rattle.semantics.specs.Run.{FAULT, Ask, goesOn, before, run, call, noEnd, leaves, stepsOf, limitsOf, noneEnds}
+use Rattle.semantics.specs.Sound.{sound}
+use Rattle.semantics.specs.Run.{FAULT, Ask, goesOn, before, stopped, run, call, noEnd, leaves, stepsOf, limitsOf, noneEnds}
 use Rattle.semantics.specs.Bound.{bound, loops}
 use Rattle.promises.specs.Laws.{AllOf}
 use Rattle.promises.specs.Fit.{Fit}
@@ -29,30 +29,33 @@ use Rattle.promises.specs.Safe.{Safe, step-safe}
 use Rattle.promises.specs.Keep.{al-none, free-or-fine}
 use Rattle.promises.specs.Moves.{proc-at}
 use Rattle.promises.specs.Left.{noTry}
-use Rattle.promises.specs.Ends as E
+use Rattle.promises.specs.Ends.{again}
 use Rattle.promises.specs.Calls as C
 use Rattle.promises.specs.Demand3 as D
 
--- THE TEST of an open run with an accepted model is the test of its state.
-sound-is : (bs : List ℕ) (m : Model) → decode bs ≡ accepted m → (s : State) → sound bs s ≡ soundIn m s
-unfolding sound
-sound-is bs m e s = rw (sound, e)
+-- WHAT HAS ENDED STAYS ENDED, whatever run was handed in: after CLOSED, IDLE or a fault other than 30 every later call, with any
+-- limit and room, makes 0 steps, writes no line, leaves the run as it is and answers the same `again`. With limit 0 a fault is
+-- not tried and the answer is LIMIT; 20 comes before that and stays.
+pub end-stays : (bs : List ℕ) (a : Ask) (s : State) → noEnd (call bs a s .answer) ≡ false → (l : List Ask) (b : Ask)
+    → call bs b (leaves bs l (call bs a s .state))
+    ≡ stopped (again (call bs a s .answer) (b .limit)) (call bs a s .state)
+end-stays = C.ended-stays
 
 module _ (bs : List ℕ) (m : Model) (e : decode bs ≡ accepted m) where
   fit : Fit m
   fit = accepted-fit bs m e
 
   is-sound : (s : State) → sound bs s ≡ true → Sound m s
-  is-sound s h = sound-yes m s (sym (sound-is bs m e s) ∙ h)
+  is-sound s h = sound-yes m s (sym (C.sound-is bs m e s) ∙ h)
 
   -- SOUNDNESS. Fresh is sound.
   pub fresh-is-sound : sound bs (fresh m) ≡ true
-  fresh-is-sound = sound-is bs m e (fresh m) ∙ sound-back m (fresh m) (fresh-sound m fit)
+  fresh-is-sound = C.sound-is bs m e (fresh m) ∙ sound-back m (fresh m) (fresh-sound m fit)
 
   -- A step from a sound state that does not fault leaves a sound state.
   pub step-keeps-sound : (s : State) (n : Next) → sound bs s ≡ true → step m s ≡ ok n → sound bs (n .state) ≡ true
   step-keeps-sound s n h k =
-      sound-is bs m e (n .state) ∙ sound-back m (n .state) (step-ok m fit s (is-sound s h) n k)
+      C.sound-is bs m e (n .state) ∙ sound-back m (n .state) (step-ok m fit s (is-sound s h) n k)
 
   -- A step from a sound state that goes on never faults with 20: its faults are 21 to 29.
   pub step-faults : (s : State) → sound bs s ≡ true → before s ≡ goesOn → Safe (step m s)
@@ -76,17 +79,6 @@ module _ (bs : List ℕ) (m : Model) (e : decode bs ≡ accepted m) where
 
   pub never-20 : (l : List Ask) (a : Ask) → call bs a (leaves bs l (fresh m)) .answer ≡ FAULT No.STATE → ⊥
   never-20 = C.never-20 bs m e
-
-  -- WHAT HAS ENDED STAYS ENDED: after CLOSED, IDLE or a fault other than 30 no call makes a step.
-  pub end-stays : (l : List Ask) (a b : Ask)
-      → noEnd (call bs a (leaves bs l (fresh m)) .answer) ≡ false
-      → (call bs b (call bs a (leaves bs l (fresh m)) .state) .steps ≡ 0)
-      × (call bs b (call bs a (leaves bs l (fresh m)) .state) .state ≡ call bs a (leaves bs l (fresh m)) .state)
-  end-stays l a b f =
-      let s : State = leaves bs l (fresh m) in
-      let t = C.run-sound m fit (a .limit) (a .room) s (C.calls-sound bs m e l) in
-      rw (C.call-is-run bs m e l a, C.call-is bs m e b (run m (a .limit) (a .room) s .state) t)
-      (E.end-stays m (a .limit) (a .room) s (rw (C.call-is-run bs m e l a) at f) (b .limit) (b .room))
 
   -- DEMAND 3: no WHILE, and each START's class body later than the START's block. The steps of all calls together are at most the
   -- bound, whatever its size.

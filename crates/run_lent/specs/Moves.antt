@@ -1,5 +1,5 @@
--- The calls that were made on a run that is kept and lent, as the contract of `move_on` tells each: they compose, each is told
--- in one way only, and from a fresh run on demand 3 holds of what was told. Assumes nothing.
+-- The calls that were made on a run that is kept and lent, as the contract of `move_on` tells each: they compose, and from a
+-- fresh run on demand 3 holds of what was told. Assumes nothing.
 use Prim.Native.Nat.{ℕ, _+_, _/_, _≤_}
 use mathlib.Core.Path.{_≡_, refl, sym, _∙_, ap, subst}
 use mathlib.Core.List.{List, [], _∷_, map}
@@ -20,34 +20,14 @@ use Rattle.row_work.specs.Sized.{IsByte}
 use Rattle.run_limit.specs.declared.Ran.{Ran}
 use Rattle.run_limit.specs.Ran.{answerOf}
 use Rattle.row_struct.specs.declared.State.{State}
-use Rattle.row_struct.specs.State.{rowOf, Full}
+use Rattle.row_struct.specs.State.{rowOf}
 use Rattle.run_row.specs.Call.{Called, asked, callRow, leavesRow, TellsCall}
 use Rattle.run_row.specs.Own.{own-rows}
-use Rattle.run_by_value.specs.declared.Moved.{Moved}
-use Rattle.run_by_value.specs.Moved.{ranOf, TellsMoved}
-use Rattle.run_by_value.specs.Same.{same-moved, same-journal}
 use Rattle.run_lent.specs.Calls.{call-within, calledOn, stepsIn, limitsIn, noneEndsIn, own-none-20, own-view}
 use Rattle.run_lent.specs.Calls.{own-steps-at-most, own-ended-by-the-bound, own-exactly-the-bound}
 use Rattle.run_lent.specs.Shown.{events-shown, living-shown}
 
--- ONE CALL is told in one way only: the answer, the run and the journal that it leaves.
-abbrev movedOf : Ran → State → Moved
-movedOf r u = record { answer = r .answer; steps = r .steps; lines = r .lines; state = u }
-
-module _ (d : Called) (r r′ : Ran) (u u′ : State) (j k k′ : List ℕ) (t : TellsCall d r (rowOf u) j k) (f : Full u)
-    (t′ : TellsCall d r′ (rowOf u′) j k′) (f′ : Full u′) where
-  abbrev one : TellsMoved d (movedOf r u) j k
-  one = record { tells = t; full = f }
-
-  abbrev other : TellsMoved d (movedOf r′ u′) j k′
-  other = record { tells = t′; full = f′ }
-
-  pub same-lent : (r ≡ r′) × ((u ≡ u′) × (k ≡ k′))
-  same-lent =
-      let e = same-moved d (movedOf r u) (movedOf r′ u′) j k k′ one other in
-      (ap ranOf e, (ap (λ m. m .state) e, same-journal d (movedOf r u) (movedOf r′ u′) j k k′ one other))
-
--- Its steps are within the limit, and its lines fit into the journal j.
+-- ONE CALL makes steps within its limit, and its lines fit into the journal j.
 module _ (bs : List ℕ) (limit : ℕ) (j w : List ℕ) {r : Ran} {w′ j′ : List ℕ}
     (t : TellsCall (callRow bs (asked limit j) w) r w′ j j′) where
   pub few-steps : r .steps ≤ limit

@@ -1,3 +1,4 @@
 pub mod Halts
 pub mod Fitted
 pub mod Ran
+pub mod Same
