@@ -9,10 +9,11 @@ use borrow.Author.Tests.{le-leb, eq-eqb}
 use lib.ListN.{length, getD, set, length-set}
 use Rattle.semantics.specs.Words.{keep, less, within}
 use Rattle.semantics.specs.Numbers as No
+use Rattle.semantics.specs.Numbers.{lowest, ofReturns}
 use Rattle.semantics.specs.Model.{Expr, Action, LSET, DO, PUTR, PUTB}
 use Rattle.semantics.specs.State.{State, Process, Notice, returnsR, returnsB, empty, process, put, wake, past, into}
 use Rattle.semantics.specs.State.{with-floor, with-priority, with-locals, with-held, now-closed}
-use Rattle.semantics.specs.Step.{lowest, ofReturns, isReturn}
+use Rattle.semantics.specs.Step.{isReturn}
 use Rattle.promises.specs.Laws.{true-and, less-at}
 use Rattle.promises.specs.Fit.{I32}
 use Rattle.promises.specs.Sound.{Below, slaved, noticed, gives, owes, Fine, NoticeOk, Held}

@@ -10,12 +10,13 @@ use lib.Signed.{nonNeg}
 use borrow.Author.Tests.{le-leb, lt-leb, lt-ltb, le-ltb}
 use Rattle.semantics.specs.Words.{ok, fails, _>>=_, _>>_, need, keep, less}
 use Rattle.semantics.specs.Numbers as No
+use Rattle.semantics.specs.Numbers.{lowest}
 use Rattle.semantics.specs.Model.{Expr, Model}
 use Rattle.semantics.specs.State.{State, Process, returnsR, returnsB, empty, put, wake, past, into}
 use Rattle.semantics.specs.State.{with-floor, with-priority, with-locals, with-held}
 use Rattle.semantics.specs.Value.{eval}
 use Rattle.semantics.specs.Walk.{line, quiet, after}
-use Rattle.semantics.specs.Step.{lowest, isReturn, hold, prio, setLocal, doTimes, putr, putb, trace}
+use Rattle.semantics.specs.Step.{isReturn, hold, prio, setLocal, doTimes, putr, putb, trace}
 use Rattle.base_i32.specs.Code.{valueOf, larger}
 use Rattle.row_lists.specs.Lists.{returned}
 use Rattle.act_alone.proofs.Values.{below-zero, from-zero}

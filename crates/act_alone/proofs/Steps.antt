@@ -6,12 +6,13 @@ use mathlib.Core.Bool.{true, false}
 use lib.ListN.{length, getD, set}
 use Rattle.semantics.specs.Words.{ok, fails, keep, less}
 use Rattle.semantics.specs.Numbers as No
+use Rattle.semantics.specs.Numbers.{lowest}
 use Rattle.semantics.specs.Model.{Expr, Action, Model}
 use Rattle.semantics.specs.State.{State, Process, returnsR, returnsB, empty, process, put, wake, past, into}
 use Rattle.semantics.specs.State.{with-floor, with-priority, with-locals, with-held, now-closed}
 use Rattle.semantics.specs.Value.{eval}
 use Rattle.semantics.specs.Walk.{line}
-use Rattle.semantics.specs.Step.{lowest, isReturn, hold, prio, setLocal, doTimes, putr, putb, trace, close}
+use Rattle.semantics.specs.Step.{isReturn, hold, prio, setLocal, doTimes, putr, putb, trace, close}
 use Rattle.base_i32.specs.Code.{valueOf, outcomeOf, larger}
 use Rattle.base_i32.specs.declared.Value.{Value}
 use Rattle.base_journal.specs.Wrote.{wroteAt}

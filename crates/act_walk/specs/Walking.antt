@@ -8,11 +8,11 @@ use lib.Dec.{eqb}
 use lib.ListN.{length, getD, getElem?, take}
 use lib.IntN.{pos}
 use Rattle.semantics.specs.Numbers as No
+use Rattle.semantics.specs.Numbers.{ofReturns}
 use Rattle.semantics.specs.Model.{Expr, Action, SET, Model}
 use Rattle.semantics.specs.State.{State, Notice, process, wake}
 use Rattle.semantics.specs.Claim.{Offer, asks, Choice, waits, goes, choice, grant}
 use Rattle.semantics.specs.Walk.{Next, Line, line, quiet, after}
-use Rattle.semantics.specs.Step.{ofReturns}
 use Rattle.promises.specs.Fit.{Fit, Nested}
 use Rattle.promises.specs.Sound.{gives, NoticeOk, Held}
 use Rattle.base_journal.specs.Wrote.{wroteAt}

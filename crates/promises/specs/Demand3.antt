@@ -62,10 +62,10 @@ module _ (m : Model) where
       let i₁ = ih .0 in let i₂ = ih .1 in
       (omega arith, omega arith)
 
-  fresh-total : Forward m → length (m .entities) ≤ 64 → (total m (fresh m) ≡ bound m) × (length (fresh m .blocked) ≡ 0)
+  fresh-total : Forward m → length (m .entities) ≤ No.entities → (total m (fresh m) ≡ bound m) × (length (fresh m .blocked) ≡ 0)
   unfolding fresh bound total
   fresh-total t h =
-      let l : length (m .entities) + 0 ≤ 64 = omega arith in
+      let l : length (m .entities) + 0 ≤ No.entities = omega arith in
       let z = begin-all-total t (m .entities) (bare m) l in
       (z .0 ∙ zero-add _, z .1)
 

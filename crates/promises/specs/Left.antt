@@ -14,9 +14,10 @@ use lib.Signed.{leZ}
 use lib.ListN.{length, getD, set, drop, length-append, length-set}
 use Rattle.semantics.specs.Words.{if_then_else_, Outcome, ok, fails, isEmpty, all, largest, more, less}
 use Rattle.semantics.specs.Numbers as No
+use Rattle.semantics.specs.Numbers.{lowest, ofReturns}
 use Rattle.semantics.specs.Model.{Action, HOLD, PRIO, TRACE, SET, LSET, DO, PUTR, PUTB, PUTS, BECOME, REQ, TRY, WHILE, START}
 use Rattle.semantics.specs.Model.{CLOSE, Expr, Item, get, condition, resource, bin, sync, Claim, Branch, Share, Model, block}
-use Rattle.semantics.specs.Model.{body}
+use Rattle.semantics.specs.Model.{body, kindOf}
 use Rattle.semantics.specs.State.{State, Process, Frame, Waiter, Event, Notice, wakes, returnsR, returnsB, Floor, empty, held}
 use Rattle.semantics.specs.State.{nobody, process, put, freePlace, living, at-clock, with-last, with-globals, with-free}
 use Rattle.semantics.specs.State.{with-bins, with-waiting, with-floor, with-events, with-priority, with-locals, with-held}
@@ -26,10 +27,10 @@ use Rattle.semantics.specs.Value.{eval}
 use Rattle.semantics.specs.Claim.{takeItem, takeAll, Offer, Then, pass, enterBlock, offers, standsIn, asks, goes, choice}
 use Rattle.semantics.specs.Claim.{follow, grant}
 use Rattle.semantics.specs.Walk.{Next, quiet, walkOn, walk}
-use Rattle.semantics.specs.Step.{lowest, ofReturns, kept, handed, freed, stay, freeAll, comesBack, leave, ends, exhausted, hold}
+use Rattle.semantics.specs.Step.{kept, handed, freed, stay, freeAll, comesBack, leave, ends, exhausted, hold}
 use Rattle.semantics.specs.Step.{prio, setGlobal, setLocal, doTimes, notify, putr, putb, become, puts, start, inFront, request}
 use Rattle.semantics.specs.Step.{trace, close, act, moves, occurs, next, step}
-use Rattle.semantics.specs.Bound.{kindOf, weigh, weight}
+use Rattle.semantics.specs.Bound.{weigh, weight}
 use Rattle.promises.specs.Laws.{no-way, and-true, if-has, not-some, Good, good, stopped, good-bind, good-need, good-map}
 use Rattle.promises.specs.Laws.{AllOf, all-map, all-get, all-hold, drop-some, drop-none, drop-next, over, over-insert}
 use Rattle.promises.specs.Laws.{over-set, length-insert, over-still}

@@ -9,6 +9,7 @@ use mathlib.Core.Bool.{Bool, true, false}
 use lib.Dec.{eqb, ltb}
 use lib.ListN.{length}
 use Rattle.semantics.specs.Words.{Outcome, ok, isEmpty}
+use Rattle.semantics.specs.Numbers as No
 use Rattle.semantics.specs.Model.{Model, Action, HOLD, PRIO, TRACE, SET, LSET, DO, PUTR, PUTB, PUTS, BECOME, REQ, TRY, WHILE}
 use Rattle.semantics.specs.Model.{START, CLOSE}
 use Rattle.semantics.specs.State.{State, Process, Frame, Slave, Waiter, Event, Notice, wakes, returnsR, returnsB, Floor}
@@ -67,8 +68,8 @@ FewLines o = Good (λ n. length (n .lines) ≤ 65) o
 
 -- As many as can wait or be owned.
 record Listed (s : State) : Type 0 where
-  blocked-few : length (s .blocked) ≤ 64
-  slaves-few : (p : ℕ) → length (process s p .slaves) ≤ 64
+  blocked-few : length (s .blocked) ≤ No.places
+  slaves-few : (p : ℕ) → length (process s p .slaves) ≤ No.places
 
 module _ (m : Model) (s : State) (h : Listed s) (p : ℕ) where
   abbrev q : Process
@@ -140,9 +141,9 @@ module _ (m : Model) where
   pub step-lines : (s : State) → Sound m s → (n : Next) → step m s ≡ ok n → length (n .lines) ≤ 65
   step-lines s h n e =
       let fits = lists-fit m s h in
-      let each = longest (λ q. length (q .slaves)) 64 (s .processes) (fits .slaves-fit) in
+      let each = longest (λ q. length (q .slaves)) No.places (s .processes) (fits .slaves-fit) in
       let few : Listed s = record {
         blocked-few = fits .blocked-fit;
-        slaves-few = λ p. all-get (λ q. length (q .slaves) ≤ 64) (s .processes) p nobody each (omega arith);
+        slaves-few = λ p. all-get (λ q. length (q .slaves) ≤ No.places) (s .processes) p nobody each (omega arith);
       } in
       good-out (λ n. length (n .lines) ≤ 65) (step m s) n e (few-lines s few)

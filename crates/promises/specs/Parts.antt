@@ -14,6 +14,7 @@ use lib.IntN.{ℤ, pos, negsuc, negℤ, _+ℤ_, _-ℤ_, _*ℤ_}
 use lib.Signed.{mag, leZ}
 use Rattle.semantics.specs.Words.{if_then_else_, Outcome, _>>=_, any, keep, more, less}
 use Rattle.semantics.specs.Numbers as No
+use Rattle.semantics.specs.Numbers.{lowest}
 use Rattle.semantics.specs.Model.{Expr, literal, global, local, add, subtract, multiply, lesser, greater, negate, theClock}
 use Rattle.semantics.specs.Model.{Share, Model, block, body, Action, HOLD, PRIO, TRACE, SET, LSET, DO, PUTR, PUTB, PUTS, BECOME}
 use Rattle.semantics.specs.Model.{REQ, TRY, WHILE, START, CLOSE}
@@ -22,7 +23,7 @@ use Rattle.semantics.specs.State.{with-priority, with-locals, with-held, with-s
 use Rattle.semantics.specs.Value.{isI32, inRange, eval}
 use Rattle.semantics.specs.Claim.{standsIn}
 use Rattle.semantics.specs.Walk.{Next}
-use Rattle.semantics.specs.Step.{lowest, isReturn, handed, kept, freed, stay, comesBack, leave, exhausted, act, moves}
+use Rattle.semantics.specs.Step.{isReturn, handed, kept, freed, stay, comesBack, leave, exhausted, act, moves}
 use Rattle.semantics.specs.Sound.{enters, entersAt, namedThere, chained}
 use Rattle.promises.specs.Laws.{and-true, true-and, or-left, or-right, if-has, not-some, Good, good, good-then, good-need}
 use Rattle.promises.specs.Laws.{AllOf, all-map, all-both, all-set, all-get, all-at, all-replicate, Ordered, some-in, over}

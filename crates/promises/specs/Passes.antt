@@ -10,6 +10,7 @@ use borrow.Author.Tests.{ltb-true, eqb-true}
 use lib.ListN.{length, getD, drop}
 use Rattle.semantics.specs.Words.{if_then_else_, Outcome, ok, fails, Passed, passed, _>>_, need, all}
 use Rattle.semantics.specs.Numbers as No
+use Rattle.semantics.specs.Kinds as K
 use Rattle.semantics.specs.Model.{Model}
 use Rattle.semantics.specs.Bytes.{u16, Raw, raw, recordsFrom}
 use Rattle.semantics.specs.Record.{Row, table, rowIn, rowOf, inSet, sized, valid, twice, bodyJudged}
@@ -39,7 +40,7 @@ then-is (accepted a) f b e = (a, refl, e)
 pub accepted-by : (bs : List ℕ) (m : Model) → decode bs ≡ accepted m
     → Passes (recordsFrom 0 bs) × (gather (recordsFrom 0 bs) .model ≡ m)
 unfolding decode
-accepted-by bs m e = go (leb (length bs) 65_535) e
+accepted-by bs m e = go (leb (length bs) No.file) e
   where
     rs : List Raw
     rs = recordsFrom 0 bs
@@ -91,14 +92,14 @@ pub record Named (n : List ℕ) (own : ℕ) (r : Row) (bs : List ℕ) : Type 0 w
 judged-by : (seen : List ℕ) (r : Row) (bs : List ℕ)
     → _≡_ {A = Outcome Passed} (do
       need No.KIND (ltb 0 (r .group))
-      need No.PLACE (placed (r .group) (getD seen 6 0))
+      need No.PLACE (placed (r .group) (getD seen K.BLOCK 0))
       need No.MANY (ltb (getD seen (r .group) 0) (r .most))
       bodyJudged r bs) (ok passed)
     → Judged seen r bs
 unfolding bodyJudged
 judged-by seen r bs e =
     let a = needed-then No.KIND (ltb 0 (r .group)) _ e in
-    let b = needed-then No.PLACE (placed (r .group) (getD seen 6 0)) _ (a .1) in
+    let b = needed-then No.PLACE (placed (r .group) (getD seen K.BLOCK 0)) _ (a .1) in
     let c = needed-then No.MANY (ltb (getD seen (r .group) 0) (r .most)) _ (b .1) in
     let d = needed-then No.SIZE (leb (r .head) (length bs) && sized (r .tail) (drop (r .head) bs)) _ (c .1) in
     let t = needed-two No.VALUE No.TWICE _ _ (d .1) in
@@ -143,9 +144,9 @@ module _ (at k : ℕ) (bs : List ℕ) (rs : List Raw) where
       (named-by n own (rowOf k) bs (a .0), a .1)
 
   pub third-on : (m : Model) → thirdPass m (raw at k bs ∷ rs) ≡ accepted passed
-      → (eqb k 5 && ltb 8 (depth m (u16 bs 0)) ≡ false) × (thirdPass m rs ≡ accepted passed)
+      → (eqb k K.CLASS && ltb No.depth (depth m (u16 bs 0)) ≡ false) × (thirdPass m rs ≡ accepted passed)
   unfolding thirdPass
-  third-on m e = go (eqb k 5 && ltb 8 (depth m (u16 bs 0))) e
+  third-on m e = go (eqb k K.CLASS && ltb No.depth (depth m (u16 bs 0))) e
     where
       go : (b : Bool) → (if b then refused No.DEEP at else thirdPass m rs) ≡ accepted passed
           → (b ≡ false) × (thirdPass m rs ≡ accepted passed)

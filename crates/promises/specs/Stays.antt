@@ -13,6 +13,7 @@ use lib.IntN.{ℤ, natAbs}
 use lib.Signed.{leZ, nonNeg}
 use Rattle.semantics.specs.Words.{if_then_else_, Outcome, ok, _>>=_, all, keep, isEmpty, more, less, within}
 use Rattle.semantics.specs.Numbers as No
+use Rattle.semantics.specs.Numbers.{lowest, ofReturns}
 use Rattle.semantics.specs.Model.{Expr, Share, Model, Action, HOLD, PRIO, TRACE, SET, LSET, DO, PUTR, PUTB, PUTS, BECOME, REQ}
 use Rattle.semantics.specs.Model.{TRY, WHILE, START, CLOSE}
 use Rattle.semantics.specs.State.{State, Process, Frame, Waiter, Event, Notice, wakes, returnsR, returnsB, Floor, empty, held}
@@ -22,7 +23,7 @@ use Rattle.semantics.specs.State.{with-held, with-slaves, with-frames, wake, jo
 use Rattle.semantics.specs.Value.{eval}
 use Rattle.semantics.specs.Claim.{Offer, offers, standsIn, goes, choice, grant}
 use Rattle.semantics.specs.Walk.{Next, quiet}
-use Rattle.semantics.specs.Step.{lowest, ofReturns, isReturn, handed, kept, freed, stay, freeAll, leave, ends, exhausted, hold}
+use Rattle.semantics.specs.Step.{isReturn, handed, kept, freed, stay, freeAll, leave, ends, exhausted, hold}
 use Rattle.semantics.specs.Step.{prio, setGlobal, setLocal, doTimes, notify, putr, putb, become, puts, start, inFront, request}
 use Rattle.semantics.specs.Step.{while, trace, close, act, moves, occurs, next, step}
 use Rattle.semantics.specs.Sound.{chained, asking, asksAt}

@@ -85,6 +85,8 @@ abbrev pub standsIn : Model → List Frame → Option Action
 standsIn m [] = none
 standsIn m (f ∷ fs) = getElem? (block m (f .block)) (f .at)
 
+-- `none` isn't reached in a sound run, whose blocked processes stand at a REQ or TRY (`blockedStand`; it stays so by promises'
+-- `step-keeps-sound`).
 abbrev pub offersAt : Option Action → List Offer
 offersAt none = []
 offersAt (some a) = offers a

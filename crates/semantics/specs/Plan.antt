@@ -3,6 +3,7 @@
 use Prim.Native.Nat.{ℕ}
 use mathlib.Core.List.{List, map}
 use lib.IntN.{ℤ}
+use Rattle.semantics.specs.Numbers as No
 use Rattle.semantics.specs.State.{fresh}
 use Rattle.semantics.specs.Walk.{Line}
 use Rattle.semantics.specs.Run.{Answer, Ran, endless, run}
@@ -34,4 +35,4 @@ planFor limit bs =
 
 unfoldable pub plan : List ℕ → Printed
 unfolding planFor
-plan bs = planFor 1_000_000 bs
+plan bs = planFor No.steps bs

@@ -6,6 +6,8 @@ use mathlib.Core.List.{List, [], _∷_, _++_, map}
 use lib.ListN.{length}
 use lib.IntN.{ℤ, pos, negsuc}
 use Rattle.semantics.specs.Words.{collect}
+use Rattle.semantics.specs.Numbers as No
+use Rattle.semantics.specs.Kinds as K
 use Rattle.semantics.specs.Model.{Model}
 use Rattle.semantics.specs.State.{fresh, process}
 use Rattle.semantics.specs.Run.{IDLE, LIMIT, FAULT, endless, run}
@@ -19,32 +21,32 @@ abbrev rec : ℕ → List ℕ → List ℕ
 rec k bs = le16 (2 + length bs) ++ le16 k ++ bs
 
 abbrev RES : ℕ → List ℕ
-RES n = rec 1 (le32 n)
+RES n = rec K.RES (le32 n)
 
 abbrev CLASS : ℕ → List ℕ
-CLASS b = rec 5 (le16 b)
+CLASS b = rec K.CLASS (le16 b)
 
 abbrev BLOCK : List ℕ
-BLOCK = rec 6 []
+BLOCK = rec K.BLOCK []
 
 abbrev ENTITY : ℕ → ℕ → List ℕ
-ENTITY c t = rec 7 (le16 c ++ le32 t)
+ENTITY c t = rec K.ENTITY (le16 c ++ le32 t)
 
 abbrev HOLD : ℤ → List ℕ
-HOLD v = rec 16 (le16 0 ++ le32 (twos v))
+HOLD v = rec K.HOLD (le16 0 ++ le32 (twos v))
 
 abbrev PRIO : ℤ → List ℕ
-PRIO v = rec 17 (le16 0 ++ le32 (twos v))
+PRIO v = rec K.PRIO (le16 0 ++ le32 (twos v))
 
 abbrev DO : ℕ → ℕ → List ℕ
-DO n b = rec 20 (le16 n ++ le16 b)
+DO n b = rec K.DO (le16 n ++ le16 b)
 
 abbrev PUTR : ℕ → ℕ → List ℕ
-PUTR i n = rec 21 (le16 i ++ le32 n)
+PUTR i n = rec K.PUTR (le16 i ++ le32 n)
 
 -- A claim of 1 of each resource listed.
 abbrev REQ : List ℕ → List ℕ
-REQ is = rec 25 (le16 (length is) ++ collect (λ i. 0 ∷ 0 ∷ le16 i ++ le32 1) is)
+REQ is = rec K.REQ (le16 (length is) ++ collect (λ i. 0 ∷ 0 ∷ le16 i ++ le32 1) is)
 
 -- One process, which does what the actions say.
 one : List ℕ → List ℕ
@@ -124,7 +126,7 @@ abbrev stops : ℕ → List ℕ → Printed → Case
 stops n bs p = record { look = prints n; file = bs; shows = printed p }
 
 abbrev toEnd : List ℕ → Printed → Case
-toEnd bs p = stops 1_000_000 bs p
+toEnd bs p = stops No.steps bs p
 
 abbrev weight0 : List ℕ → ℕ → Case
 weight0 bs n = record { look = weighs; file = bs; shows = weighing n }
@@ -187,8 +189,8 @@ pub the-twelve-plans : map (λ r. seen (r .cases)) thePlans ≡ map (λ r. said 
 unfolding shown thePlans
 the-twelve-plans = refl
 
--- FURTHER MODELS: a run that has ended answers so also where its limit is reached, as the empty file with limit 0; plan 8 with two
--- waiters; plan 9 with W: A comes back first at 15, the walk passes Z, since B is still out, and goes on to W.
+-- FURTHER MODELS: a run that has ended answers so also where its limit is reached, as the empty file with limit 0; plan 8 with
+-- two waiters; plan 9 with W: A comes back first at 15, the walk passes Z, since B is still out, and goes on to W.
 abbrev waitersLines : List Told
 waitersLines =
     (0, 1, 4, pos 0) ∷ (0, 2, 3, pos 0)

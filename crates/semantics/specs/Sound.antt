@@ -17,7 +17,7 @@ use Rattle.semantics.specs.State.{State, Process, Frame, Waiter, Event, 
 use Rattle.semantics.specs.State.{held, process, isFree, sooner, higher}
 use Rattle.semantics.specs.Value.{isI32}
 use Rattle.semantics.specs.Claim.{standsIn}
-use Rattle.semantics.specs.Step.{lowest, ofReturns, isReturn}
+use Rattle.semantics.specs.Step.{isReturn}
 
 abbrev pub same : ℤ → ℤ → Bool
 same x y = leZ x y && leZ y x
@@ -60,12 +60,12 @@ shaped m s =
 -- EVERY NUMBER IS IN ITS RANGE: a process's priority from -10,000, a return notice's exactly -15,000.
 abbrev pub processInRange : Model → Process → Bool
 processInRange m q =
-    leZ lowest (q .priority)
+    leZ No.lowest (q .priority)
     && (isI32 (q .priority) && (all isI32 (q .locals) && all (λ x. ltb (x .of) (m .syncs)) (q .slaves)))
 
 abbrev pub returnInRange : ℕ → ℕ → ℤ → ℕ → ℕ → ℕ → Bool
 returnInRange known last x i n g =
-    same x ofReturns && (ltb i known && (within 1 1_000_000 n && within 1 last g))
+    same x No.ofReturns && (ltb i known && (within 1 No.amount n && within 1 last g))
 
 abbrev pub eventInRange : Model → State → Event → Bool
 eventInRange m s e =

@@ -7,7 +7,7 @@ use mathlib.Core.Bool.{Bool, true, false, _&&_}
 use mathlib.Core.Option.{none, some}
 use lib.Dec.{eqb, leb, ltb}
 use lib.ListN.{length, getD, set}
-use lib.IntN.{ℤ, pos, negsuc, natAbs}
+use lib.IntN.{pos, natAbs}
 use lib.Signed.{leZ, nonNeg}
 use Rattle.semantics.specs.Words.{if_then_else_, Outcome, ok, fails, _>>=_, _>>_, need, all, keep, isEmpty, more, less}
 use Rattle.semantics.specs.Numbers as No
@@ -21,13 +21,6 @@ use Rattle.semantics.specs.State.{begin, living}
 use Rattle.semantics.specs.Value.{eval}
 use Rattle.semantics.specs.Claim.{offers, standsIn, waits, goes, choice, grant}
 use Rattle.semantics.specs.Walk.{Next, line, quiet, after, walk}
-
--- The lowest priority of a process, -10,000, and that of a return notice, -15,000.
-abbrev pub lowest : ℤ
-lowest = negsuc 9_999
-
-abbrev pub ofReturns : ℤ
-ofReturns = negsuc 14_999
 
 abbrev pub isReturn : Event → Bool
 isReturn e = elim (e .notice) [ wakes p ↦ false | returnsR i n g ↦ true | returnsB i n g ↦ true ]
@@ -76,6 +69,7 @@ comesBack (WHILE b c) = true
 comesBack (START c t h) = false
 comesBack CLOSE = false
 
+-- `none` isn't reached in a sound run, where the inner block is named where the outer one stands (`namedThere`).
 abbrev pub leave : Model → List Frame → List Frame
 leave m fs = elim (standsIn m fs) [ none ↦ fs | some a ↦ if comesBack a then fs else onward fs ]
 
@@ -93,7 +87,8 @@ module _ (m : Model) (s : State) (p : ℕ) (q : Process) where
     need No.OWING (all (λ n. eqb n 0) (q .held) && isEmpty (q .slaves))
     ok (after (line s (q .number) No.ended (pos 0)) (quiet (off nobody)))
 
-  -- Innermost block exhausted: one round less; go round again, or leave the block.
+  -- Innermost block exhausted: one round less; go round again, or leave the block. One in no block doesn't have the floor in a
+  -- sound run: 20 isn't reached (promises' `step-faults`).
   unfoldable pub exhausted : List Frame → Outcome Next
   unfolding ends onward
   exhausted [] = fails No.STATE
@@ -116,7 +111,7 @@ module _ (m : Model) (s : State) (p : ℕ) (q : Process) where
   unfolding eval past
   prio e = do
     v ← eval s q e
-    ok (quiet (on (past (with-priority q (if leZ lowest v then v else lowest)))))
+    ok (quiet (on (past (with-priority q (if leZ No.lowest v then v else No.lowest)))))
 
   -- SET, LSET; SET then walks.
   unfoldable pub setGlobal : ℕ → Expr → Outcome Next
@@ -142,7 +137,7 @@ module _ (m : Model) (s : State) (p : ℕ) (q : Process) where
   unfolding past enter
   notify n r = do
     need No.NOTICES (ltb (length (keep isReturn (s .events))) No.returns)
-    ok (quiet (with-events (on (past r)) (enter (record { time = s .clock; priority = ofReturns; notice = n }) (s .events))))
+    ok (quiet (with-events (on (past r)) (enter (record { time = s .clock; priority = No.ofReturns; notice = n }) (s .events))))
 
   unfoldable pub putr : ℕ → ℕ → Outcome Next
   unfolding notify
@@ -249,7 +244,8 @@ occurs m s (returnsB i n g) = do
   need No.BIN (leb (getD (s .bins) i 0 + n) No.fullBin)
   ok (after (line s g No.binReturned (pos i)) (walk m (with-bins s (more (s .bins) i n))))
 
--- If nobody has the floor, the first of the event list takes it and the clock becomes its time.
+-- If nobody has the floor, the first of the event list takes it and the clock becomes its time. With an empty list the run
+-- answers IDLE before it (`before`): 20 isn't reached (promises' `step-faults`).
 unfoldable pub next : Model → State → List Event → Outcome Next
 unfolding occurs
 next m s [] = fails No.STATE
