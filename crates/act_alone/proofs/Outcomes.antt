@@ -8,7 +8,7 @@ use lib.ListN.{length, getD, set}
 use lib.IntN.{ℤ, natAbs}
 use lib.Signed.{nonNeg}
 use borrow.Author.Tests.{le-leb, lt-leb, lt-ltb, le-ltb}
-use Rattle.semantics.specs.Words.{ok, fails, _>>=_, _>>_, need, keep, less}
+use Rattle.semantics.specs.Words.{ok, fails, _>>=_, _>>_, need, keep, fewer}
 use Rattle.semantics.specs.Numbers as No
 use Rattle.semantics.specs.Numbers.{lowest}
 use Rattle.semantics.specs.Model.{Expr, Model}
@@ -107,7 +107,7 @@ module _ (m : Model) (s : State) (p : ℕ) (q : Process) where
       putr-full h = rw (le-leb n (getD (q .held) i 0) enough, full h)
 
       pub putr-goes : k < 64 → putr m s p q i n
-          ≡ ok (quiet (returned (returnsR i n (q .number)) (put p (past (with-held q (less (q .held) i n))) s)))
+          ≡ ok (quiet (returned (returnsR i n (q .number)) (put p (past (with-held q (fewer (q .held) i n))) s)))
       unfolding putr _>>_ need
       putr-goes h = rw (le-leb n (getD (q .held) i 0) enough, few h)
 

@@ -4,7 +4,7 @@ use mathlib.Core.Path.{_≡_, refl, _∙_, ap}
 use mathlib.Core.List.{List, [], _∷_}
 use mathlib.Core.Bool.{true, false}
 use lib.ListN.{length, getD, set}
-use Rattle.semantics.specs.Words.{ok, fails, keep, less}
+use Rattle.semantics.specs.Words.{ok, fails, keep, fewer}
 use Rattle.semantics.specs.Numbers as No
 use Rattle.semantics.specs.Numbers.{lowest}
 use Rattle.semantics.specs.Model.{Expr, Action, Model}
@@ -130,10 +130,10 @@ module _ {w : List ℕ} {p : ℕ} {x : Action} (v : On w p x) where
       putr-faults h = rw (putr-full model state p who i n k many enough h) (refl, (refl, refl))
 
       pub given-back : k < 64 → {g : ℕ} → g ≡ who .number → {w′ : List ℕ}
-          → w′ ≡ workOf (returned (returnsR i n g) (put p (past (with-held who (less (who .held) i n))) state))
+          → w′ ≡ workOf (returned (returnsR i n g) (put p (past (with-held who (fewer (who .held) i n))) state))
           → SteppedQuietly (putr model state p who i n) 0 0 w w′
       given-back h d f =
-          let r : Process = past (with-held who (less (who .held) i n)) in
+          let r : Process = past (with-held who (fewer (who .held) i n)) in
           rw (putr-goes model state p who i n k many enough h)
           (refl, (refl, (f ∙ ap (λ j. workOf (returned (returnsR i n j) (put p r state))) d, refl)))
 

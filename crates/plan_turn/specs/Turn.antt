@@ -4,7 +4,7 @@ use mathlib.Core.Path.{_≡_}
 use mathlib.Core.List.{List, map}
 use Rattle.semantics.specs.Run.{Answer, CLOSED, IDLE, LIMIT, FAULT, Ran}
 use Rattle.semantics.specs.Journal.{written}
-use Rattle.semantics.specs.Plan.{told}
+use Rattle.semantics.specs.Plan.{printLine}
 use Rattle.row_work.specs.Work.{workOf}
 use Rattle.plan_text.specs.Text.{linesText}
 use Rattle.plan_text.specs.Put.{Front}
@@ -23,4 +23,4 @@ pub record AnsweredAs (d : Ran) (r : Answered) (w′ j j′ out out′ : List �
   pub steps-are : r .steps ≡ d .steps
   pub state-is : w′ ≡ workOf (d .state)
   pub journal-is : j′ ≡ written (d .lines) j
-  pub text-is : Front (linesText (map told (d .lines))) out out′ (r .bytes)
+  pub text-is : Front (linesText (map printLine (d .lines))) out out′ (r .bytes)

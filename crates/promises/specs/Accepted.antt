@@ -46,7 +46,8 @@ module _ (m : Model) where
 
   abbrev Makes : ℕ → Gathered → Type 0
   Makes own g =
-      AllOf (λ n. n ≤ No.amount) (g .model .totals) × AllOf (λ n. n ≤ No.amount) (g .model .amounts) × AllOf I32 (g .model .vars)
+      AllOf (λ n. n ≤ No.topAmount) (g .model .totals) × AllOf (λ n. n ≤ No.topAmount) (g .model .amounts)
+      × AllOf I32 (g .model .vars)
       × AllOf (λ b. b < length (m .blocks)) (g .model .classes)
       × AllOf (EntityFit m) (g .model .entities) × AllOf (ActAt own) (g .loose)
       × AllFrom BlockAt own (g .model .blocks)
@@ -139,30 +140,30 @@ links rs p = record { later = at; there = made rs p .3 }
 -- nothing.
 module _ (m : Model) where
   abbrev Shallow : Gathered → Type 0
-  Shallow g = AllOf (λ b. depth m b ≤ No.depth) (g .model .classes)
+  Shallow g = AllOf (λ b. depth m b ≤ No.deepest) (g .model .classes)
 
   abbrev RowShallow : Row → Type 0
   RowShallow r =
-      (bs : List ℕ) (g : Gathered) → eqb (r .kind) K.CLASS && ltb No.depth (depth m (u16 bs 0)) ≡ false → Shallow g
+      (bs : List ℕ) (g : Gathered) → eqb (r .kind) K.CLASS && ltb No.deepest (depth m (u16 bs 0)) ≡ false → Shallow g
       → Shallow (adds g (r .says bs))
 
   rows-shallow : AllOf RowShallow table
   rows-shallow =
-      plain & plain & plain & plain & (λ bs g d h. (ltb-false No.depth (depth m (u16 bs 0)) d, h)) & plain & plain
+      plain & plain & plain & plain & (λ bs g d h. (ltb-false No.deepest (depth m (u16 bs 0)) d, h)) & plain & plain
       & plain & plain & plain & plain & plain & plain & plain & plain & plain & plain & plain & plain & plain & plain & plain
       & tt
     where
       plain : {A : Type 0} (bs : List ℕ) (g : Gathered) → A → Shallow g → Shallow g
       plain bs g d h = h
 
-  one-class : (k : ℕ) (bs : List ℕ) (g : Gathered) → 0 < rowOf k .group → eqb k K.CLASS && ltb No.depth (depth m (u16 bs 0)) ≡ false
-      → Shallow g → Shallow (adds g (rowOf k .says bs))
+  one-class : (k : ℕ) (bs : List ℕ) (g : Gathered) → 0 < rowOf k .group
+      → eqb k K.CLASS && ltb No.deepest (depth m (u16 bs 0)) ≡ false → Shallow g → Shallow (adds g (rowOf k .says bs))
   one-class k bs g l d h =
       let r = its-row RowShallow rows-shallow k l in
-      r .0 bs g (subst (λ x. eqb x K.CLASS && ltb No.depth (depth m (u16 bs 0)) ≡ false) (r .1) d) h
+      r .0 bs g (subst (λ x. eqb x K.CLASS && ltb No.deepest (depth m (u16 bs 0)) ≡ false) (r .1) d) h
 
 shallow : (m : Model) (seen x : List ℕ) (rs : List Raw) → firstPass seen rs ≡ accepted x → thirdPass m rs ≡ accepted passed
-    → AllOf (λ b. depth m b ≤ No.depth) (gather rs .model .classes)
+    → AllOf (λ b. depth m b ≤ No.deepest) (gather rs .model .classes)
 unfolding gather firstPass
 shallow m seen x [] p r = tt
 shallow m seen x (torn at ∷ rs) p r = not-accepted p

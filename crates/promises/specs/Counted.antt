@@ -30,8 +30,8 @@ groupOf (ACTION a) = K.ACTION
 
 abbrev pub limits : List ℕ
 limits =
-    0 ∷ No.things ∷ No.things ∷ No.things ∷ No.things ∷ No.classes ∷ No.blocks ∷ No.entities
-    ∷ 0 ∷ 0 ∷ 0 ∷ 0 ∷ 0 ∷ 0 ∷ 0 ∷ 0 ∷ No.actions ∷ []
+    0 ∷ No.mostThings ∷ No.mostThings ∷ No.mostThings ∷ No.mostThings ∷ No.mostClasses ∷ No.mostBlocks ∷ No.mostEntities
+    ∷ 0 ∷ 0 ∷ 0 ∷ 0 ∷ 0 ∷ 0 ∷ 0 ∷ 0 ∷ No.mostActions ∷ []
 
 -- Every row says entries of its group, the counts have its group, its limit is its group's, and it opens a block exactly if its
 -- group does.

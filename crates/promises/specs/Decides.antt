@@ -13,7 +13,7 @@ use Rattle.semantics.specs.Words.{if_then_else_, all, isEmpty, keep}
 use Rattle.semantics.specs.Numbers as No
 use Rattle.semantics.specs.Numbers.{lowest, ofReturns}
 use Rattle.semantics.specs.Model.{Model}
-use Rattle.semantics.specs.State.{State, Process, Frame, Event, Notice, wakes, returnsR, returnsB, Waiter, Floor, empty, held}
+use Rattle.semantics.specs.State.{State, Process, Frame, Event, Notice, wakes, returnsR, returnsB, Waiter, Floor, empty, heldBy}
 use Rattle.semantics.specs.State.{nobody, process, isFree, with-frames}
 use Rattle.semantics.specs.Step.{isReturn}
 use Rattle.semantics.specs.Sound as Test
@@ -207,7 +207,7 @@ module _ (s : State) where
 
       floor : (f : Floor) → over (once k) (Test.onFloor f) ≡ onFloor k f
       floor empty = refl
-      floor (held p) = omega arith
+      floor (heldBy p) = omega arith
 
   abbrev Once : ℕ → Type 0
   Once = InOne (s .events) (s .waiting) (s .processes) (s .blocked) (λ k. onFloor k (s .floor))

@@ -13,7 +13,7 @@ use Rattle.semantics.specs.Numbers as No
 use Rattle.semantics.specs.Model.{Model, Action, HOLD, PRIO, TRACE, SET, LSET, DO, PUTR, PUTB, PUTS, BECOME, REQ, TRY, WHILE}
 use Rattle.semantics.specs.Model.{START, CLOSE}
 use Rattle.semantics.specs.State.{State, Process, Frame, Slave, Waiter, Event, Notice, wakes, returnsR, returnsB, Floor}
-use Rattle.semantics.specs.State.{empty, held, nobody, process, with-floor, with-events, at-clock, wake}
+use Rattle.semantics.specs.State.{empty, heldBy, nobody, process, with-floor, with-events, at-clock, wake}
 use Rattle.semantics.specs.Value.{eval}
 use Rattle.semantics.specs.Claim.{offers, Choice, asks, choice, grant}
 use Rattle.semantics.specs.Walk.{Next, walkOn, walk}
@@ -123,7 +123,7 @@ module _ (m : Model) where
   occurs-lines : (s : State) → Listed s → (n : Notice) → FewLines (occurs m s n)
   unfolding occurs
   occurs-lines s h (wakes p) =
-      moves-lines m (with-floor s (held p)) (record { blocked-few = h .blocked-few; slaves-few = h .slaves-few }) p
+      moves-lines m (with-floor s (heldBy p)) (record { blocked-few = h .blocked-few; slaves-few = h .slaves-few }) p
   occurs-lines s h (returnsR i n g) = good (walked m s h 0 _ refl)
   occurs-lines s h (returnsB i n g) = good-need _ _ λ a. good (walked m s h 0 _ refl)
 
@@ -131,8 +131,8 @@ module _ (m : Model) where
   unfolding step next
   few-lines s h = go (s .floor) (s .events)
     where
-      go : (f : Floor) (es : List Event) → FewLines (elim f [ held p ↦ moves m s p | empty ↦ next m s es ])
-      go (held p) es = moves-lines m s h p
+      go : (f : Floor) (es : List Event) → FewLines (elim f [ heldBy p ↦ moves m s p | empty ↦ next m s es ])
+      go (heldBy p) es = moves-lines m s h p
       go empty [] = stopped
       go empty (x ∷ xs) =
           occurs-lines (with-events (at-clock s (x .time)) xs)

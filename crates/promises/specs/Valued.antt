@@ -62,7 +62,7 @@ itemAt x k =
     (condition (u16 x 2) (relationOf (u8 x 1)) (i32 x 4))
 
 abbrev validAt : List ℕ → ℕ → Bool
-validAt x k = (leb k 2 && (eqb (u8 x 1) 0 && within 1 No.amount (u32 x 4))) || (eqb k 3 && within 1 6 (u8 x 1))
+validAt x k = (leb k 2 && (eqb (u8 x 1) 0 && within 1 No.topAmount (u32 x 4))) || (eqb k 3 && within 1 6 (u8 x 1))
 
 no-clash : (x y : List ℕ) (k l : ℕ) → leb k 2 && (eqb k l && eqb (u16 x 2) (u16 y 2)) ≡ false → Apart (itemAt x k) (itemAt y l)
 no-clash x y zero zero e = e
@@ -80,22 +80,22 @@ no-clash x y (suc (suc zero)) (suc (suc (suc l))) e = refl
 no-clash x y (suc (suc (suc k))) l e = refl
 
 -- a thing is claimed in an amount from 1 on
-amount : (x : List ℕ) → (eqb (u8 x 1) 0 && within 1 No.amount (u32 x 4)) || false ≡ true → Within 1 No.amount (u32 x 4)
+amount : (x : List ℕ) → (eqb (u8 x 1) 0 && within 1 No.topAmount (u32 x 4)) || false ≡ true → Within 1 No.topAmount (u32 x 4)
 amount x e =
-    or-true (eqb (u8 x 1) 0 && within 1 No.amount (u32 x 4)) false e (Within 1 No.amount (u32 x 4))
+    or-true (eqb (u8 x 1) 0 && within 1 No.topAmount (u32 x 4)) false e (Within 1 No.topAmount (u32 x 4))
     (λ f. says-within .yes (and-true (eqb (u8 x 1) 0) _ f .1)) (λ f. no-way f)
 
 -- past the kinds of things there is one of conditions
 at-3 : (x : List ℕ) (k : ℕ) → 3 ≤ k → validAt x k ≡ true → k ≡ 3
 at-3 x k h e =
-    or-true (leb k 2 && (eqb (u8 x 1) 0 && within 1 No.amount (u32 x 4))) _ e (k ≡ 3)
+    or-true (leb k 2 && (eqb (u8 x 1) 0 && within 1 No.topAmount (u32 x 4))) _ e (k ≡ 3)
     (λ f. let l = leb-true k 2 (and-true (leb k 2) _ f .0) in absurd (omega arith))
     (λ f. eqb-true k 3 (and-true (eqb k 3) _ f .0))
 
 -- AN ENTRY that fits. A class body also nests 8 blocks at most.
 abbrev pub EntryFit : Model → Entry → Type 0
-EntryFit m (RES n) = n ≤ No.amount
-EntryFit m (BIN n) = n ≤ No.amount
+EntryFit m (RES n) = n ≤ No.topAmount
+EntryFit m (BIN n) = n ≤ No.topAmount
 EntryFit m SYNC = Unit {0}
 EntryFit m (VAR v) = I32 v
 EntryFit m (CLASS b) = b < length (m .blocks)
@@ -167,7 +167,7 @@ module _ (n : List ℕ) (g : Gathered) (c : (j : ℕ) → getD n j 0 ≡ getD (c
 
   -- Claims, and what a START hands over.
   abbrev ListFit : {B : Type 0} → (B → Type 0) → (B → B → Type 0) → List B → Type 0
-  ListFit P R xs = (length xs ≤ No.items) × AllOf P xs × Ordered R xs
+  ListFit P R xs = (length xs ≤ No.mostItems) × AllOf P xs × Ordered R xs
 
   list-fits : {B : Type 0} (p : Part) (f : List ℕ → B) (P : B → Type 0) (R : B → B → Type 0)
       → ((x : List ℕ) → partValid p x ≡ true → partKnown p n x ≡ true → P (f x))
@@ -176,8 +176,8 @@ module _ (n : List ℕ) (g : Gathered) (c : (j : ℕ) → getD n j 0 ≡ getD (c
   unfolding tailKnown listValid listTwice
   list-fits p f P R g h bs t =
       let xs : List (List ℕ) = partsOf p bs in
-      let a = and-true (leb (u16 bs 0) No.items) _ (t .0) in
-      let l = leb-true (u16 bs 0) No.items (a .0) in
+      let a = and-true (leb (u16 bs 0) No.mostItems) _ (t .0) in
+      let l = leb-true (u16 bs 0) No.mostItems (a .0) in
       let b = all-both _ _ xs (all-hold (partValid p) xs (a .1)) (all-hold (partKnown p n) xs (t .2)) in (
         omega (arith, length-map xs f, parts-many (partSize p) (u16 bs 0) (drop 2 bs)),
         all-mapped (λ x. (partValid p x ≡ true) × (partKnown p n x ≡ true)) P f (λ x k. g x (k .0) (k .1)) xs b,
@@ -217,12 +217,12 @@ module _ (n : List ℕ) (g : Gathered) (c : (j : ℕ) → getD n j 0 ≡ getD (c
       ((there K.BLOCK (u16 b 0) (k₂ .0), claim-fits (drop 2 b) (v₁ .0, t₁ .0, k₂ .1)), each-branch xs (v₁ .1) (t₁ .1) (k₁ .1))
 
   branches-fit : (bs : List ℕ) → Told branches bs
-      → Within 1 No.branches (length (branchesIn bs)) × AllOf (BranchFit m) (branchesIn bs)
+      → Within 1 No.mostBranches (length (branchesIn bs)) × AllOf (BranchFit m) (branchesIn bs)
   unfolding tailKnown branchesIn
   branches-fit bs t =
       let xs : List (List ℕ) = branchesFrom (u16 bs 0) (drop 2 bs) in
-      let a = and-true (within 1 No.branches (u16 bs 0)) _ (t .0) in
-      let w : Within 1 No.branches (u16 bs 0) = says-within .yes (a .0) in
+      let a = and-true (within 1 No.mostBranches (u16 bs 0)) _ (t .0) in
+      let w : Within 1 No.mostBranches (u16 bs 0) = says-within .yes (a .0) in
       (omega (arith, length-map xs branchOf, branches-many (u16 bs 0) (drop 2 bs)), each-branch xs (a .1) (t .1) (t .2))
 
   -- THE ROWS, in the table's order: s is that the field is in its set, k that it is known, t what the tail says.

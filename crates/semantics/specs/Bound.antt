@@ -90,4 +90,4 @@ pub data Bounded : Type 0 where
 
 unfoldable pub boundIs : Model → Bounded
 unfolding bound
-boundIs m = if loops m then NONE else if leb (bound m) No.bound then AT (bound m) else OVER
+boundIs m = if loops m then NONE else if leb (bound m) No.largestBound then AT (bound m) else OVER

@@ -190,21 +190,21 @@ module _ (m : Model) where
   thirdPass [] = accepted passed
   thirdPass (torn at ∷ rs) = refused No.SHORT at
   thirdPass (raw at k bs ∷ rs) =
-      if eqb k K.CLASS && ltb No.depth (depth (u16 bs 0)) then refused No.DEEP at else thirdPass rs
+      if eqb k K.CLASS && ltb No.deepest (depth (u16 bs 0)) then refused No.DEEP at else thirdPass rs
 
-abbrev pub andThen : {A B : Type 0} → Checked A → (A → Checked B) → Checked B
-andThen (refused n p) f = refused n p
-andThen (accepted a) f = f a
+abbrev pub ifAccepted : {A B : Type 0} → Checked A → (A → Checked B) → Checked B
+ifAccepted (refused n p) f = refused n p
+ifAccepted (accepted a) f = f a
 
 -- Over 65,535 bytes: 4 at place 0, first of all.
 unfoldable pub decode : List ℕ → Checked Model
 unfolding recordsFrom firstPass gather secondPass thirdPass _>>=_ _>>_ need
 decode bs =
-    elim (leb (length bs) No.file) [
+    elim (leb (length bs) No.longestFile) [
       | false ↦ refused No.MANY 0
       | true ↦
           let rs : List Raw = recordsFrom 0 bs in
           let m : Model = gather rs .model in
-          andThen (firstPass noneSeen rs) λ n.
-          andThen (secondPass n 0 rs) λ x. andThen (thirdPass m rs) λ y. accepted m
+          ifAccepted (firstPass noneSeen rs) λ n.
+          ifAccepted (secondPass n 0 rs) λ x. ifAccepted (thirdPass m rs) λ y. accepted m
     ]

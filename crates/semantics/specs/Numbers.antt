@@ -90,8 +90,8 @@ binReturned = 6
 abbrev pub waitingAsSlave : ℕ
 waitingAsSlave = 7
 
-abbrev pub freed : ℕ
-freed = 8
+abbrev pub slaveFreed : ℕ
+slaveFreed = 8
 
 abbrev pub traced : ℕ
 traced = 9
@@ -100,43 +100,43 @@ abbrev pub closed : ℕ
 closed = 10
 
 -- At most, of a model file: its bytes; each of RES, BIN, SYNC and VAR; CLASS, BLOCK, ENTITY; actions.
-abbrev pub file : ℕ
-file = 65_535
+abbrev pub longestFile : ℕ
+longestFile = 65_535
 
-abbrev pub things : ℕ
-things = 32
+abbrev pub mostThings : ℕ
+mostThings = 32
 
-abbrev pub classes : ℕ
-classes = 64
+abbrev pub mostClasses : ℕ
+mostClasses = 64
 
-abbrev pub blocks : ℕ
-blocks = 256
+abbrev pub mostBlocks : ℕ
+mostBlocks = 256
 
-abbrev pub entities : ℕ
-entities = 64
+abbrev pub mostEntities : ℕ
+mostEntities = 64
 
-abbrev pub actions : ℕ
-actions = 1_024
+abbrev pub mostActions : ℕ
+mostActions = 1_024
 
 -- .. a total, an offset or an amount; the nodes of an expression; the items of a claim or of a START's list; the branches of a
 -- TRY; the slaves that a PUTS frees; the blocks that nest.
-abbrev pub amount : ℕ
-amount = 1_000_000
+abbrev pub topAmount : ℕ
+topAmount = 1_000_000
 
-abbrev pub nodes : ℕ
-nodes = 16
+abbrev pub mostNodes : ℕ
+mostNodes = 16
 
-abbrev pub items : ℕ
-items = 4
+abbrev pub mostItems : ℕ
+mostItems = 4
 
-abbrev pub branches : ℕ
-branches = 4
+abbrev pub mostBranches : ℕ
+mostBranches = 4
 
-abbrev pub slaves : ℕ
-slaves = 64
+abbrev pub mostSlaves : ℕ
+mostSlaves = 64
 
-abbrev pub depth : ℕ
-depth = 8
+abbrev pub deepest : ℕ
+deepest = 8
 
 -- The lowest priority of a process, and that of a return notice.
 abbrev pub lowest : ℤ
@@ -165,8 +165,8 @@ returns = 64
 abbrev pub locals : ℕ
 locals = 8
 
-abbrev pub bound : ℕ
-bound = 4_294_967_295
+abbrev pub largestBound : ℕ
+largestBound = 4_294_967_295
 
-abbrev pub steps : ℕ
-steps = 1_000_000
+abbrev pub planSteps : ℕ
+planSteps = 1_000_000

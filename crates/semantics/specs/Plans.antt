@@ -14,7 +14,7 @@ use Rattle.semantics.specs.Run.{IDLE, LIMIT, FAULT, endless, run}
 use Rattle.semantics.specs.Bound.{AT, weight}
 use Rattle.semantics.specs.Journal.{le16, le32, twos}
 use Rattle.semantics.specs.Decode.{refused, accepted, decode}
-use Rattle.semantics.specs.Plan.{Told, Printed, refusedAt, ran, planFor}
+use Rattle.semantics.specs.Plan.{PrintedLine, Printed, refusedAt, ran, planFor}
 
 -- Records, written.
 abbrev rec : ℕ → List ℕ → List ℕ
@@ -126,7 +126,7 @@ abbrev stops : ℕ → List ℕ → Printed → Case
 stops n bs p = record { look = prints n; file = bs; shows = printed p }
 
 abbrev toEnd : List ℕ → Printed → Case
-toEnd bs p = stops No.steps bs p
+toEnd bs p = stops No.planSteps bs p
 
 abbrev weight0 : List ℕ → ℕ → Case
 weight0 bs n = record { look = weighs; file = bs; shows = weighing n }
@@ -135,14 +135,14 @@ abbrev priority1 : List ℕ → ℤ → Case
 priority1 bs v = record { look = priority 1; file = bs; shows = has v }
 
 -- The lines of plans 2 and 9.
-abbrev exampleLines : List Told
+abbrev exampleLines : List PrintedLine
 exampleLines =
     (0, 1, 4, pos 0) ∷ (0, 2, 3, pos 0)
     ∷ (3, 1, 2, pos 0) ∷ (3, 1, 5, pos 0) ∷ (3, 2, 4, pos 0)
     ∷ (6, 2, 2, pos 0) ∷ (6, 2, 5, pos 0)
     ∷ []
 
-abbrev threeLines : List Told
+abbrev threeLines : List PrintedLine
 threeLines =
     (0, 1, 4, pos 0) ∷ (0, 2, 3, pos 0)
     ∷ (1, 3, 3, pos 0)
@@ -191,7 +191,7 @@ the-twelve-plans = refl
 
 -- FURTHER MODELS: a run that has ended answers so also where its limit is reached, as the empty file with limit 0; plan 8 with
 -- two waiters; plan 9 with W: A comes back first at 15, the walk passes Z, since B is still out, and goes on to W.
-abbrev waitersLines : List Told
+abbrev waitersLines : List PrintedLine
 waitersLines =
     (0, 1, 4, pos 0) ∷ (0, 2, 3, pos 0)
     ∷ (1, 3, 3, pos 0)
@@ -200,7 +200,7 @@ waitersLines =
     ∷ (10, 2, 4, pos 0) ∷ (10, 2, 2, pos 0) ∷ (10, 2, 5, pos 0)
     ∷ []
 
-abbrev fourLines : List Told
+abbrev fourLines : List PrintedLine
 fourLines =
     (0, 1, 4, pos 0) ∷ (0, 2, 3, pos 0)
     ∷ (1, 3, 3, pos 0)

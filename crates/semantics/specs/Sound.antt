@@ -14,7 +14,7 @@ use Rattle.semantics.specs.Model.{Model, block, Action, HOLD, PRIO, TRAC
 use Rattle.semantics.specs.Model.{TRY, WHILE, START, CLOSE}
 use Rattle.semantics.specs.Decode.{refused, accepted, decode}
 use Rattle.semantics.specs.State.{State, Process, Frame, Waiter, Event, Notice, wakes, returnsR, returnsB, Floor, empty}
-use Rattle.semantics.specs.State.{held, process, isFree, sooner, higher}
+use Rattle.semantics.specs.State.{heldBy, process, isFree, sooner, higher}
 use Rattle.semantics.specs.Value.{isI32}
 use Rattle.semantics.specs.Claim.{standsIn}
 use Rattle.semantics.specs.Step.{isReturn}
@@ -65,7 +65,7 @@ processInRange m q =
 
 abbrev pub returnInRange : ℕ → ℕ → ℤ → ℕ → ℕ → ℕ → Bool
 returnInRange known last x i n g =
-    same x No.ofReturns && (ltb i known && (within 1 No.amount n && within 1 last g))
+    same x No.ofReturns && (ltb i known && (within 1 No.topAmount n && within 1 last g))
 
 abbrev pub eventInRange : Model → State → Event → Bool
 eventInRange m s e =
@@ -138,7 +138,7 @@ ownNumbers s = ofLiving (ownNumber s) s
 -- AND IS IN EXACTLY ONE of floor, event list, blocked list, a waiting list or one owner's slaves.
 abbrev pub onFloor : Floor → List ℕ
 onFloor empty = []
-onFloor (held p) = p ∷ []
+onFloor (heldBy p) = p ∷ []
 
 abbrev pub woken : Notice → List ℕ
 woken (wakes p) = p ∷ []

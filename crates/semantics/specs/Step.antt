@@ -9,11 +9,11 @@ use lib.Dec.{eqb, leb, ltb}
 use lib.ListN.{length, getD, set}
 use lib.IntN.{pos, natAbs}
 use lib.Signed.{leZ, nonNeg}
-use Rattle.semantics.specs.Words.{if_then_else_, Outcome, ok, fails, _>>=_, _>>_, need, all, keep, isEmpty, more, less}
+use Rattle.semantics.specs.Words.{if_then_else_, Outcome, ok, fails, _>>=_, _>>_, need, all, keep, isEmpty, more, fewer}
 use Rattle.semantics.specs.Numbers as No
 use Rattle.semantics.specs.Model.{Expr, Share, Model, Action, HOLD, PRIO, TRACE, SET, LSET, DO, PUTR, PUTB, PUTS, BECOME}
 use Rattle.semantics.specs.Model.{REQ, TRY, WHILE, START, CLOSE}
-use Rattle.semantics.specs.State.{State, Process, Frame, Slave, Waiter, Event, empty, held, Notice, wakes, returnsR}
+use Rattle.semantics.specs.State.{State, Process, Frame, Slave, Waiter, Event, empty, heldBy, Notice, wakes, returnsR}
 use Rattle.semantics.specs.State.{returnsB, nobody, process, put, at-clock, now-closed, with-globals, with-free}
 use Rattle.semantics.specs.State.{with-bins, with-waiting, with-floor, with-events, with-blocked, with-priority}
 use Rattle.semantics.specs.State.{with-locals, with-held, with-slaves, with-frames, enter, wake, join, onward, past, into}
@@ -32,7 +32,7 @@ handed (x ∷ xs) l = handed xs (more l (x .of) (x .amount))
 
 unfoldable pub kept : List Share → List ℕ → List ℕ
 kept [] l = l
-kept (x ∷ xs) l = kept xs (less l (x .of) (x .amount))
+kept (x ∷ xs) l = kept xs (fewer l (x .of) (x .amount))
 
 -- The first n slaves of sync i in the order claimed, and those that stay.
 unfoldable pub freed : ℕ → ℕ → List Slave → List ℕ
@@ -49,7 +49,7 @@ stay i (suc n) (x ∷ xs) = elim (eqb (x .of) i) [ true ↦ stay i n xs | false 
 unfoldable pub freeAll : ℕ → List ℕ → State → Next
 unfolding wake
 freeAll i [] s = quiet s
-freeAll i (r ∷ rs) s = after (line s (process s r .number) No.freed (pos i)) (freeAll i rs (wake (s .clock) r s))
+freeAll i (r ∷ rs) s = after (line s (process s r .number) No.slaveFreed (pos i)) (freeAll i rs (wake (s .clock) r s))
 
 -- A block that is left: the process goes past the action that named it, but meets a WHILE again.
 abbrev pub comesBack : Action → Bool
@@ -143,7 +143,7 @@ module _ (m : Model) (s : State) (p : ℕ) (q : Process) where
   unfolding notify
   putr i n = do
     need No.HELD (leb n (getD (q .held) i 0))
-    notify (returnsR i n (q .number)) (with-held q (less (q .held) i n))
+    notify (returnsR i n (q .number)) (with-held q (fewer (q .held) i n))
 
   unfoldable pub putb : ℕ → ℕ → Outcome Next
   unfolding notify
@@ -237,7 +237,7 @@ moves m s p =
 -- A return notice, when first, adds the amount, walks and is gone.
 unfoldable pub occurs : Model → State → Notice → Outcome Next
 unfolding moves walk
-occurs m s (wakes p) = moves m (with-floor s (held p)) p
+occurs m s (wakes p) = moves m (with-floor s (heldBy p)) p
 occurs m s (returnsR i n g) =
     ok (after (line s g No.resourceReturned (pos i)) (walk m (with-free s (more (s .free) i n))))
 occurs m s (returnsB i n g) = do
@@ -253,4 +253,4 @@ next m s (e ∷ es) = occurs m (with-events (at-clock s (e .time)) es) (e .notic
 
 unfoldable pub step : Model → State → Outcome Next
 unfolding moves next _>>=_ _>>_ need
-step m s = elim (s .floor) [ held p ↦ moves m s p | empty ↦ next m s (s .events) ]
+step m s = elim (s .floor) [ heldBy p ↦ moves m s p | empty ↦ next m s (s .events) ]
