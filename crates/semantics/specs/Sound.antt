@@ -10,8 +10,9 @@ use lib.IntN.{ℤ, pos}
 use lib.Signed.{leZ}
 use Rattle.semantics.specs.Words.{if_then_else_, all, any, keep, isEmpty, ordered, collect, sum, upTo, within}
 use Rattle.semantics.specs.Numbers as No
+use Rattle.semantics.specs.Kinds as K
 use Rattle.semantics.specs.Model.{Model, block, Action, HOLD, PRIO, TRACE, SET, LSET, DO, PUTR, PUTB, PUTS, BECOME, REQ}
-use Rattle.semantics.specs.Model.{TRY, WHILE, START, CLOSE}
+use Rattle.semantics.specs.Model.{TRY, WHILE, START, CLOSE, kindOf}
 use Rattle.semantics.specs.Decode.{refused, accepted, decode}
 use Rattle.semantics.specs.State.{State, Process, Frame, Waiter, Event, Notice, wakes, returnsR, returnsB, Floor, empty}
 use Rattle.semantics.specs.State.{heldBy, process, isFree, sooner, higher}
@@ -162,21 +163,7 @@ inOne s =
 
 -- A BLOCKED ONE STANDS AT A REQ OR TRY.
 abbrev pub asking : Action → Bool
-asking (HOLD e) = false
-asking (PRIO e) = false
-asking (TRACE e) = false
-asking (SET i e) = false
-asking (LSET i e) = false
-asking (DO n k) = false
-asking (PUTR i n) = false
-asking (PUTB i n) = false
-asking (PUTS i n) = false
-asking (BECOME i) = false
-asking (REQ c) = true
-asking (TRY bs) = true
-asking (WHILE k c) = false
-asking (START c t h) = false
-asking CLOSE = false
+asking a = eqb (kindOf a) K.REQ || eqb (kindOf a) K.TRY
 
 abbrev pub asksAt : Option Action → Bool
 asksAt none = false

@@ -11,8 +11,9 @@ use lib.IntN.{pos, natAbs}
 use lib.Signed.{leZ, nonNeg}
 use Rattle.semantics.specs.Words.{if_then_else_, Outcome, ok, fails, _>>=_, _>>_, need, all, keep, isEmpty, more, fewer}
 use Rattle.semantics.specs.Numbers as No
+use Rattle.semantics.specs.Kinds as K
 use Rattle.semantics.specs.Model.{Expr, Share, Model, Action, HOLD, PRIO, TRACE, SET, LSET, DO, PUTR, PUTB, PUTS, BECOME}
-use Rattle.semantics.specs.Model.{REQ, TRY, WHILE, START, CLOSE}
+use Rattle.semantics.specs.Model.{REQ, TRY, WHILE, START, CLOSE, kindOf}
 use Rattle.semantics.specs.State.{State, Process, Frame, Slave, Waiter, Event, empty, heldBy, Notice, wakes, returnsR}
 use Rattle.semantics.specs.State.{returnsB, nobody, process, put, at-clock, now-closed, with-globals, with-free}
 use Rattle.semantics.specs.State.{with-bins, with-waiting, with-floor, with-events, with-blocked, with-priority}
@@ -53,21 +54,7 @@ freeAll i (r ∷ rs) s = after (line s (process s r .number) No.slaveFreed (pos 
 
 -- A block that is left: the process goes past the action that named it, but meets a WHILE again.
 abbrev pub comesBack : Action → Bool
-comesBack (HOLD e) = false
-comesBack (PRIO e) = false
-comesBack (TRACE e) = false
-comesBack (SET i e) = false
-comesBack (LSET i e) = false
-comesBack (DO n b) = false
-comesBack (PUTR i n) = false
-comesBack (PUTB i n) = false
-comesBack (PUTS i n) = false
-comesBack (BECOME i) = false
-comesBack (REQ c) = false
-comesBack (TRY bs) = false
-comesBack (WHILE b c) = true
-comesBack (START c t h) = false
-comesBack CLOSE = false
+comesBack a = eqb (kindOf a) K.WHILE
 
 -- `none` isn't reached in a sound run, where the inner block is named where the outer one stands (`namedThere`).
 abbrev pub leave : Model → List Frame → List Frame
