@@ -7,12 +7,13 @@ use mathlib.Core.Bool.{true}
 use lib.Dec.{eqb, leb}
 use borrow.Author.Tests.{le-leb, eq-eqb}
 use lib.ListN.{length, getD, set, length-set}
-use Rattle.semantics.specs.Words.{keep, less, within}
+use Rattle.semantics.specs.Words.{keep, fewer, within}
 use Rattle.semantics.specs.Numbers as No
+use Rattle.semantics.specs.Numbers.{lowest, ofReturns}
 use Rattle.semantics.specs.Model.{Expr, Action, LSET, DO, PUTR, PUTB}
 use Rattle.semantics.specs.State.{State, Process, Notice, returnsR, returnsB, empty, process, put, wake, past, into}
 use Rattle.semantics.specs.State.{with-floor, with-priority, with-locals, with-held, now-closed}
-use Rattle.semantics.specs.Step.{lowest, ofReturns, isReturn}
+use Rattle.semantics.specs.Step.{isReturn}
 use Rattle.promises.specs.Laws.{true-and, less-at}
 use Rattle.promises.specs.Fit.{I32}
 use Rattle.promises.specs.Sound.{Below, slaved, noticed, gives, owes, Fine, NoticeOk, Held}
@@ -236,7 +237,7 @@ module _ {w : List ℕ} {p i n : ℕ} (v : On w p (PUTR i n)) where
 
   module _ (enough : n ≤ getD (q v .held) i 0) where
     abbrev pub given-up : Process → Process
-    given-up r = with-held r (less (r .held) i n)
+    given-up r = with-held r (fewer (r .held) i n)
 
     pub given-first : past (given-up (q v)) ≡ given-up (past (q v))
     unfolding past

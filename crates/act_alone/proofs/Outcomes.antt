@@ -8,14 +8,15 @@ use lib.ListN.{length, getD, set}
 use lib.IntN.{ℤ, natAbs}
 use lib.Signed.{nonNeg}
 use borrow.Author.Tests.{le-leb, lt-leb, lt-ltb, le-ltb}
-use Rattle.semantics.specs.Words.{ok, fails, _>>=_, _>>_, need, keep, less}
+use Rattle.semantics.specs.Words.{ok, fails, _>>=_, _>>_, need, keep, fewer}
 use Rattle.semantics.specs.Numbers as No
+use Rattle.semantics.specs.Numbers.{lowest}
 use Rattle.semantics.specs.Model.{Expr, Model}
 use Rattle.semantics.specs.State.{State, Process, returnsR, returnsB, empty, put, wake, past, into}
 use Rattle.semantics.specs.State.{with-floor, with-priority, with-locals, with-held}
 use Rattle.semantics.specs.Value.{eval}
 use Rattle.semantics.specs.Walk.{line, quiet, after}
-use Rattle.semantics.specs.Step.{lowest, isReturn, hold, prio, setLocal, doTimes, putr, putb, trace}
+use Rattle.semantics.specs.Step.{isReturn, hold, prio, setLocal, doTimes, putr, putb, trace}
 use Rattle.base_i32.specs.Code.{valueOf, larger}
 use Rattle.row_lists.specs.Lists.{returned}
 use Rattle.act_alone.proofs.Values.{below-zero, from-zero}
@@ -106,7 +107,7 @@ module _ (m : Model) (s : State) (p : ℕ) (q : Process) where
       putr-full h = rw (le-leb n (getD (q .held) i 0) enough, full h)
 
       pub putr-goes : k < 64 → putr m s p q i n
-          ≡ ok (quiet (returned (returnsR i n (q .number)) (put p (past (with-held q (less (q .held) i n))) s)))
+          ≡ ok (quiet (returned (returnsR i n (q .number)) (put p (past (with-held q (fewer (q .held) i n))) s)))
       unfolding putr _>>_ need
       putr-goes h = rw (le-leb n (getD (q .held) i 0) enough, few h)
 

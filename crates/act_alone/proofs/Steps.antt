@@ -4,14 +4,15 @@ use mathlib.Core.Path.{_≡_, refl, _∙_, ap}
 use mathlib.Core.List.{List, [], _∷_}
 use mathlib.Core.Bool.{true, false}
 use lib.ListN.{length, getD, set}
-use Rattle.semantics.specs.Words.{ok, fails, keep, less}
+use Rattle.semantics.specs.Words.{ok, fails, keep, fewer}
 use Rattle.semantics.specs.Numbers as No
+use Rattle.semantics.specs.Numbers.{lowest}
 use Rattle.semantics.specs.Model.{Expr, Action, Model}
 use Rattle.semantics.specs.State.{State, Process, returnsR, returnsB, empty, process, put, wake, past, into}
 use Rattle.semantics.specs.State.{with-floor, with-priority, with-locals, with-held, now-closed}
 use Rattle.semantics.specs.Value.{eval}
 use Rattle.semantics.specs.Walk.{line}
-use Rattle.semantics.specs.Step.{lowest, isReturn, hold, prio, setLocal, doTimes, putr, putb, trace, close}
+use Rattle.semantics.specs.Step.{isReturn, hold, prio, setLocal, doTimes, putr, putb, trace, close}
 use Rattle.base_i32.specs.Code.{valueOf, outcomeOf, larger}
 use Rattle.base_i32.specs.declared.Value.{Value}
 use Rattle.base_journal.specs.Wrote.{wroteAt}
@@ -129,10 +130,10 @@ module _ {w : List ℕ} {p : ℕ} {x : Action} (v : On w p x) where
       putr-faults h = rw (putr-full model state p who i n k many enough h) (refl, (refl, refl))
 
       pub given-back : k < 64 → {g : ℕ} → g ≡ who .number → {w′ : List ℕ}
-          → w′ ≡ workOf (returned (returnsR i n g) (put p (past (with-held who (less (who .held) i n))) state))
+          → w′ ≡ workOf (returned (returnsR i n g) (put p (past (with-held who (fewer (who .held) i n))) state))
           → SteppedQuietly (putr model state p who i n) 0 0 w w′
       given-back h d f =
-          let r : Process = past (with-held who (less (who .held) i n)) in
+          let r : Process = past (with-held who (fewer (who .held) i n)) in
           rw (putr-goes model state p who i n k many enough h)
           (refl, (refl, (f ∙ ap (λ j. workOf (returned (returnsR i n j) (put p r state))) d, refl)))
 

@@ -10,8 +10,7 @@ use borrow.Author.Tests.{lt-ltb, le-ltb, eqb-true}
 use lib.ListN.{length, getD, getElem?}
 use Rattle.semantics.specs.Words.{if_then_else_, ok, fails, _>>_, need, all, isEmpty}
 use Rattle.semantics.specs.Numbers as No
-use Rattle.semantics.specs.Model.{Action, HOLD, PRIO, TRACE, SET, LSET, DO, PUTR, PUTB, PUTS, BECOME, REQ, TRY, WHILE, START}
-use Rattle.semantics.specs.Model.{CLOSE, Model, block}
+use Rattle.semantics.specs.Model.{Action, Model, block}
 use Rattle.semantics.specs.State.{State, Process, Frame, empty, nobody, process, put, onward, past}
 use Rattle.semantics.specs.State.{with-floor, with-frames}
 use Rattle.semantics.specs.Claim.{standsIn}
@@ -26,7 +25,7 @@ use Rattle.promises.specs.Takes.{goes-into}
 use Rattle.base_i32.specs.Code.{valueOf}
 use Rattle.base_journal.specs.Wrote.{wroteAt}
 use Rattle.file_index.specs.Ties.{kindAt, ActionAt}
-use Rattle.file_actions.specs.Kinds.{kindOf, kind-of}
+use Rattle.file_actions.specs.Kinds.{kind-of}
 use Rattle.row_work.specs.Work.{workOf, FrameSized, Sized, Doing}
 use Rattle.row_process.specs.Process.{Shown, Lives, Inner, changed, restarted, again, outside, out}
 use Rattle.row_process.specs.Put.{process-sized, put-there, put-again}
@@ -91,24 +90,6 @@ pub some-around : {f : Frame} (fs : List Frame) {gs : List Frame} {n : ℕ} → 
 some-around [] e d h = absurd (h (d ∙ ap length e))
 some-around (g ∷ fs) e d h = refl
 
--- A WHILE is met again, and no other action.
-pub comes-back : (a : Action) → eqb (kindOf a) 27 ≡ comesBack a
-comes-back (HOLD e) = refl
-comes-back (PRIO e) = refl
-comes-back (TRACE e) = refl
-comes-back (SET i e) = refl
-comes-back (LSET i e) = refl
-comes-back (DO n b) = refl
-comes-back (PUTR i n) = refl
-comes-back (PUTB i n) = refl
-comes-back (PUTS i n) = refl
-comes-back (BECOME i) = refl
-comes-back (REQ c) = refl
-comes-back (TRY bs) = refl
-comes-back (WHILE b c) = refl
-comes-back (START c t h) = refl
-comes-back CLOSE = refl
-
 -- WHERE THE PROCESS STANDS, by the map.
 module _ {bs map w : List ℕ} {p : ℕ} (v : Back bs map w p) where
   abbrev pub its-run : Runs w
@@ -160,7 +141,7 @@ module _ {bs map w : List ℕ} {p : ℕ} (v : Back bs map w p) where
         its-record = rw (place-is, first-is) (v .acting .running .mapped .acts-at b j (v .action) stands-there)
 
         pub its-kind : {n : ℕ} → n ≡ kindAt bs k → eqb n 27 ≡ comesBack (v .action)
-        its-kind e = ap (λ i. eqb i 27) (e ∙ kind-of its-record) ∙ comes-back (v .action)
+        its-kind e = ap (λ i. eqb i 27) (e ∙ kind-of its-record)
 
 -- THE CLASS BODY IS LEFT.
 abbrev pub looked-at : {w : List ℕ} {p : ℕ} (v : Ends w p) → Shown w (λ s. p < 64)

@@ -6,7 +6,7 @@ use mathlib.Core.Bool.{false}
 use mathlib.Core.Option.{none}
 use Rattle.semantics.specs.Words.{isEmpty}
 use Rattle.semantics.specs.Model.{Action}
-use Rattle.semantics.specs.State.{Frame, held, process}
+use Rattle.semantics.specs.State.{Frame, heldBy, process}
 use Rattle.semantics.specs.Claim.{standsIn}
 use Rattle.act_floor.specs.Acting.{Open, Acting}
 use Rattle.act_floor.specs.Running.{Runs}
@@ -14,20 +14,20 @@ use Rattle.act_floor.specs.Running.{Runs}
 -- The process on the floor has done the last action of its innermost block;
 pub record Exhausted (bs map w : List ℕ) (p : ℕ) : Type 0 where
   pub running : Open bs map w
-  pub on-floor : running .is .floor ≡ held p
+  pub on-floor : running .is .floor ≡ heldBy p
   pub stands : standsIn (running .model) (process (running .is) p .frames) ≡ none
 
 -- or it leaves that block, which is its class body;
 pub record Ends (w : List ℕ) (p : ℕ) : Type 0 where
   pub running : Runs w
-  pub on-floor : running .is .floor ≡ held p
+  pub on-floor : running .is .floor ≡ heldBy p
   pub in-body : Frame
   pub frames-are : process (running .is) p .frames ≡ in-body ∷ []
 
 -- or which stands within others;
 pub record Leaves (bs map w : List ℕ) (p : ℕ) : Type 0 where
   pub running : Open bs map w
-  pub on-floor : running .is .floor ≡ held p
+  pub on-floor : running .is .floor ≡ heldBy p
   pub innermost : Frame
   pub around : List Frame
   pub frames-are : process (running .is) p .frames ≡ innermost ∷ around

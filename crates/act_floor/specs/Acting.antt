@@ -6,7 +6,7 @@ use mathlib.Core.Option.{some}
 use lib.ListN.{length}
 use Rattle.semantics.specs.Words.{Outcome, ok, fails}
 use Rattle.semantics.specs.Model.{Action, Model}
-use Rattle.semantics.specs.State.{State, held, process}
+use Rattle.semantics.specs.State.{State, heldBy, process}
 use Rattle.semantics.specs.Claim.{standsIn}
 use Rattle.semantics.specs.Walk.{Next}
 use Rattle.semantics.specs.Run.{goesOn, before}
@@ -36,7 +36,7 @@ pub record Going (bs map w : List ℕ) : Type 0 where
 -- In it the process in place p has the floor and stands at the action x.
 pub record Acting (bs map w : List ℕ) (p : ℕ) (x : Action) : Type 0 where
   pub running : Open bs map w
-  pub on-floor : running .is .floor ≡ held p
+  pub on-floor : running .is .floor ≡ heldBy p
   pub stands : standsIn (running .model) (process (running .is) p .frames) ≡ some x
 
 -- Room for a line for each of the 64 places and two more.

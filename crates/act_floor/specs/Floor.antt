@@ -4,7 +4,7 @@ use native.Mathlib.Omega.{arith}
 use mathlib.Core.Path.{_≡_, _∙_, ap}
 use mathlib.Core.List.{List}
 use lib.ListN.{length}
-use Rattle.semantics.specs.State.{State, held, process}
+use Rattle.semantics.specs.State.{State, heldBy, process}
 use Rattle.promises.specs.Laws.{once, once-self}
 use Rattle.promises.specs.Sound.{onFloor, Fine, Held}
 use Rattle.promises.specs.Moves.{hand-fine}
@@ -31,7 +31,7 @@ module _ {w : List ℕ} (r : Runs w) where
   still-sized t h o = held-sized (r .model) (r .fits) (r .nested) (r .few-rounds) t h o
 
   -- THE FLOOR is had by the process in place p.
-  module _ (p : ℕ) (e : r .is .floor ≡ held p) where
+  module _ (p : ℕ) (e : r .is .floor ≡ heldBy p) where
     abbrev pub hand : ℕ → ℕ
     hand k = onFloor k (r .is .floor)
 

@@ -5,7 +5,7 @@ use mathlib.Core.List.{List}
 use mathlib.Core.Option.{some}
 use Rattle.semantics.specs.Words.{Outcome}
 use Rattle.semantics.specs.Model.{Action, Model}
-use Rattle.semantics.specs.State.{State, Process, held, process}
+use Rattle.semantics.specs.State.{State, Process, heldBy, process}
 use Rattle.semantics.specs.Claim.{standsIn}
 use Rattle.semantics.specs.Walk.{Next}
 use Rattle.promises.specs.Fit.{Fit, Nested}
@@ -27,7 +27,7 @@ pub record Runs (w : List ℕ) : Type 0 where
 -- `Acting`, without them.
 pub record On (w : List ℕ) (p : ℕ) (x : Action) : Type 0 where
   pub running : Runs w
-  pub on-floor : running .is .floor ≡ held p
+  pub on-floor : running .is .floor ≡ heldBy p
   pub stands : standsIn (running .model) (process (running .is) p .frames) ≡ some x
 
 module _ {bs map w : List ℕ} where

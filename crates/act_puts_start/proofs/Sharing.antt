@@ -7,7 +7,7 @@ use mathlib.Core.Bool.{Bool, true, false, _&&_}
 use lib.Dec.{leb}
 use lib.ListN.{length, getD, take, drop, length-set}
 use lib.Seq.{set-getD}
-use Rattle.semantics.specs.Words.{all, less, more}
+use Rattle.semantics.specs.Words.{all, fewer, more}
 use Rattle.semantics.specs.Model.{Share}
 use Rattle.semantics.specs.Bytes.{u16}
 use Rattle.semantics.specs.Record.{shareOf}
@@ -101,7 +101,7 @@ module _ {body w : List ℕ} {p : ℕ} (v : Offering body w p) where
 -- ONE SHARE, as its bytes say it: j of it is a resource, n its amount.
 module _ {w : List ℕ} {p j n : ℕ} {x : Share} (e : j ≡ x .of) (f : n ≡ x .amount) where
   pub gives-away : (away : Bool) → away ≡ true → Doing w (Moves p away x) (moves p away x)
-      → Doing w (Holds p j n) (changed p (λ q. with-held q (less (q .held) j n)))
+      → Doing w (Holds p j n) (changed p (λ q. with-held q (fewer (q .held) j n)))
   gives-away true t d =
       record {
         is = d .is;
@@ -117,12 +117,12 @@ module _ {w : List ℕ} {p j n : ℕ} {x : Share} (e : j ≡ x .of) (f : n ≡ x
   gives-away false t d = no-way t
 
   pub given-away : (away : Bool) (t : away ≡ true) {u : List ℕ}
-      → Done w (Holds p j n) (changed p (λ q. with-held q (less (q .held) j n))) u → Done w (Moves p away x) (moves p away x) u
+      → Done w (Holds p j n) (changed p (λ q. with-held q (fewer (q .held) j n))) u → Done w (Moves p away x) (moves p away x) u
   unfolding gives-away
   given-away true t g d =
       g (gives-away true t d)
-      ∙ ap (λ k. workOf (changed p (λ q. with-held q (less (q .held) k n)) (d .is))) e
-      ∙ ap (λ k. workOf (changed p (λ q. with-held q (less (q .held) (x .of) k)) (d .is))) f
+      ∙ ap (λ k. workOf (changed p (λ q. with-held q (fewer (q .held) k n)) (d .is))) e
+      ∙ ap (λ k. workOf (changed p (λ q. with-held q (fewer (q .held) (x .of) k)) (d .is))) f
   given-away false t g d = no-way t
 
   pub takes-up : (away : Bool) → away ≡ false → Doing w (Moves p away x) (moves p away x)

@@ -7,7 +7,7 @@ use mathlib.Core.Bool.{Bool, true, false}
 use lib.ListN.{length, getD}
 use Rattle.semantics.specs.Words.{if_then_else_}
 use Rattle.semantics.specs.Model.{Model}
-use Rattle.semantics.specs.State.{State, Event, Floor, empty, held, with-events, at-clock}
+use Rattle.semantics.specs.State.{State, Event, Floor, empty, heldBy, with-events, at-clock}
 use Rattle.semantics.specs.Step.{moves, occurs, next, step}
 use Rattle.semantics.specs.Run.{Before, isClosed, goesOn}
 use Rattle.promises.specs.Sound.{onFloor, noticed, gives, Held}
@@ -28,11 +28,11 @@ use Rattle.act_step.proofs.Undone as Undone
 -- WHO HAS THE FLOOR, by its word.
 free-floor : (o : Floor) → floorWord o ≡ 0 → o ≡ empty
 free-floor empty e = refl
-free-floor (held p) e = absurd (omega arith)
+free-floor (heldBy p) e = absurd (omega arith)
 
-pub had-floor : (p : ℕ) (o : Floor) → (floorWord o ≡ 0 → ⊥) → p + 1 ≡ floorWord o → o ≡ held p
+pub had-floor : (p : ℕ) (o : Floor) → (floorWord o ≡ 0 → ⊥) → p + 1 ≡ floorWord o → o ≡ heldBy p
 had-floor p empty h e = absurd (h refl)
-had-floor p (held q) h e = ap held (omega arith)
+had-floor p (heldBy q) h e = ap heldBy (omega arith)
 
 open-still : (c : Bool) (x : Before) → _≡_ {A = Before} (if c then isClosed else x) goesOn → c ≡ false
 open-still true x e = absurd (idle-stops true e)
@@ -65,7 +65,7 @@ module _ {bs map w : List ℕ} (v : Going bs map w) where
   pub moved-as : (p : ℕ) → (getD w 3 0 ≡ 0 → ⊥) → p + 1 ≡ getD w 3 0 → step m s ≡ moves m s p
   unfolding step
   moved-as p h e =
-      ap (λ o. elim o [ held p ↦ moves m s p | empty ↦ next m s (s .events) ]) (floored p h e .on-floor)
+      ap (λ o. elim o [ heldBy p ↦ moves m s p | empty ↦ next m s (s .events) ]) (floored p h e .on-floor)
 
   pub not-closed : s .closed ≡ false
   not-closed = open-still (s .closed) _ (v .goes-on)
@@ -144,7 +144,7 @@ module _ {bs map w : List ℕ} (v : Going bs map w) where
       stepped-as : step m s ≡ occurs m later (e .notice)
       unfolding step next
       stepped-as =
-          ap (λ o. elim o [ held p ↦ moves m s p | empty ↦ next m s (s .events) ]) nobody-has
+          ap (λ o. elim o [ heldBy p ↦ moves m s p | empty ↦ next m s (s .events) ]) nobody-has
           ∙ ap (next m s) (due .events-are)
 
       module _ (f l : ℕ) (w′ : List ℕ) (at : ℕ) (out out′ : List ℕ)

@@ -8,13 +8,13 @@ use mathlib.Core.Option.{some}
 use lib.ListN.{length, drop}
 use Rattle.semantics.specs.Words.{Outcome}
 use Rattle.semantics.specs.Model.{Expr, Action, HOLD, PRIO, TRACE, SET, LSET, DO, PUTR, PUTB, PUTS, BECOME, REQ, TRY, WHILE}
-use Rattle.semantics.specs.Model.{START, CLOSE, Model}
+use Rattle.semantics.specs.Model.{START, CLOSE, kindOf, Model}
 use Rattle.semantics.specs.Bytes.{u16, u32}
 use Rattle.semantics.specs.State.{State, process}
 use Rattle.semantics.specs.Walk.{Next}
 use Rattle.semantics.specs.Step.{act}
 use Rattle.file_index.specs.Ties.{bodyAt}
-use Rattle.file_actions.specs.Kinds.{kindOf, OfKind, kind-of, of-kind}
+use Rattle.file_actions.specs.Kinds.{OfKind, kind-of, of-kind}
 use Rattle.file_actions.specs.Bodies.{ReadsExpression, Says, told}
 use Rattle.act_floor.specs.Acting.{Acting, Stepped}
 use Rattle.act_floor.specs.Running.{on}

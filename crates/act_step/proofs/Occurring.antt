@@ -4,8 +4,9 @@ use native.Mathlib.Omega.{arith}
 use mathlib.Core.Path.{_≡_, refl, sym, _∙_, ap, subst}
 use mathlib.Core.List.{List}
 use lib.IntN.{ℤ}
-use Rattle.semantics.specs.State.{Notice, wakes, returnsR, returnsB, held, with-floor}
-use Rattle.semantics.specs.Step.{ofReturns, moves, occurs}
+use Rattle.semantics.specs.Numbers.{ofReturns}
+use Rattle.semantics.specs.State.{Notice, wakes, returnsR, returnsB, heldBy, with-floor}
+use Rattle.semantics.specs.Step.{moves, occurs}
 use Rattle.promises.specs.Sound.{noticed, gives, ReturnOk, NoticeOk, Held}
 use Rattle.base_ordered.specs.Order.{number-packed, amount-packed, giver-packed}
 use Rattle.base_ordered.specs.Lines.{packed, kindOf, numberOf, amountOf, giverOf, dataOf}
@@ -73,7 +74,7 @@ module _ {bs map w : List ℕ} {word : ℕ} (v : Occurring bs map w word) where
           sound = rw it-wakes at (v .holds);
         }
 
-    pub wakes-as : occurs (v .model) (v .is) (v .notice) ≡ moves (v .model) (with-floor (v .is) (held p)) p
+    pub wakes-as : occurs (v .model) (v .is) (v .notice) ≡ moves (v .model) (with-floor (v .is) (heldBy p)) p
     unfolding occurs
     wakes-as = ap (occurs (v .model) (v .is)) it-wakes
 

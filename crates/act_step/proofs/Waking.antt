@@ -5,7 +5,7 @@ use mathlib.Core.List.{List}
 use lib.ListN.{length, set, length-set}
 use mathlib.Core.Bool.{Bool}
 use Rattle.semantics.specs.Words.{if_then_else_}
-use Rattle.semantics.specs.State.{State, empty, held, with-floor}
+use Rattle.semantics.specs.State.{State, empty, heldBy, with-floor}
 use Rattle.semantics.specs.Step.{moves, step}
 use Rattle.semantics.specs.Run.{Before, isClosed, goesOn}
 use Rattle.promises.specs.Safe.{Safe, step-safe}
@@ -20,10 +20,10 @@ use Rattle.act_step.proofs.Undone as Undone
 module _ {bs map w : List ℕ} {p : ℕ} (v : Waking bs map w p) where
   -- The state where p has the floor.
   abbrev taken : State
-  taken = with-floor (v .is) (held p)
+  taken = with-floor (v .is) (heldBy p)
 
   pub floor-taken : set w 3 (p + 1) ≡ workOf taken
-  floor-taken = ap (λ x. set x 3 (p + 1)) (v .shows) ∙ floor-set (v .is) (held p)
+  floor-taken = ap (λ x. set x 3 (p + 1)) (v .shows) ∙ floor-set (v .is) (heldBy p)
 
   -- u is the work where it has it.
   abbrev pub floored : {u : List ℕ} → u ≡ set w 3 (p + 1) → Floored bs map u p

@@ -9,7 +9,7 @@ use lib.ListN.{getD, getElem?}
 use lib.IntN.{ℤ}
 use Rattle.semantics.specs.Words.{Outcome}
 use Rattle.semantics.specs.Model.{Action, Model, block}
-use Rattle.semantics.specs.State.{State, Notice, empty, held, process, with-floor}
+use Rattle.semantics.specs.State.{State, Notice, empty, heldBy, process, with-floor}
 use Rattle.semantics.specs.Walk.{Next}
 use Rattle.semantics.specs.Step.{act}
 use Rattle.promises.specs.Fit.{Fit, Nested}
@@ -25,7 +25,7 @@ use Rattle.act_req_try_while.specs.Asks.{Asked}
 -- The process in place p has the floor.
 pub record Floored (bs map w : List ℕ) (p : ℕ) : Type 0 where
   pub running : Open bs map w
-  pub on-floor : running .is .floor ≡ held p
+  pub on-floor : running .is .floor ≡ heldBy p
 
 -- It stands at an action, whose number in the map is a;
 pub record Stands (bs map w : List ℕ) (p a : ℕ) : Type 0 where
@@ -67,7 +67,7 @@ pub record Waking (bs map w : List ℕ) (p : ℕ) : Type 0 where
   pub shows : w ≡ workOf is
   pub not-closed : is .closed ≡ false
   pub nobody-has : is .floor ≡ empty
-  pub sound : Sound model (with-floor is (held p))
+  pub sound : Sound model (with-floor is (heldBy p))
 
 -- A notice, by its word, was first in the event list and is out of it: what it tells is in hand, and nobody has the floor.
 pub record Occurring (bs map w : List ℕ) (word : ℕ) : Type 0 where

@@ -2,7 +2,7 @@
 ghost use mathlib.Core.Path.{_≡_};
 ghost use Prim.Native.Nat.{_+_, _≤_, _<_};
 ghost use lib.ListN.{length, getD, set};
-ghost use Rattle.semantics.specs.State.{held, with-floor};
+ghost use Rattle.semantics.specs.State.{heldBy, with-floor};
 ghost use Rattle.semantics.specs.Step.{moves, occurs, step};
 ghost use Rattle.act_floor.specs.Acting.{Going, Roomy, Stepped};
 ghost use Rattle.act_step.specs.Steps.{Floored, Stands, Meets, MeetsAt, acted, doing, Waking, Occurring};
@@ -213,7 +213,7 @@ fn wakes<'a>(
     requires { ⌜ Waking (now s) (now map) (now w) p ⌝ }
     requires { ⌜ Roomy at (now out) ⌝ }
     ensures { λ r. ⌜ ((v : Waking (now (s .entry)) (now (map .entry)) (now (w .entry)) p)
-        → Stepped (moves (v .model) (with-floor (v .is) (held p)) p) (r .fault) (r .lines)
+        → Stepped (moves (v .model) (with-floor (v .is) (heldBy p)) p) (r .fault) (r .lines)
         (now (w .entry)) (now (w .exit)) at (now (out .entry)) (now (out .exit))) ⌝ }
 {
     set_floor(w, p as u64 + 1);

@@ -8,16 +8,15 @@ use lib.Dec.{eqb}
 use lib.ListN.{length, getD, getElem?, take}
 use lib.IntN.{pos}
 use Rattle.semantics.specs.Numbers as No
-use Rattle.semantics.specs.Model.{Expr, Action, SET, Model}
+use Rattle.semantics.specs.Numbers.{ofReturns}
+use Rattle.semantics.specs.Model.{Expr, Action, SET, kindOf, Model}
 use Rattle.semantics.specs.State.{State, Notice, process, wake}
 use Rattle.semantics.specs.Claim.{Offer, asks, Choice, waits, goes, choice, grant}
 use Rattle.semantics.specs.Walk.{Next, Line, line, quiet, after}
-use Rattle.semantics.specs.Step.{ofReturns}
 use Rattle.promises.specs.Fit.{Fit, Nested}
 use Rattle.promises.specs.Sound.{gives, NoticeOk, Held}
 use Rattle.base_journal.specs.Wrote.{wroteAt}
 use Rattle.file_index.specs.Ties.{ActionAt}
-use Rattle.file_actions.specs.Kinds.{kindOf}
 use Rattle.file_actions.specs.Bodies.{ReadsExpression}
 use Rattle.row_work.specs.Work.{workOf, FloorSized}
 use Rattle.row_work.specs.Sized.{Rounds}

@@ -8,7 +8,7 @@ use lib.Dec.{eqb}
 use native.Mathlib.Omega.{arith}
 use borrow.Author.Tests.{eq-eqb, ne-eqb}
 use Rattle.semantics.specs.Model.{Model}
-use Rattle.semantics.specs.Decode.{Checked, refused, accepted, andThen, decode}
+use Rattle.semantics.specs.Decode.{Checked, refused, accepted, ifAccepted, decode}
 use Rattle.semantics.specs.Words.{passed, if_then_else_}
 use Rattle.semantics.specs.Numbers as No
 use Rattle.semantics.specs.Bound as definition
@@ -61,13 +61,13 @@ module _ (bs : List ℕ) (r : Refusal) (e : r ≡ refusalOf (decode bs)) where
   unfolding checkFile
   check-says = go (decode bs) e
     where
-      go : (p : Checked Model) → r ≡ refusalOf p → refusal (r .number) (r .place) ≡ checkWord (andThen p λ m. accepted passed)
+      go : (p : Checked Model) → r ≡ refusalOf p → refusal (r .number) (r .place) ≡ checkWord (ifAccepted p λ m. accepted passed)
       go (refused n p) e = rw e
       go (accepted m) e = rw e
 
 -- A REFUSAL is as decode states it, whatever is told of an accepted model.
 told-stated : {A : Type 0} (p : Checked Model) (f : Model → A) → Stated 65_535 p
-    → Stated 65_535 (andThen p λ m. accepted (f m))
+    → Stated 65_535 (ifAccepted p λ m. accepted (f m))
 told-stated (refused n p) f h = h
 told-stated (accepted m) f h = tt
 

@@ -1,44 +1,28 @@
--- The kind of an action's record, and the action that a kind is.
+-- The kind of a record, and the action that a kind is.
 -- Assumes nothing.
 use Prim.Native.Nat.{ℕ, _-_}
 use native.Mathlib.Omega.{arith}
 use mathlib.Core.Path.{_≡_, refl, sym, _∙_, ap, subst}
 use mathlib.Core.List.{List, [], _∷_}
 use lib.ListN.{getD, drop}
+use Rattle.semantics.specs.Kinds as K
 use Rattle.semantics.specs.Model.{Expr, Claim, Branch, Share, Action, HOLD, PRIO, TRACE, SET, LSET, DO, PUTR, PUTB, PUTS}
-use Rattle.semantics.specs.Model.{BECOME, REQ, TRY, WHILE, START, CLOSE}
+use Rattle.semantics.specs.Model.{BECOME, REQ, TRY, WHILE, START, CLOSE, kindOf}
 use Rattle.semantics.specs.Bytes.{u16}
 use Rattle.semantics.specs.Record.{Entry, RES, BIN, SYNC, VAR, CLASS, BLOCK, ENTITY, ACTION, Row, table}
 use Rattle.promises.specs.Laws.{AllOf}
 use Rattle.promises.specs.Passes.{its-row}
 use Rattle.file_index.specs.Ties.{kindAt, bodyAt, ActionAt}
 
--- THE KIND of an action, and of every entry.
-abbrev pub kindOf : Action → ℕ
-kindOf (HOLD e) = 16
-kindOf (PRIO e) = 17
-kindOf (SET i e) = 18
-kindOf (LSET i e) = 19
-kindOf (DO n b) = 20
-kindOf (PUTR i n) = 21
-kindOf (PUTB i n) = 22
-kindOf (PUTS i n) = 23
-kindOf (BECOME i) = 24
-kindOf (REQ c) = 25
-kindOf (TRY bs) = 26
-kindOf (WHILE b c) = 27
-kindOf (START c t h) = 28
-kindOf (TRACE e) = 29
-kindOf CLOSE = 30
-
+-- THE KIND of every entry.
 abbrev kindIn : Entry → ℕ
-kindIn (RES n) = 1
-kindIn (BIN n) = 2
-kindIn SYNC = 3
-kindIn (VAR v) = 4
-kindIn (CLASS b) = 5
-kindIn BLOCK = 6
-kindIn (ENTITY x) = 7
+kindIn (RES n) = K.RES
+kindIn (BIN n) = K.BIN
+kindIn SYNC = K.SYNC
+kindIn (VAR v) = K.VAR
+kindIn (CLASS b) = K.CLASS
+kindIn BLOCK = K.BLOCK
+kindIn (ENTITY x) = K.ENTITY
 kindIn (ACTION x) = kindOf x
 
 -- Every row says entries of its kind.

@@ -12,7 +12,7 @@ use Rattle.semantics.specs.Numbers as No
 use Rattle.semantics.specs.Bytes.{Raw, raw, torn, whole, spans, u16, cut, recordsFrom}
 use Rattle.semantics.specs.Model.{Model}
 use Rattle.semantics.specs.Decode.{Checked, refused, accepted, judged, saw, firstPass, noneSeen, named, opened, secondPass}
-use Rattle.semantics.specs.Decode.{gather, depth, thirdPass, andThen, decode}
+use Rattle.semantics.specs.Decode.{gather, depth, thirdPass, ifAccepted, decode}
 use Rattle.promises.specs.Laws.{and-true}
 use Rattle.file_check.proofs.Pass.{Number, Proper, fine, bad, judged-proper, named-proper}
 
@@ -83,7 +83,7 @@ module _ (k : ℕ) where
       go false i = i
 
   then-stated : {A B : Type 0} (p : Checked A) (f : A → Checked B) → Stated k p → ((a : A) → Stated k (f a))
-      → Stated k (andThen p f)
+      → Stated k (ifAccepted p f)
   then-stated (refused n p) f h i = h
   then-stated (accepted a) f h i = i a
 

@@ -8,7 +8,7 @@ use lib.ListN.{length}
 use Rattle.semantics.specs.Words.{Passed, passed}
 use Rattle.semantics.specs.Bytes.{Raw, recordsFrom}
 use Rattle.semantics.specs.Model.{Model}
-use Rattle.semantics.specs.Decode.{Checked, refused, accepted, firstPass, noneSeen, secondPass, gather, thirdPass, andThen}
+use Rattle.semantics.specs.Decode.{Checked, refused, accepted, firstPass, noneSeen, secondPass, gather, thirdPass, ifAccepted}
 use Rattle.semantics.specs.Decode.{decode}
 use Rattle.file_index.specs.Index.{Readable}
 use Rattle.file_check.specs.Check.{refusalOf, firstOf, Named}
@@ -28,7 +28,7 @@ module _ (bs : List ℕ) (h : length bs ≤ 65_535) where
   abbrev m : Model
   m = gather rs .model
 
-  in-order : decode bs ≡ andThen (firstPass noneSeen rs) λ n. andThen (secondPass n 0 rs) λ x. andThen
+  in-order : decode bs ≡ ifAccepted (firstPass noneSeen rs) λ n. ifAccepted (secondPass n 0 rs) λ x. ifAccepted
       (thirdPass m rs) λ y. accepted m
   unfolding decode
   in-order = rw (decode, le-leb (length bs) 65_535 h)
@@ -39,7 +39,7 @@ module _ (bs : List ℕ) (h : length bs ≤ 65_535) where
     first-says k = rw in-order (go (firstPass noneSeen rs) e)
       where
         go : (p : Checked (List ℕ)) → f ≡ firstOf p → record { number = f .number; place = f .place }
-            ≡ refusalOf (andThen p λ n. andThen (secondPass n 0 rs) λ x. andThen (thirdPass m rs) λ y. accepted m)
+            ≡ refusalOf (ifAccepted p λ n. ifAccepted (secondPass n 0 rs) λ x. ifAccepted (thirdPass m rs) λ y. accepted m)
         go (refused n p) e = rw e
         go (accepted n) e = absurd (k (rw e))
 
@@ -59,7 +59,7 @@ module _ (bs : List ℕ) (h : length bs ≤ 65_535) where
       second-says k = rw (in-order, first-passes z) (go (secondPass (f .seen) 0 rs) i)
         where
           go : (p : Checked Passed) → g ≡ refusalOf p
-              → g ≡ refusalOf (andThen p λ x. andThen (thirdPass m rs) λ y. accepted m)
+              → g ≡ refusalOf (ifAccepted p λ x. ifAccepted (thirdPass m rs) λ y. accepted m)
           go (refused n p) i = i
           go (accepted n) i = absurd (k (rw i))
 
@@ -77,6 +77,6 @@ module _ (bs : List ℕ) (h : length bs ≤ 65_535) where
       pub third-says : g .number ≡ 0 → (t : Refusal) → t ≡ refusalOf (thirdPass m rs) → t ≡ refusalOf (decode bs)
       third-says y t j = rw (in-order, first-passes z, second-passes y) (go (thirdPass m rs) j)
         where
-          go : (p : Checked Passed) → t ≡ refusalOf p → t ≡ refusalOf (andThen p λ y. accepted m)
+          go : (p : Checked Passed) → t ≡ refusalOf p → t ≡ refusalOf (ifAccepted p λ y. accepted m)
           go (refused n p) j = j
           go (accepted n) j = j

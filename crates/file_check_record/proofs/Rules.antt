@@ -11,7 +11,7 @@ use Rattle.semantics.specs.Words.{if_then_else_, need, _>>_, all, within}
 use Rattle.semantics.specs.Bytes.{u16}
 use Rattle.semantics.specs.Record.{Row, Tail, sized, valid, twice, inSet, bodyJudged, table, rowIn, rowOf, branchesFrom}
 use Rattle.semantics.specs.Record.{branchOf}
-use Rattle.semantics.specs.Record.{branchesIn, Field, free, u16In, u32In, Naming, nameless, names, namesLocal}
+use Rattle.semantics.specs.Record.{branchesIn, Field, anyValue, u16In, u32In, Naming, nameless, names, namesLocal}
 use Rattle.semantics.specs.Decode.{placed, judged, fieldKnown, tailKnown, innerOf, named}
 use Rattle.file_check_parts.proofs.Laws.{rest-of}
 use Rattle.file_check_tails.specs.Tails.{tailOf, branchPasses}
@@ -28,7 +28,7 @@ tail-is p r bs h t i j = rw (rest-of h bs, i, j, tail-back (r .tail))
 
 pub in-set-is : (f : Field) (bs : List ℕ) → inSet f bs ≡ within (fieldLow f) (fieldHigh f) (numberAt (fieldSize f) bs
     (fieldAt f))
-in-set-is free bs = refl
+in-set-is anyValue bs = refl
 in-set-is (u16In at lo hi) bs = refl
 in-set-is (u32In at lo hi) bs = refl
 

@@ -8,7 +8,7 @@ use lib.ListN.{length, getD, drop}
 use Rattle.semantics.specs.Words.{if_then_else_, Outcome, ok, fails, Passed}
 use Rattle.semantics.specs.Bytes.{u16, u32}
 use Rattle.semantics.specs.Record.{Row, Tail, nothing, expression, branches, listOf, item, share, sized}
-use Rattle.semantics.specs.Record.{Field, free, u16In, u32In, Naming, nameless, names, namesLocal}
+use Rattle.semantics.specs.Record.{Field, anyValue, u16In, u32In, Naming, nameless, names, namesLocal}
 
 -- Document 01's number of an outcome, 0 where all is well.
 abbrev pub numberOf : Outcome Passed → ℕ
@@ -17,22 +17,22 @@ numberOf (fails n) = n
 
 -- The field with a stated set: its size, its place, the set's ends; a free one is the number 0 of no bytes.
 abbrev pub fieldSize : Field → ℕ
-fieldSize free = 0
+fieldSize anyValue = 0
 fieldSize (u16In at lo hi) = 2
 fieldSize (u32In at lo hi) = 4
 
 abbrev pub fieldAt : Field → ℕ
-fieldAt free = 0
+fieldAt anyValue = 0
 fieldAt (u16In at lo hi) = at
 fieldAt (u32In at lo hi) = at
 
 abbrev pub fieldLow : Field → ℕ
-fieldLow free = 0
+fieldLow anyValue = 0
 fieldLow (u16In at lo hi) = lo
 fieldLow (u32In at lo hi) = lo
 
 abbrev pub fieldHigh : Field → ℕ
-fieldHigh free = 0
+fieldHigh anyValue = 0
 fieldHigh (u16In at lo hi) = hi
 fieldHigh (u32In at lo hi) = hi
 

@@ -12,7 +12,7 @@ use Rattle.semantics.specs.Words.{if_then_else_, Passed}
 use Rattle.semantics.specs.Numbers as No
 use Rattle.semantics.specs.Model.{Model}
 use Rattle.semantics.specs.Bytes.{Raw, raw, torn, cut, recordsFrom, whole, spans, u16}
-use Rattle.semantics.specs.Decode.{Checked, refused, accepted, firstPass, noneSeen, secondPass, gather, thirdPass, andThen}
+use Rattle.semantics.specs.Decode.{Checked, refused, accepted, firstPass, noneSeen, secondPass, gather, thirdPass, ifAccepted}
 use Rattle.semantics.specs.Decode.{decode}
 use Rattle.promises.specs.Laws.{and-true, AllOf}
 use Rattle.promises.specs.Passes.{not-accepted}
@@ -87,7 +87,7 @@ pub record Accepted (bs : List ℕ) (m : Model) : Type 0 where
   pub readable : Readable bs
   pub is : gather (recordsFrom 0 bs) .model ≡ m
 
-then-is : {A B : Type 0} (c : Checked A) (f : A → Checked B) (b : B) → andThen c f ≡ accepted b →
+then-is : {A B : Type 0} (c : Checked A) (f : A → Checked B) (b : B) → ifAccepted c f ≡ accepted b →
     (a : A) × (c ≡ accepted a) × (f a ≡ accepted b)
 then-is (refused n p) f b e = not-accepted e
 then-is (accepted a) f b e = (a, refl, e)
@@ -103,13 +103,13 @@ accepted-by bs m e = go (leb (length bs) 65_535) refl e
     x = gather rs .model
 
     thirdly : Passed → Checked Model
-    thirdly p = andThen (thirdPass x rs) λ q. accepted x
+    thirdly p = ifAccepted (thirdPass x rs) λ q. accepted x
 
     secondly : List ℕ → Checked Model
-    secondly n = andThen (secondPass n 0 rs) thirdly
+    secondly n = ifAccepted (secondPass n 0 rs) thirdly
 
     go : (b : Bool) → leb (length bs) 65_535 ≡ b →
-        _≡_ {A = Checked Model} (elim b [ false ↦ refused No.MANY 0 | true ↦ andThen (firstPass noneSeen rs) secondly ])
+        _≡_ {A = Checked Model} (elim b [ false ↦ refused No.MANY 0 | true ↦ ifAccepted (firstPass noneSeen rs) secondly ])
         (accepted m) →
         Accepted bs m
     go false h k = not-accepted k

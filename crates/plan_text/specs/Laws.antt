@@ -8,7 +8,7 @@ use native.Mathlib.Omega.{arith}
 use borrow.Author.Tests.{lt-ltb, le-ltb, ltb-true, ltb-false}
 use lib.Dec.{ltb}
 use lib.ListN.{length, length-append}
-use Rattle.semantics.specs.Plan.{Told}
+use Rattle.semantics.specs.Plan.{PrintedLine}
 use Rattle.plan_text.specs.Text.{digitsIn, decimal, lineText, linesText}
 
 digits-end : (n x : ℕ) → x < 10 → digitsIn (suc n) x ≡ (48 + x) ∷ []
@@ -59,7 +59,7 @@ decimal-length (suc k) x h = go (ltb x 10) refl (λ below. decimal-length k (x /
         omega (arith, length-more x (ltb-false x 10 e), rest (omega (arith, pow-succ' 10 (suc k))))
 
 -- LINES of two journals, one behind the other: the journal may be emptied between calls.
-pub lines-append : (ts us : List Told) → linesText (ts ++ us) ≡ linesText ts ++ linesText us
+pub lines-append : (ts us : List PrintedLine) → linesText (ts ++ us) ≡ linesText ts ++ linesText us
 unfolding linesText
 lines-append [] us = refl
 lines-append (t ∷ ts) us =

@@ -11,15 +11,15 @@ use lib.Signed.{mag}
 use Rattle.semantics.specs.Bytes.{u16, u32, i32, signed}
 use Rattle.semantics.specs.Walk.{Line}
 use Rattle.semantics.specs.Journal.{twos, lineBytes, journal, written}
-use Rattle.semantics.specs.Plan.{Told, told}
+use Rattle.semantics.specs.Plan.{PrintedLine, printLine}
 use Rattle.promises.specs.Laws.{AllOf}
 
 -- The line that bs begins with.
-abbrev pub tellIn : List ℕ → Told
+abbrev pub tellIn : List ℕ → PrintedLine
 tellIn bs = (u32 bs 4, u32 bs 8, u16 bs 2, i32 bs 12)
 
 -- The first n lines of bs.
-unfoldable pub tellsIn : List ℕ → ℕ → List Told
+unfoldable pub tellsIn : List ℕ → ℕ → List PrintedLine
 tellsIn bs zero = []
 tellsIn bs (suc n) = tellIn bs ∷ tellsIn (drop 16 bs) n
 
@@ -53,28 +53,28 @@ twos-fits (negsuc n) h = omega arith
 
 -- LINES come back from the journal that they were written into.
 same-told : (t p k : ℕ) (v : ℤ) {t' p' k' : ℕ} {v' : ℤ} → t ≡ t' → p ≡ p' → k ≡ k' → v ≡ v'
-    → _≡_ {A = Told} (t, p, k, v) (t', p', k', v')
+    → _≡_ {A = PrintedLine} (t, p, k, v) (t', p', k', v')
 same-told t p k v e f g h = rw (e, f, g, h)
 
-tell-line : (l : Line) (bs : List ℕ) → Writable l → tellIn (lineBytes l ++ bs) ≡ told l
+tell-line : (l : Line) (bs : List ℕ) → Writable l → tellIn (lineBytes l ++ bs) ≡ printLine l
 unfolding lineBytes
 tell-line l bs w =
     same-told _ _ _ _ (from-le32 (l .time) (w .time-fits)) (from-le32 (l .process) (w .process-fits))
     (from-le16 (l .kind) (w .kind-fits))
     (ap signed (from-le32 (twos (l .value)) (twos-fits (l .value) (w .value-fits))) ∙ signed-twos (l .value) (w .value-fits))
 
-tell-on : (l : Line) (bs : List ℕ) (n : ℕ) → Writable l → tellsIn (lineBytes l ++ bs) (suc n) ≡ told l ∷ tellsIn bs n
+tell-on : (l : Line) (bs : List ℕ) (n : ℕ) → Writable l → tellsIn (lineBytes l ++ bs) (suc n) ≡ printLine l ∷ tellsIn bs n
 unfolding lineBytes tellsIn
 tell-on l bs n w = ap (λ t. t ∷ tellsIn bs n) (tell-line l bs w)
 
-pub tells-journal : (ls : List Line) (bs : List ℕ) → AllOf Writable ls → tellsIn (journal ls ++ bs) (length ls) ≡ map told ls
+pub tells-journal : (ls : List Line) (bs : List ℕ) → AllOf Writable ls → tellsIn (journal ls ++ bs) (length ls) ≡ map printLine ls
 unfolding tellsIn journal
 tells-journal [] bs h = refl
 tells-journal (l ∷ ls) bs h =
     ap (λ xs. tellsIn xs (suc (length ls))) (append-assoc (lineBytes l) (journal ls) bs)
     ∙ tell-on l (journal ls ++ bs) (length ls) (h .0)
-    ∙ ap (λ ts. told l ∷ ts) (tells-journal ls bs (h .1))
+    ∙ ap (λ ts. printLine l ∷ ts) (tells-journal ls bs (h .1))
 
-pub tells-written : (ls : List Line) (j : List ℕ) → AllOf Writable ls → tellsIn (written ls j) (length ls) ≡ map told ls
+pub tells-written : (ls : List Line) (j : List ℕ) → AllOf Writable ls → tellsIn (written ls j) (length ls) ≡ map printLine ls
 unfolding written
 tells-written ls j h = tells-journal ls (drop (16 * length ls) j) h

@@ -10,7 +10,7 @@ use lib.IntN.{ℤ, pos, negsuc}
 use Rattle.semantics.specs.Words.{collect}
 use Rattle.semantics.specs.Run.{Answer, CLOSED, IDLE, LIMIT, FAULT}
 use Rattle.semantics.specs.Bound.{Bounded, NONE, OVER, AT}
-use Rattle.semantics.specs.Plan.{Told, Printed, refusedAt, ran}
+use Rattle.semantics.specs.Plan.{PrintedLine, Printed, refusedAt, ran}
 
 abbrev pub ascii : String → List ℕ
 ascii no-letter = []
@@ -31,12 +31,12 @@ signedDecimal (pos n) = decimal n
 signedDecimal (negsuc n) = ascii "-" ++ decimal (suc n)
 
 -- Each line as time, process, kind, value.
-unfoldable pub lineText : Told → List ℕ
+unfoldable pub lineText : PrintedLine → List ℕ
 unfolding decimal signedDecimal
 lineText (t, p, k, v) =
     decimal t ++ ascii " " ++ decimal p ++ ascii " " ++ decimal k ++ ascii " " ++ signedDecimal v ++ ascii "\n"
 
-unfoldable pub linesText : List Told → List ℕ
+unfoldable pub linesText : List PrintedLine → List ℕ
 unfolding lineText
 linesText ts = collect lineText ts
 

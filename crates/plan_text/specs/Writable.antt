@@ -13,7 +13,7 @@ use Rattle.semantics.specs.Words.{Outcome, ok, isEmpty, more}
 use Rattle.semantics.specs.Numbers as No
 use Rattle.semantics.specs.Model.{resource, bin, sync, Item, get, condition, Claim, Share, Model, Action, HOLD, PRIO, TRACE}
 use Rattle.semantics.specs.Model.{SET, LSET, DO, PUTR, PUTB, PUTS, BECOME, REQ, TRY, WHILE, START, CLOSE}
-use Rattle.semantics.specs.State.{State, Process, Frame, Waiter, Event, Notice, wakes, returnsR, returnsB, Floor, empty, held}
+use Rattle.semantics.specs.State.{State, Process, Frame, Waiter, Event, Notice, wakes, returnsR, returnsB, Floor, empty, heldBy}
 use Rattle.semantics.specs.State.{nobody, process, put, living, at-clock, with-globals, with-free, with-bins, with-waiting}
 use Rattle.semantics.specs.State.{with-floor, with-events, with-slaves, wake, join, past, into}
 use Rattle.semantics.specs.Value.{eval}
@@ -304,7 +304,7 @@ module _ (m : Model) (t : Fit m) where
   occurs-writes : (s : State) → SmallIn s → s .last ≤ No.lastNumber → (x : Notice) (c : ℤ)
       → NoticeOk m (s .last) (s .processes) c x → Writes (occurs m s x)
   unfolding occurs
-  occurs-writes s h l (wakes p) c k = moves-writes m t (with-floor s (held p)) h p
+  occurs-writes s h l (wakes p) c k = moves-writes m t (with-floor s (heldBy p)) h p
   occurs-writes s h l (returnsR i n g) c k =
       return-writes (with-free s (more (s .free) i n)) h l (length (m .totals)) No.resourceReturned (t .few-totals)
       (omega arith) k
@@ -317,8 +317,8 @@ module _ (m : Model) (t : Fit m) where
   step-writes s h = go (s .floor) (s .events) (h .events-ok)
     where
       go : (f : Floor) (es : List Event) → AllOf (EventOk m (s .clock) (s .last) (s .processes)) es
-          → Writes (elim f [ held p ↦ moves m s p | empty ↦ next m s es ])
-      go (held p) es a = moves-writes m t s (sound-small m s h (s .clock) (h .clock-ok)) p
+          → Writes (elim f [ heldBy p ↦ moves m s p | empty ↦ next m s es ])
+      go (heldBy p) es a = moves-writes m t s (sound-small m s h (s .clock) (h .clock-ok)) p
       go empty [] a = stopped
       go empty (x ∷ xs) a =
           occurs-writes (with-events (at-clock s (x .time)) xs) (sound-small m s h (x .time) (a .0 .not-late)) (h .last-ok)

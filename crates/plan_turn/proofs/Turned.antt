@@ -10,7 +10,7 @@ use Rattle.semantics.specs.State.{State}
 use Rattle.semantics.specs.Walk.{Line}
 use Rattle.semantics.specs.Run.{run}
 use Rattle.semantics.specs.Journal.{roomIn}
-use Rattle.semantics.specs.Plan.{told}
+use Rattle.semantics.specs.Plan.{printLine}
 use Rattle.promises.specs.Laws.{AllOf}
 use Rattle.promises.specs.Sound.{Sound}
 use Rattle.promises.specs.Calls.{run-sound}
@@ -50,7 +50,7 @@ answered {d} h {x} {j = j} {j′} t {b = b} {out} {out′} e f =
       state-is = t .state-is;
       journal-is = t .journal-is;
       text-is =
-          let c : tellsIn j′ (x .lines) ≡ map told (d .lines) =
+          let c : tellsIn j′ (x .lines) ≡ map printLine (d .lines) =
           ap (tellsIn j′) (t .lines-are) ∙ ap (λ l. tellsIn l (length (d .lines))) (t .journal-is)
           ∙ tells-written (d .lines) j h in
           rw (sym c) f;

@@ -4,7 +4,7 @@ use mathlib.Core.Path.{_≡_}
 use mathlib.Core.List.{List, map}
 use Rattle.semantics.specs.Run.{Ran}
 use Rattle.semantics.specs.Journal.{written}
-use Rattle.semantics.specs.Plan.{told}
+use Rattle.semantics.specs.Plan.{printLine}
 use Rattle.row_work.specs.Work.{workOf}
 use Rattle.run_limit.specs.Ran.{numberOf}
 use Rattle.plan_text.specs.Text.{linesText}
@@ -17,4 +17,4 @@ pub record AnsweredAs (d : Ran) (r : Answered) (w′ j j′ out out′ : List �
   pub steps-are : r .steps ≡ d .steps
   pub state-is : w′ ≡ workOf (d .state)
   pub journal-is : j′ ≡ written (d .lines) j
-  pub text-is : Front (linesText (map told (d .lines))) out out′ (r .bytes)
+  pub text-is : Front (linesText (map printLine (d .lines))) out out′ (r .bytes)

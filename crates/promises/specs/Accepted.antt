@@ -9,6 +9,8 @@ use lib.Dec.{eqb, leb, ltb}
 use borrow.Author.Tests.{leb-true, leb-false, ltb-false}
 use lib.ListN.{length, getD}
 use Rattle.semantics.specs.Words.{passed, any}
+use Rattle.semantics.specs.Numbers as No
+use Rattle.semantics.specs.Kinds as K
 use Rattle.semantics.specs.Model.{Action, HOLD, PRIO, TRACE, SET, LSET, DO, PUTR, PUTB, PUTS, BECOME, REQ, TRY, WHILE, START}
 use Rattle.semantics.specs.Model.{CLOSE, Model, block, body}
 use Rattle.semantics.specs.Bytes.{u16, Raw, raw, torn}
@@ -44,7 +46,8 @@ module _ (m : Model) where
 
   abbrev Makes : ℕ → Gathered → Type 0
   Makes own g =
-      AllOf (λ n. n ≤ 1_000_000) (g .model .totals) × AllOf (λ n. n ≤ 1_000_000) (g .model .amounts) × AllOf I32 (g .model .vars)
+      AllOf (λ n. n ≤ No.topAmount) (g .model .totals) × AllOf (λ n. n ≤ No.topAmount) (g .model .amounts)
+      × AllOf I32 (g .model .vars)
       × AllOf (λ b. b < length (m .blocks)) (g .model .classes)
       × AllOf (EntityFit m) (g .model .entities) × AllOf (ActAt own) (g .loose)
       × AllFrom BlockAt own (g .model .blocks)
@@ -92,14 +95,14 @@ fits rs p =
       amounts-fit = h .1;
       vars-fit = h .2;
       entities-fit = h .4;
-      few-totals = counted rs p 1 .1;
-      few-amounts = counted rs p 2 .1;
-      few-syncs = counted rs p 3 .1;
-      few-vars = counted rs p 4 .1;
-      few-classes = counted rs p 5 .1;
-      few-blocks = counted rs p 6 .1;
-      few-entities = counted rs p 7 .1;
-      few-actions = omega (arith, counted rs p 16 .1);
+      few-totals = counted rs p K.RES .1;
+      few-amounts = counted rs p K.BIN .1;
+      few-syncs = counted rs p K.SYNC .1;
+      few-vars = counted rs p K.VAR .1;
+      few-classes = counted rs p K.CLASS .1;
+      few-blocks = counted rs p K.BLOCK .1;
+      few-entities = counted rs p K.ENTITY .1;
+      few-actions = omega (arith, counted rs p K.ACTION .1);
     }
 
 pub accepted-fit : (bs : List ℕ) (m : Model) → decode bs ≡ accepted m → Fit m
@@ -137,30 +140,30 @@ links rs p = record { later = at; there = made rs p .3 }
 -- nothing.
 module _ (m : Model) where
   abbrev Shallow : Gathered → Type 0
-  Shallow g = AllOf (λ b. depth m b ≤ 8) (g .model .classes)
+  Shallow g = AllOf (λ b. depth m b ≤ No.deepest) (g .model .classes)
 
   abbrev RowShallow : Row → Type 0
   RowShallow r =
-      (bs : List ℕ) (g : Gathered) → eqb (r .kind) 5 && ltb 8 (depth m (u16 bs 0)) ≡ false → Shallow g
+      (bs : List ℕ) (g : Gathered) → eqb (r .kind) K.CLASS && ltb No.deepest (depth m (u16 bs 0)) ≡ false → Shallow g
       → Shallow (adds g (r .says bs))
 
   rows-shallow : AllOf RowShallow table
   rows-shallow =
-      plain & plain & plain & plain & (λ bs g d h. (ltb-false 8 (depth m (u16 bs 0)) d, h)) & plain & plain
+      plain & plain & plain & plain & (λ bs g d h. (ltb-false No.deepest (depth m (u16 bs 0)) d, h)) & plain & plain
       & plain & plain & plain & plain & plain & plain & plain & plain & plain & plain & plain & plain & plain & plain & plain
       & tt
     where
       plain : {A : Type 0} (bs : List ℕ) (g : Gathered) → A → Shallow g → Shallow g
       plain bs g d h = h
 
-  one-class : (k : ℕ) (bs : List ℕ) (g : Gathered) → 0 < rowOf k .group → eqb k 5 && ltb 8 (depth m (u16 bs 0)) ≡ false
-      → Shallow g → Shallow (adds g (rowOf k .says bs))
+  one-class : (k : ℕ) (bs : List ℕ) (g : Gathered) → 0 < rowOf k .group
+      → eqb k K.CLASS && ltb No.deepest (depth m (u16 bs 0)) ≡ false → Shallow g → Shallow (adds g (rowOf k .says bs))
   one-class k bs g l d h =
       let r = its-row RowShallow rows-shallow k l in
-      r .0 bs g (subst (λ x. eqb x 5 && ltb 8 (depth m (u16 bs 0)) ≡ false) (r .1) d) h
+      r .0 bs g (subst (λ x. eqb x K.CLASS && ltb No.deepest (depth m (u16 bs 0)) ≡ false) (r .1) d) h
 
 shallow : (m : Model) (seen x : List ℕ) (rs : List Raw) → firstPass seen rs ≡ accepted x → thirdPass m rs ≡ accepted passed
-    → AllOf (λ b. depth m b ≤ 8) (gather rs .model .classes)
+    → AllOf (λ b. depth m b ≤ No.deepest) (gather rs .model .classes)
 unfolding gather firstPass
 shallow m seen x [] p r = tt
 shallow m seen x (torn at ∷ rs) p r = not-accepted p

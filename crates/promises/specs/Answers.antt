@@ -18,7 +18,7 @@ use Rattle.semantics.specs.Walk.{Line, Next}
 use Rattle.semantics.specs.Step.{step}
 use Rattle.semantics.specs.Sound.{soundIn, sound}
 use Rattle.semantics.specs.Run.{Answer, CLOSED, IDLE, LIMIT, FAULT, Ran, stopped, further, Before, isClosed, isIdle, goesOn}
-use Rattle.semantics.specs.Run.{before, Room, endless, lines, fits, left, run, Ask, callIn, call}
+use Rattle.semantics.specs.Run.{before, Room, endless, roomFor, fits, left, run, Ask, callIn, call}
 
 -- CASES of what a run asks before and in a step.
 module _ {A : Type 0} (P : A → Type 0) where
@@ -88,7 +88,7 @@ steps-within m =
 -- ROOM. Where some lines fit, more fit if they fit into what is left.
 fits-on : (xs ys : List Line) (r : Room) → fits xs r ≡ true → fits (xs ++ ys) r ≡ fits ys (left xs r)
 fits-on xs ys endless h = refl
-fits-on xs ys (lines n) h = ap (λ k. leb k n) (length-append xs ys) ∙ taken (length xs) (length ys) n (leb-true (length xs) n h)
+fits-on xs ys (roomFor n) h = ap (λ k. leb k n) (length-append xs ys) ∙ taken (length xs) (length ys) n (leb-true (length xs) n h)
   where
     taken : (a b n : ℕ) → a ≤ n → leb (a + b) n ≡ leb b (n - a)
     taken a b n h = go (leb b (n - a)) refl
@@ -99,7 +99,7 @@ fits-on xs ys (lines n) h = ap (λ k. leb k n) (length-append xs ys) ∙ taken (
 
 none-fit : (r : Room) → fits [] r ≡ true
 none-fit endless = refl
-none-fit (lines n) = le-leb 0 n (omega arith)
+none-fit (roomFor n) = le-leb 0 n (omega arith)
 
 pub lines-fit : (m : Model) (n : ℕ) (r : Room) (s : State) → fits (run m n r s .lines) r ≡ true
 lines-fit m =

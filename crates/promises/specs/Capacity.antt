@@ -5,6 +5,7 @@ use native.Mathlib.Omega.{arith}
 use mathlib.Core.Path.{_≡_, refl, ap}
 use mathlib.Core.List.{List, [], _∷_}
 use lib.ListN.{length, getD, set}
+use Rattle.semantics.specs.Numbers as No
 use Rattle.semantics.specs.Model.{Model}
 use Rattle.semantics.specs.State.{State, Process, Event, Notice, wakes, returnsR, returnsB, nobody, empty, with-floor}
 use Rattle.semantics.specs.Sound.{woken, listed}
@@ -17,10 +18,10 @@ use Rattle.promises.specs.Decides.{over-listed, in-listed}
 -- 64 places can be listed once each; besides them 64 returns can be in the event list.
 pub record Fitting (s : State) : Type 0 where
   pub events-fit : length (s .events) ≤ 128
-  pub blocked-fit : length (s .blocked) ≤ 64
-  pub waiting-fit : over length (s .waiting) ≤ 64
-  pub slaves-fit : over (λ q. length (q .slaves)) (s .processes) ≤ 64
-  pub living-fit : over (λ q. al (q .frames)) (s .processes) ≤ 64
+  pub blocked-fit : length (s .blocked) ≤ No.places
+  pub waiting-fit : over length (s .waiting) ≤ No.places
+  pub slaves-fit : over (λ q. length (q .slaves)) (s .processes) ≤ No.places
+  pub living-fit : over (λ q. al (q .frames)) (s .processes) ≤ No.places
 
 -- Places listed no more often than somebody lives there are no more than the living: the first is listed, and its place emptied.
 pub room : (l : List ℕ) (ps : List Process) → ((k : ℕ) → over (once k) l ≤ al (getD ps k nobody .frames))

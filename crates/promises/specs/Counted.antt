@@ -9,6 +9,8 @@ use mathlib.Core.Path.{_≡_, refl, sym, ap, _∙_}
 use mathlib.Core.List.{List, [], _∷_}
 use lib.ListN.{length, getD, length-set}
 use Rattle.semantics.specs.Words.{more}
+use Rattle.semantics.specs.Numbers as No
+use Rattle.semantics.specs.Kinds as K
 use Rattle.semantics.specs.Bytes.{Raw, raw, torn}
 use Rattle.semantics.specs.Record.{Entry, RES, BIN, SYNC, VAR, CLASS, BLOCK, ENTITY, ACTION, Row, table, rowOf}
 use Rattle.semantics.specs.Decode.{accepted, saw, firstPass, noneSeen, opened, Gathered, adds, gather}
@@ -17,17 +19,19 @@ use Rattle.promises.specs.Passes.{not-accepted, TwoPasses, first-on, its
 
 -- GROUPS. The group that an entry is of, and how many records there may be of each.
 abbrev pub groupOf : Entry → ℕ
-groupOf (RES n) = 1
-groupOf (BIN n) = 2
-groupOf SYNC = 3
-groupOf (VAR v) = 4
-groupOf (CLASS b) = 5
-groupOf BLOCK = 6
-groupOf (ENTITY x) = 7
-groupOf (ACTION a) = 16
+groupOf (RES n) = K.RES
+groupOf (BIN n) = K.BIN
+groupOf SYNC = K.SYNC
+groupOf (VAR v) = K.VAR
+groupOf (CLASS b) = K.CLASS
+groupOf BLOCK = K.BLOCK
+groupOf (ENTITY x) = K.ENTITY
+groupOf (ACTION a) = K.ACTION
 
 abbrev pub limits : List ℕ
-limits = 0 ∷ 32 ∷ 32 ∷ 32 ∷ 32 ∷ 64 ∷ 256 ∷ 64 ∷ 0 ∷ 0 ∷ 0 ∷ 0 ∷ 0 ∷ 0 ∷ 0 ∷ 0 ∷ 1_024 ∷ []
+limits =
+    0 ∷ No.mostThings ∷ No.mostThings ∷ No.mostThings ∷ No.mostThings ∷ No.mostClasses ∷ No.mostBlocks ∷ No.mostEntities
+    ∷ 0 ∷ 0 ∷ 0 ∷ 0 ∷ 0 ∷ 0 ∷ 0 ∷ 0 ∷ No.mostActions ∷ []
 
 -- Every row says entries of its group, the counts have its group, its limit is its group's, and it opens a block exactly if its
 -- group does.
@@ -35,7 +39,7 @@ abbrev Says : List ℕ → Row → Type 0
 Says bs r = groupOf (r .says bs) ≡ r .group
 
 abbrev Countable : Row → Type 0
-Countable r = r .group < 17
+Countable r = r .group < K.groups
 
 abbrev Limited : Row → Type 0
 Limited r = r .most ≡ getD limits (r .group) 0
@@ -101,9 +105,9 @@ still-inside seen i h l s j = go (once j i) refl
         omega (arith, at, once-self i)
 
 none-yet : (j : ℕ) → getD noneSeen j 0 ≡ 0
-none-yet j = all-get (λ x. x ≡ 0) noneSeen j 0 (all-replicate (λ x. x ≡ 0) 17 0 refl) refl
+none-yet j = all-get (λ x. x ≡ 0) noneSeen j 0 (all-replicate (λ x. x ≡ 0) K.groups 0 refl) refl
 
-first-counts : (seen : List ℕ) (rs : List Raw) (n : List ℕ) → length seen ≡ 17 → Inside seen
+first-counts : (seen : List ℕ) (rs : List Raw) (n : List ℕ) → length seen ≡ K.groups → Inside seen
     → firstPass seen rs ≡ accepted n → (j : ℕ)
     → (getD n j 0 ≡ getD seen j 0 + getD (counts (gather rs)) j 0) × (getD n j 0 ≤ getD limits j 0)
 unfolding firstPass gather

@@ -11,10 +11,11 @@ use lib.ListN.{length, getD, List·getD-eq-default}
 use lib.IntN.{ℤ, pos}
 use Rattle.semantics.specs.Words.{if_then_else_, all, isEmpty, keep}
 use Rattle.semantics.specs.Numbers as No
+use Rattle.semantics.specs.Numbers.{lowest, ofReturns}
 use Rattle.semantics.specs.Model.{Model}
-use Rattle.semantics.specs.State.{State, Process, Frame, Event, Notice, wakes, returnsR, returnsB, Waiter, Floor, empty, held}
+use Rattle.semantics.specs.State.{State, Process, Frame, Event, Notice, wakes, returnsR, returnsB, Waiter, Floor, empty, heldBy}
 use Rattle.semantics.specs.State.{nobody, process, isFree, with-frames}
-use Rattle.semantics.specs.Step.{lowest, ofReturns, isReturn}
+use Rattle.semantics.specs.Step.{isReturn}
 use Rattle.semantics.specs.Sound as Test
 use Rattle.semantics.specs.Sound.{vacant, furnished, eventTied, waiterTied, processInRange, returnInRange, eventInRange}
 use Rattle.semantics.specs.Sound.{chained, allChained, ownNumber, ownNumbers, woken, waitersPlaces, listed, inOne, addsUp}
@@ -206,7 +207,7 @@ module _ (s : State) where
 
       floor : (f : Floor) → over (once k) (Test.onFloor f) ≡ onFloor k f
       floor empty = refl
-      floor (held p) = omega arith
+      floor (heldBy p) = omega arith
 
   abbrev Once : ℕ → Type 0
   Once = InOne (s .events) (s .waiting) (s .processes) (s .blocked) (λ k. onFloor k (s .floor))

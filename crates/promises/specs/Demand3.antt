@@ -12,7 +12,7 @@ use Rattle.semantics.specs.Words.{if_then_else_}
 use Rattle.semantics.specs.Numbers as No
 use Rattle.semantics.specs.Model.{Model, Entity}
 use Rattle.semantics.specs.Decode.{accepted, decode}
-use Rattle.semantics.specs.State.{State, Process, Frame, Waiter, Event, Notice, wakes, returnsR, returnsB, Floor, empty, held}
+use Rattle.semantics.specs.State.{State, Process, Frame, Waiter, Event, Notice, wakes, returnsR, returnsB, Floor, empty, heldBy}
 use Rattle.semantics.specs.State.{nobody, process, freePlace, newcomer, wake, begin, beginAll, bare, fresh}
 use Rattle.semantics.specs.Walk.{Line}
 use Rattle.semantics.specs.Step.{step}
@@ -62,10 +62,11 @@ module _ (m : Model) where
       let i₁ = ih .0 in let i₂ = ih .1 in
       (omega arith, omega arith)
 
-  fresh-total : Forward m → length (m .entities) ≤ 64 → (total m (fresh m) ≡ bound m) × (length (fresh m .blocked) ≡ 0)
+  fresh-total : Forward m → length (m .entities) ≤ No.mostEntities
+      → (total m (fresh m) ≡ bound m) × (length (fresh m .blocked) ≡ 0)
   unfolding fresh bound total
   fresh-total t h =
-      let l : length (m .entities) + 0 ≤ 64 = omega arith in
+      let l : length (m .entities) + 0 ≤ No.mostEntities = omega arith in
       let z = begin-all-total t (m .entities) (bare m) l in
       (z .0 ∙ zero-add _, z .1)
 
@@ -116,7 +117,7 @@ module _ (m : Model) where
 
         go : (f : Floor) (es : List Event) → s .floor ≡ f → s .events ≡ es
             → length (s .blocked) + 1 ≤ allLeft m (s .processes) + returning (s .events)
-        go (held p) es ef ee = let x = one-more p (λ k. let a = ap (onFloor k) ef in omega arith) in omega arith
+        go (heldBy p) es ef ee = let x = one-more p (λ k. let a = ap (onFloor k) ef in omega arith) in omega arith
         go empty [] ef ee = absurd (idle-stops (s .closed) (rw (ef, ee) at e))
         go empty (x ∷ xs) ef ee = at-first (x .notice) x xs ee refl
 

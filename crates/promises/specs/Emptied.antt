@@ -10,7 +10,7 @@ use Rattle.semantics.specs.Numbers as No
 use Rattle.semantics.specs.Model.{Model}
 use Rattle.semantics.specs.State.{State}
 use Rattle.semantics.specs.Walk.{Line}
-use Rattle.semantics.specs.Run.{Answer, FAULT, Room, endless, lines, run}
+use Rattle.semantics.specs.Run.{Answer, FAULT, Room, endless, roomFor, run}
 use Rattle.promises.specs.Sound.{Sound}
 use Rattle.promises.specs.Lines.{step-lines}
 use Rattle.promises.specs.Safe.{safe-fault, step-safe}
@@ -34,7 +34,7 @@ not-emptied m n r s h = sym (run-endless m n r s h)
 
 -- One that answers 30 with room for the lines of a step has made one.
 moved : {m : Model} {s t : State} {n k j : ℕ} {ls : List Line} {a : Answer} → Sound m s → 65 ≤ k → Made m s j ls t
-    → Why m n (lines k) a j ls t → a ≡ FAULT No.JOURNAL → 1 ≤ j
+    → Why m n (roomFor k) a j ls t → a ≡ FAULT No.JOURNAL → 1 ≤ j
 moved h l (one-made e f g) w q = omega arith
 moved h l none-made (was-closed b) q = let z : _≡_ {A = ℕ} 0 1 = cc in absurd (omega arith)
 moved h l none-made (was-idle b) q = let z : _≡_ {A = ℕ} 0 1 = cc in absurd (omega arith)
@@ -44,6 +44,6 @@ moved {m = m} {s = s} h l none-made (at-fault {j = j} b i f) q =
 moved {m = m} {s = s} {k = k} h l none-made (no-room {x = x} b i f g) q =
     let a = step-lines m s h x f in let c = leb-false (length (x .lines)) k g in absurd (omega arith)
 
-pub moves-on : (m : Model) (n k : ℕ) (s : State) → Sound m s → 65 ≤ k → run m n (lines k) s .answer ≡ FAULT No.JOURNAL
-    → 1 ≤ run m n (lines k) s .steps
-moves-on m n k s h l e = moved h l (run-made m n (lines k) s) (run-why m n (lines k) s) e
+pub moves-on : (m : Model) (n k : ℕ) (s : State) → Sound m s → 65 ≤ k → run m n (roomFor k) s .answer ≡ FAULT No.JOURNAL
+    → 1 ≤ run m n (roomFor k) s .steps
+moves-on m n k s h l e = moved h l (run-made m n (roomFor k) s) (run-why m n (roomFor k) s) e

@@ -44,7 +44,7 @@ declared m bin = length (m .amounts)
 declared m sync = m .syncs
 
 abbrev pub ItemFit : Model → Item → Type 0
-ItemFit m (get k i n) = (i < declared m k) × Within 1 1_000_000 n
+ItemFit m (get k i n) = (i < declared m k) × Within 1 No.topAmount n
 ItemFit m (condition i r v) = (i < length (m .vars)) × I32 v
 
 -- Two items that name one resource, bin or sync.
@@ -57,13 +57,13 @@ abbrev pub Apart : Item → Item → Type 0
 Apart x y = clash x y ≡ false
 
 abbrev pub ClaimFit : Model → Claim → Type 0
-ClaimFit m c = (length c ≤ 4) × AllOf (ItemFit m) c × Ordered Apart c
+ClaimFit m c = (length c ≤ No.mostItems) × AllOf (ItemFit m) c × Ordered Apart c
 
 abbrev pub BranchFit : Model → Branch → Type 0
 BranchFit m b = (b .block < length (m .blocks)) × ClaimFit m (b .claim)
 
 abbrev pub ShareFit : Model → Share → Type 0
-ShareFit m x = (x .of < length (m .totals)) × Within 1 1_000_000 (x .amount)
+ShareFit m x = (x .of < length (m .totals)) × Within 1 No.topAmount (x .amount)
 
 abbrev pub SharesApart : Share → Share → Type 0
 SharesApart x y = eqb (x .of) (y .of) ≡ false
@@ -75,34 +75,34 @@ ActFit m (TRACE e) = ExprFit m e
 ActFit m (SET i e) = (i < length (m .vars)) × ExprFit m e
 ActFit m (LSET i e) = (i < No.locals) × ExprFit m e
 ActFit m (DO n b) = b < length (m .blocks)
-ActFit m (PUTR i n) = (i < length (m .totals)) × Within 1 1_000_000 n
-ActFit m (PUTB i n) = (i < length (m .amounts)) × Within 1 1_000_000 n
-ActFit m (PUTS i n) = (i < m .syncs) × Within 1 64 n
+ActFit m (PUTR i n) = (i < length (m .totals)) × Within 1 No.topAmount n
+ActFit m (PUTB i n) = (i < length (m .amounts)) × Within 1 No.topAmount n
+ActFit m (PUTS i n) = (i < m .syncs) × Within 1 No.mostSlaves n
 ActFit m (BECOME i) = i < m .syncs
 ActFit m (REQ c) = ClaimFit m c
-ActFit m (TRY bs) = Within 1 4 (length bs) × AllOf (BranchFit m) bs
+ActFit m (TRY bs) = Within 1 No.mostBranches (length bs) × AllOf (BranchFit m) bs
 ActFit m (WHILE b c) = (b < length (m .blocks)) × ClaimFit m c
 ActFit m (START c t h) =
-    (c < length (m .classes)) × (t ≤ 1_000_000) × (length h ≤ 4) × AllOf (ShareFit m) h × Ordered SharesApart h
+    (c < length (m .classes)) × (t ≤ No.topAmount) × (length h ≤ No.mostItems) × AllOf (ShareFit m) h × Ordered SharesApart h
 ActFit m CLOSE = Unit {0}
 
 abbrev pub EntityFit : Model → Entity → Type 0
-EntityFit m e = (e .class < length (m .classes)) × (e .offset ≤ 1_000_000)
+EntityFit m e = (e .class < length (m .classes)) × (e .offset ≤ No.topAmount)
 
 pub record Fit (m : Model) : Type 0 where
   pub acts : (b : ℕ) → AllOf (ActFit m) (block m b)
-  pub totals-fit : AllOf (λ n. n ≤ 1_000_000) (m .totals)
-  pub amounts-fit : AllOf (λ n. n ≤ 1_000_000) (m .amounts)
+  pub totals-fit : AllOf (λ n. n ≤ No.topAmount) (m .totals)
+  pub amounts-fit : AllOf (λ n. n ≤ No.topAmount) (m .amounts)
   pub vars-fit : AllOf I32 (m .vars)
   pub entities-fit : AllOf (EntityFit m) (m .entities)
-  pub few-totals : length (m .totals) ≤ 32
-  pub few-amounts : length (m .amounts) ≤ 32
-  pub few-syncs : m .syncs ≤ 32
-  pub few-vars : length (m .vars) ≤ 32
-  pub few-classes : length (m .classes) ≤ 64
-  pub few-blocks : length (m .blocks) ≤ 256
-  pub few-entities : length (m .entities) ≤ 64
-  pub few-actions : over length (m .blocks) ≤ 1_024
+  pub few-totals : length (m .totals) ≤ No.mostThings
+  pub few-amounts : length (m .amounts) ≤ No.mostThings
+  pub few-syncs : m .syncs ≤ No.mostThings
+  pub few-vars : length (m .vars) ≤ No.mostThings
+  pub few-classes : length (m .classes) ≤ No.mostClasses
+  pub few-blocks : length (m .blocks) ≤ No.mostBlocks
+  pub few-entities : length (m .entities) ≤ No.mostEntities
+  pub few-actions : over length (m .blocks) ≤ No.mostActions
 
 -- A block names later ones, which there are, and so does a class.
 pub record Linked (m : Model) : Type 0 where
@@ -112,7 +112,7 @@ pub record Linked (m : Model) : Type 0 where
 -- And a class body nests 8 blocks at most.
 pub record Nested (m : Model) : Type 0 where
   pub later : (b : ℕ) → AllOf (λ a. AllOf (λ k. (b < k) × (k < length (m .blocks))) (inner a)) (block m b)
-  pub bodies : AllOf (λ b. (b < length (m .blocks)) × (depth m b ≤ 8)) (m .classes)
+  pub bodies : AllOf (λ b. (b < length (m .blocks)) × (depth m b ≤ No.deepest)) (m .classes)
 
 -- An action of block b is no WHILE, goes into later blocks only, and starts later class bodies only.
 abbrev pub GoesForward : Model → ℕ → Action → Type 0

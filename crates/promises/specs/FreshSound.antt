@@ -32,7 +32,7 @@ module _ (m : Model) (t : Fit m) where
         clock-ok = omega arith;
         last-ok = omega arith;
         globals-ok = t .vars-fit;
-        bins-ok = all-map (λ n. n ≤ 1_000_000) (λ n. n ≤ No.fullBin) (λ n h. omega arith) (m .amounts) (t .amounts-fit);
+        bins-ok = all-map (λ n. n ≤ No.topAmount) (λ n. n ≤ No.fullBin) (λ n h. omega arith) (m .amounts) (t .amounts-fit);
         procs-ok = all-replicate (ProcOk m 0) No.places nobody (nobody-ok m 0);
         own-number =
             λ k h.

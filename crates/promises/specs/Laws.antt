@@ -11,7 +11,7 @@ use lib.Dec.{eqb}
 use borrow.Author.Tests.{eqb-true, eqb-false}
 use lib.ListN.{length, getD, set, take, drop, replicate, getElem?}
 use Rattle.semantics.specs.Words.{if_then_else_, Outcome, ok, fails, Passed, passed, _>>=_, _>>_, need, all, any, keep, isEmpty}
-use Rattle.semantics.specs.Words.{insert, collect, sum, more, less}
+use Rattle.semantics.specs.Words.{insert, collect, sum, more, fewer}
 
 -- TESTS.
 pub no-way : {A : Type 0} → false ≡ true → A
@@ -419,7 +419,7 @@ module _ (xs : List ℕ) (i a k : ℕ) (h : i < length xs) where
   more-at =
       let b = over-at (λ x. x) xs i k (getD xs i 0 + a) 0 h in let d = only-add k i (getD xs i 0) a in omega arith
 
-  pub less-at : a ≤ getD xs i 0 → getD (less xs i a) k 0 + only k i a ≡ getD xs k 0
+  pub less-at : a ≤ getD xs i 0 → getD (fewer xs i a) k 0 + only k i a ≡ getD xs k 0
   less-at e =
       let b = over-at (λ x. x) xs i k (getD xs i 0 - a) 0 h in
       let d : getD xs i 0 ≡ (getD xs i 0 - a) + a = omega arith in

@@ -12,12 +12,13 @@ use borrow.Author.Tests.{ltb-true, ltb-false}
 use lib.IntN.{natAbs}
 use lib.Signed.{leZ}
 use lib.ListN.{length, getD, set, drop, length-append, length-set}
-use Rattle.semantics.specs.Words.{if_then_else_, Outcome, ok, fails, isEmpty, all, largest, more, less}
+use Rattle.semantics.specs.Words.{if_then_else_, Outcome, ok, fails, isEmpty, all, largest, more, fewer}
 use Rattle.semantics.specs.Numbers as No
+use Rattle.semantics.specs.Numbers.{lowest, ofReturns}
 use Rattle.semantics.specs.Model.{Action, HOLD, PRIO, TRACE, SET, LSET, DO, PUTR, PUTB, PUTS, BECOME, REQ, TRY, WHILE, START}
 use Rattle.semantics.specs.Model.{CLOSE, Expr, Item, get, condition, resource, bin, sync, Claim, Branch, Share, Model, block}
-use Rattle.semantics.specs.Model.{body}
-use Rattle.semantics.specs.State.{State, Process, Frame, Waiter, Event, Notice, wakes, returnsR, returnsB, Floor, empty, held}
+use Rattle.semantics.specs.Model.{body, kindOf}
+use Rattle.semantics.specs.State.{State, Process, Frame, Waiter, Event, Notice, wakes, returnsR, returnsB, Floor, empty, heldBy}
 use Rattle.semantics.specs.State.{nobody, process, put, freePlace, living, at-clock, with-last, with-globals, with-free}
 use Rattle.semantics.specs.State.{with-bins, with-waiting, with-floor, with-events, with-priority, with-locals, with-held}
 use Rattle.semantics.specs.State.{with-slaves, with-frames, sooner, enter, wake, higher, join, onward, past, into, newcomer}
@@ -26,10 +27,10 @@ use Rattle.semantics.specs.Value.{eval}
 use Rattle.semantics.specs.Claim.{takeItem, takeAll, Offer, Then, pass, enterBlock, offers, standsIn, asks, goes, choice}
 use Rattle.semantics.specs.Claim.{follow, grant}
 use Rattle.semantics.specs.Walk.{Next, quiet, walkOn, walk}
-use Rattle.semantics.specs.Step.{lowest, ofReturns, kept, handed, freed, stay, freeAll, comesBack, leave, ends, exhausted, hold}
+use Rattle.semantics.specs.Step.{kept, handed, freed, stay, freeAll, comesBack, leave, ends, exhausted, hold}
 use Rattle.semantics.specs.Step.{prio, setGlobal, setLocal, doTimes, notify, putr, putb, become, puts, start, inFront, request}
 use Rattle.semantics.specs.Step.{trace, close, act, moves, occurs, next, step}
-use Rattle.semantics.specs.Bound.{kindOf, weigh, weight}
+use Rattle.semantics.specs.Bound.{weigh, weight}
 use Rattle.promises.specs.Laws.{no-way, and-true, if-has, not-some, Good, good, stopped, good-bind, good-need, good-map}
 use Rattle.promises.specs.Laws.{AllOf, all-map, all-get, all-hold, drop-some, drop-none, drop-next, over, over-insert}
 use Rattle.promises.specs.Laws.{over-set, length-insert, over-still}
@@ -421,7 +422,7 @@ module _ (m : Model) (t : Forward m) (s : State) (p : ℕ) where
   act-falls l (PUTR i n) e =
       good-need _ _ λ h.
       notify-falls (PUTR i n) e refl (returnsR i n (process s p .number)) refl
-      (with-held (process s p) (less (process s p .held) i n)) refl
+      (with-held (process s p) (fewer (process s p .held) i n)) refl
   act-falls l (PUTB i n) e =
       notify-falls (PUTB i n) e refl (returnsB i n (process s p .number)) refl (process s p) refl
   act-falls l (PUTS i n) e = puts-falls i n e
@@ -526,7 +527,7 @@ module _ (m : Model) (t : Forward m) where
   occurs-pays : (s : State) → length (s .processes) ≡ No.places → (n : Notice) → Good (Pays s (owes n)) (occurs m s n)
   unfolding occurs total
   occurs-pays s l (wakes p) =
-      let u : State = with-floor s (held p) in
+      let u : State = with-floor s (heldBy p) in
       good-map (Falls m u) (Pays s 0) (λ x h. likewise h (omega arith)) _ (moves-falls m t u p l)
   occurs-pays s l (returnsR i n g) = computed (likewise (walk-less m t (with-free s (more (s .free) i n))) (omega arith))
   occurs-pays s l (returnsB i n g) =
@@ -545,6 +546,6 @@ pub step-falls : (m : Model) → Forward m → (s : State) → Sound m s → Goo
 unfolding step
 step-falls m t s h = go (s .floor)
   where
-    go : (f : Floor) → Good (Falls m s) (elim f [ held p ↦ moves m s p | empty ↦ next m s (s .events) ])
-    go (held p) = moves-falls m t s p (h .places-64)
+    go : (f : Floor) → Good (Falls m s) (elim f [ heldBy p ↦ moves m s p | empty ↦ next m s (s .events) ])
+    go (heldBy p) = moves-falls m t s p (h .places-64)
     go empty = next-falls m t s (h .places-64) (s .events) refl

@@ -9,10 +9,11 @@ use mathlib.Core.Bool.{Bool, true, false}
 use lib.Dec.{eqb, ltb}
 use lib.ListN.{length}
 use Rattle.semantics.specs.Words.{Outcome, ok, isEmpty}
+use Rattle.semantics.specs.Numbers as No
 use Rattle.semantics.specs.Model.{Model, Action, HOLD, PRIO, TRACE, SET, LSET, DO, PUTR, PUTB, PUTS, BECOME, REQ, TRY, WHILE}
 use Rattle.semantics.specs.Model.{START, CLOSE}
 use Rattle.semantics.specs.State.{State, Process, Frame, Slave, Waiter, Event, Notice, wakes, returnsR, returnsB, Floor}
-use Rattle.semantics.specs.State.{empty, held, nobody, process, with-floor, with-events, at-clock, wake}
+use Rattle.semantics.specs.State.{empty, heldBy, nobody, process, with-floor, with-events, at-clock, wake}
 use Rattle.semantics.specs.Value.{eval}
 use Rattle.semantics.specs.Claim.{offers, Choice, asks, choice, grant}
 use Rattle.semantics.specs.Walk.{Next, walkOn, walk}
@@ -67,8 +68,8 @@ FewLines o = Good (λ n. length (n .lines) ≤ 65) o
 
 -- As many as can wait or be owned.
 record Listed (s : State) : Type 0 where
-  blocked-few : length (s .blocked) ≤ 64
-  slaves-few : (p : ℕ) → length (process s p .slaves) ≤ 64
+  blocked-few : length (s .blocked) ≤ No.places
+  slaves-few : (p : ℕ) → length (process s p .slaves) ≤ No.places
 
 module _ (m : Model) (s : State) (h : Listed s) (p : ℕ) where
   abbrev q : Process
@@ -122,7 +123,7 @@ module _ (m : Model) where
   occurs-lines : (s : State) → Listed s → (n : Notice) → FewLines (occurs m s n)
   unfolding occurs
   occurs-lines s h (wakes p) =
-      moves-lines m (with-floor s (held p)) (record { blocked-few = h .blocked-few; slaves-few = h .slaves-few }) p
+      moves-lines m (with-floor s (heldBy p)) (record { blocked-few = h .blocked-few; slaves-few = h .slaves-few }) p
   occurs-lines s h (returnsR i n g) = good (walked m s h 0 _ refl)
   occurs-lines s h (returnsB i n g) = good-need _ _ λ a. good (walked m s h 0 _ refl)
 
@@ -130,8 +131,8 @@ module _ (m : Model) where
   unfolding step next
   few-lines s h = go (s .floor) (s .events)
     where
-      go : (f : Floor) (es : List Event) → FewLines (elim f [ held p ↦ moves m s p | empty ↦ next m s es ])
-      go (held p) es = moves-lines m s h p
+      go : (f : Floor) (es : List Event) → FewLines (elim f [ heldBy p ↦ moves m s p | empty ↦ next m s es ])
+      go (heldBy p) es = moves-lines m s h p
       go empty [] = stopped
       go empty (x ∷ xs) =
           occurs-lines (with-events (at-clock s (x .time)) xs)
@@ -140,9 +141,9 @@ module _ (m : Model) where
   pub step-lines : (s : State) → Sound m s → (n : Next) → step m s ≡ ok n → length (n .lines) ≤ 65
   step-lines s h n e =
       let fits = lists-fit m s h in
-      let each = longest (λ q. length (q .slaves)) 64 (s .processes) (fits .slaves-fit) in
+      let each = longest (λ q. length (q .slaves)) No.places (s .processes) (fits .slaves-fit) in
       let few : Listed s = record {
         blocked-few = fits .blocked-fit;
-        slaves-few = λ p. all-get (λ q. length (q .slaves) ≤ 64) (s .processes) p nobody each (omega arith);
+        slaves-few = λ p. all-get (λ q. length (q .slaves) ≤ No.places) (s .processes) p nobody each (omega arith);
       } in
       good-out (λ n. length (n .lines) ≤ 65) (step m s) n e (few-lines s few)

@@ -10,6 +10,7 @@ use lib.Dec.{eqb, leb}
 use borrow.Author.Tests.{eqb-true}
 use lib.ListN.{length, getElem?}
 use Rattle.semantics.specs.Words.{any, collect, largest}
+use Rattle.semantics.specs.Numbers as No
 use Rattle.semantics.specs.Model.{Model, block, Branch, Action, HOLD, PRIO, TRACE, SET, LSET, DO, PUTR, PUTB, PUTS, BECOME, REQ}
 use Rattle.semantics.specs.Model.{TRY, WHILE, START, CLOSE}
 use Rattle.semantics.specs.Decode.{inner, depthIn, depth}
@@ -97,11 +98,11 @@ module _ (m : Model) (n : Nested m) where
 
   -- The depth of the innermost block and the number of those around it are at most 8 together, and there is such a block.
   pub chain-depth : (f : Frame) (fs : List Frame) → chained m (f ∷ fs) ≡ true
-      → (depth m (f .block) + length fs ≤ 8) × (f .block < length (m .blocks))
+      → (depth m (f .block) + length fs ≤ No.deepest) × (f .block < length (m .blocks))
   chain-depth f [] c =
       let a = and-true (leb (f .at) (length (block m (f .block)))) _ c .1 in
       let b = and-true (namedThere m f []) _ a .0 in
-      any-has (λ b. (b < length (m .blocks)) × (depth m b ≤ 8)) _ (eqb (f .block))
+      any-has (λ b. (b < length (m .blocks)) × (depth m b ≤ No.deepest)) _ (eqb (f .block))
       (λ c e h. rw (eqb-true (f .block) c e) (let d = h .1 in (omega arith, h .0)))
       (m .classes) (and-true (any (eqb (f .block)) (m .classes)) _ b .0) (n .bodies)
   chain-depth f (g ∷ gs) c =
@@ -110,14 +111,14 @@ module _ (m : Model) (n : Nested m) where
       go (getElem? (block m (g .block)) (g .at)) refl (b .0) (chain-depth g gs (b .1) .0)
     where
       go : (x : Option Action) → getElem? (block m (g .block)) (g .at) ≡ x → entersAt x (f .block) (f .rounds) ≡ true
-          → depth m (g .block) + length gs ≤ 8
-          → (depth m (f .block) + suc (length gs) ≤ 8) × (f .block < length (m .blocks))
+          → depth m (g .block) + length gs ≤ No.deepest
+          → (depth m (f .block) + suc (length gs) ≤ No.deepest) × (f .block < length (m .blocks))
       go none e s h = no-way s
       go (some x) e s h =
           let d = deeper (g .block) (g .at) x (f .block) (f .rounds) e s in
           (omega arith, later-at (g .block) (g .at) x (f .block) (f .rounds) e s .1)
 
-pub eight-blocks : (m : Model) → Nested m → (fs : List Frame) → chained m fs ≡ true → length fs ≤ 8
+pub eight-blocks : (m : Model) → Nested m → (fs : List Frame) → chained m fs ≡ true → length fs ≤ No.deepest
 eight-blocks m n [] c = omega arith
 eight-blocks m n (f ∷ fs) c =
     let d = chain-depth m n f fs c in let e = some-depth m (f .block) (d .1) in let d₀ = d .0 in omega arith

@@ -12,8 +12,9 @@ use borrow.Author.Tests.{ltb-true, leb-true, le-leb, eqb-true, eqb-false, eq-eqb
 use lib.ListN.{length, getD, set, getElem?, length-set, length-replicate}
 use lib.IntN.{ℤ, pos, negsuc, negℤ, _+ℤ_, _-ℤ_, _*ℤ_}
 use lib.Signed.{mag, leZ}
-use Rattle.semantics.specs.Words.{if_then_else_, Outcome, _>>=_, any, keep, more, less}
+use Rattle.semantics.specs.Words.{if_then_else_, Outcome, _>>=_, any, keep, more, fewer}
 use Rattle.semantics.specs.Numbers as No
+use Rattle.semantics.specs.Numbers.{lowest}
 use Rattle.semantics.specs.Model.{Expr, literal, global, local, add, subtract, multiply, lesser, greater, negate, theClock}
 use Rattle.semantics.specs.Model.{Share, Model, block, body, Action, HOLD, PRIO, TRACE, SET, LSET, DO, PUTR, PUTB, PUTS, BECOME}
 use Rattle.semantics.specs.Model.{REQ, TRY, WHILE, START, CLOSE}
@@ -22,7 +23,7 @@ use Rattle.semantics.specs.State.{with-priority, with-locals, with-held, with-s
 use Rattle.semantics.specs.Value.{isI32, inRange, eval}
 use Rattle.semantics.specs.Claim.{standsIn}
 use Rattle.semantics.specs.Walk.{Next}
-use Rattle.semantics.specs.Step.{lowest, isReturn, handed, kept, freed, stay, comesBack, leave, exhausted, act, moves}
+use Rattle.semantics.specs.Step.{isReturn, handed, kept, freed, stay, comesBack, leave, exhausted, act, moves}
 use Rattle.semantics.specs.Sound.{enters, entersAt, namedThere, chained}
 use Rattle.promises.specs.Laws.{and-true, true-and, or-left, or-right, if-has, not-some, Good, good, good-then, good-need}
 use Rattle.promises.specs.Laws.{AllOf, all-map, all-both, all-set, all-get, all-at, all-replicate, Ordered, some-in, over}
@@ -93,25 +94,25 @@ onward-al (f ∷ fs) = refl
 not-once : {A : Type 0} (b : Bool) (r : ℕ) → 1 < r → b && eqb r 1 ≡ true → A
 not-once b r l n = let v = eqb-true r 1 (and-true b _ n .1) in absurd (omega arith)
 
-fewer : (a : Action) (b r : ℕ) → 1 < r → enters a b r ≡ true → enters a b (r - 1) ≡ true
-fewer (HOLD e) b r l n = n
-fewer (PRIO e) b r l n = n
-fewer (TRACE e) b r l n = n
-fewer (SET i e) b r l n = n
-fewer (LSET i e) b r l n = n
-fewer (DO k x) b r l n =
+one-fewer : (a : Action) (b r : ℕ) → 1 < r → enters a b r ≡ true → enters a b (r - 1) ≡ true
+one-fewer (HOLD e) b r l n = n
+one-fewer (PRIO e) b r l n = n
+one-fewer (TRACE e) b r l n = n
+one-fewer (SET i e) b r l n = n
+one-fewer (LSET i e) b r l n = n
+one-fewer (DO k x) b r l n =
     let u = and-true (eqb x b) _ n in
     let v = leb-true r k (and-true (leb 1 r) _ (u .1) .1) in
     true-and (eqb x b) _ (u .0) (true-and (leb 1 (r - 1)) _ (omega (arith, le-leb)) (omega (arith, le-leb)))
-fewer (PUTR i x) b r l n = n
-fewer (PUTB i x) b r l n = n
-fewer (PUTS i x) b r l n = n
-fewer (BECOME i) b r l n = n
-fewer (REQ c) b r l n = n
-fewer (TRY bs) b r l n = not-once (any (λ x. eqb (x .block) b) bs) r l n
-fewer (WHILE k c) b r l n = not-once (eqb k b) r l n
-fewer (START c d g) b r l n = n
-fewer CLOSE b r l n = n
+one-fewer (PUTR i x) b r l n = n
+one-fewer (PUTB i x) b r l n = n
+one-fewer (PUTS i x) b r l n = n
+one-fewer (BECOME i) b r l n = n
+one-fewer (REQ c) b r l n = n
+one-fewer (TRY bs) b r l n = not-once (any (λ x. eqb (x .block) b) bs) r l n
+one-fewer (WHILE k c) b r l n = not-once (eqb k b) r l n
+one-fewer (START c d g) b r l n = n
+one-fewer CLOSE b r l n = n
 
 -- A block is entered, or gone round again, at its first action.
 abbrev first : ℕ → ℕ → Frame
@@ -155,7 +156,7 @@ module _ (m : Model) where
     where
       by : (x : Option Action) → entersAt x (f .block) (f .rounds) ≡ true → entersAt x (f .block) (f .rounds - 1) ≡ true
       by none n = n
-      by (some a) n = fewer a (f .block) (f .rounds) l n
+      by (some a) n = one-fewer a (f .block) (f .rounds) l n
 
       again : (gs : List Frame) → namedThere m f gs ≡ true → namedThere m (first (f .block) (f .rounds - 1)) gs ≡ true
       again [] n = not-once (any (eqb (f .block)) (m .classes)) (f .rounds) l n
@@ -258,7 +259,7 @@ handed-at (x ∷ xs) l j k =
 pub kept-length : (h : List Share) (l : List ℕ) → length (kept h l) ≡ length l
 unfolding kept
 kept-length [] l = refl
-kept-length (x ∷ xs) l = kept-length xs (less l (x .of) (x .amount)) ∙ length-set l (x .of) _
+kept-length (x ∷ xs) l = kept-length xs (fewer l (x .of) (x .amount)) ∙ length-set l (x .of) _
 
 has-less : (l : List ℕ) (x : Share) (a : ℕ) (y : Share) → SharesApart x y → Has l y → Has (set l (x .of) a) y
 has-less l x a y o h = rw (set-away l (x .of) (y .of) a 0 (once-apart (x .of) (y .of) (eqb-false (x .of) (y .of) o))) h
@@ -270,10 +271,10 @@ unfolding kept
 kept-at [] l j k a e = omega arith
 kept-at (x ∷ xs) l j k a e =
     let b = less-at l (x .of) (x .amount) j (k .0) (leb-true (x .amount) (getD l (x .of) 0) (e .0)) in
-    let d = all-map (λ y. SharesApart x y × Has l y) (Has (less l (x .of) (x .amount)))
+    let d = all-map (λ y. SharesApart x y × Has l y) (Has (fewer l (x .of) (x .amount)))
     (λ y d. has-less l x (getD l (x .of) 0 - x .amount) y (d .0) (d .1)) xs
     (all-both (SharesApart x) (Has l) xs (a .0) (e .1)) in
-    let ih = kept-at xs (less l (x .of) (x .amount)) j (known-set l (x .of) _ xs (k .1)) (a .1) d in
+    let ih = kept-at xs (fewer l (x .of) (x .amount)) j (known-set l (x .of) _ xs (k .1)) (a .1) d in
     omega arith
 
 -- SLAVES freed, and those that stay.

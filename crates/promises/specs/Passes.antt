@@ -10,11 +10,12 @@ use borrow.Author.Tests.{ltb-true, eqb-true}
 use lib.ListN.{length, getD, drop}
 use Rattle.semantics.specs.Words.{if_then_else_, Outcome, ok, fails, Passed, passed, _>>_, need, all}
 use Rattle.semantics.specs.Numbers as No
+use Rattle.semantics.specs.Kinds as K
 use Rattle.semantics.specs.Model.{Model}
 use Rattle.semantics.specs.Bytes.{u16, Raw, raw, recordsFrom}
 use Rattle.semantics.specs.Record.{Row, table, rowIn, rowOf, inSet, sized, valid, twice, bodyJudged}
 use Rattle.semantics.specs.Decode.{Checked, refused, accepted, placed, judged, saw, firstPass, noneSeen, tailKnown, fieldKnown}
-use Rattle.semantics.specs.Decode.{innerOf, named, opened, secondPass, gather, depth, thirdPass, andThen, decode}
+use Rattle.semantics.specs.Decode.{innerOf, named, opened, secondPass, gather, depth, thirdPass, ifAccepted, decode}
 use Rattle.promises.specs.Laws.{and-true, not-true, if-has, needed-then, needed-two, AllOf}
 
 pub not-accepted : {A B : Type 0} {n p : ℕ} {a : A} → _≡_ {A = Checked A} (refused n p) (accepted a) → B
@@ -30,7 +31,7 @@ pub record Passes (rs : List Raw) : Type 0 where
   pub two : TwoPasses rs
   pub third : thirdPass (gather rs .model) rs ≡ accepted passed
 
-then-is : {A B : Type 0} (c : Checked A) (f : A → Checked B) (b : B) → andThen c f ≡ accepted b
+then-is : {A B : Type 0} (c : Checked A) (f : A → Checked B) (b : B) → ifAccepted c f ≡ accepted b
     → (a : A) × (c ≡ accepted a) × (f a ≡ accepted b)
 then-is (refused n p) f b e = not-accepted e
 then-is (accepted a) f b e = (a, refl, e)
@@ -39,7 +40,7 @@ then-is (accepted a) f b e = (a, refl, e)
 pub accepted-by : (bs : List ℕ) (m : Model) → decode bs ≡ accepted m
     → Passes (recordsFrom 0 bs) × (gather (recordsFrom 0 bs) .model ≡ m)
 unfolding decode
-accepted-by bs m e = go (leb (length bs) 65_535) e
+accepted-by bs m e = go (leb (length bs) No.longestFile) e
   where
     rs : List Raw
     rs = recordsFrom 0 bs
@@ -48,17 +49,17 @@ accepted-by bs m e = go (leb (length bs) 65_535) e
     x = gather rs .model
 
     thirdly : Passed → Checked Model
-    thirdly p = andThen (thirdPass x rs) λ q. accepted x
+    thirdly p = ifAccepted (thirdPass x rs) λ q. accepted x
 
     secondly : List ℕ → Checked Model
-    secondly n = andThen (secondPass n 0 rs) thirdly
+    secondly n = ifAccepted (secondPass n 0 rs) thirdly
 
     done : (n : List ℕ) (p q : Passed) → firstPass noneSeen rs ≡ accepted n → secondPass n 0 rs ≡ accepted p
         → thirdPass x rs ≡ accepted q → Passes rs
     done n passed passed a b c = record { two = record { seen = n; first = a; second = b }; third = c }
 
     go : (b : Bool)
-        → _≡_ {A = Checked Model} (elim b [ false ↦ refused No.MANY 0 | true ↦ andThen (firstPass noneSeen rs) secondly ])
+        → _≡_ {A = Checked Model} (elim b [ false ↦ refused No.MANY 0 | true ↦ ifAccepted (firstPass noneSeen rs) secondly ])
         (accepted m)
         → Passes rs × (x ≡ m)
     go false k = not-accepted k
@@ -91,14 +92,14 @@ pub record Named (n : List ℕ) (own : ℕ) (r : Row) (bs : List ℕ) : Type 0 w
 judged-by : (seen : List ℕ) (r : Row) (bs : List ℕ)
     → _≡_ {A = Outcome Passed} (do
       need No.KIND (ltb 0 (r .group))
-      need No.PLACE (placed (r .group) (getD seen 6 0))
+      need No.PLACE (placed (r .group) (getD seen K.BLOCK 0))
       need No.MANY (ltb (getD seen (r .group) 0) (r .most))
       bodyJudged r bs) (ok passed)
     → Judged seen r bs
 unfolding bodyJudged
 judged-by seen r bs e =
     let a = needed-then No.KIND (ltb 0 (r .group)) _ e in
-    let b = needed-then No.PLACE (placed (r .group) (getD seen 6 0)) _ (a .1) in
+    let b = needed-then No.PLACE (placed (r .group) (getD seen K.BLOCK 0)) _ (a .1) in
     let c = needed-then No.MANY (ltb (getD seen (r .group) 0) (r .most)) _ (b .1) in
     let d = needed-then No.SIZE (leb (r .head) (length bs) && sized (r .tail) (drop (r .head) bs)) _ (c .1) in
     let t = needed-two No.VALUE No.TWICE _ _ (d .1) in
@@ -143,9 +144,9 @@ module _ (at k : ℕ) (bs : List ℕ) (rs : List Raw) where
       (named-by n own (rowOf k) bs (a .0), a .1)
 
   pub third-on : (m : Model) → thirdPass m (raw at k bs ∷ rs) ≡ accepted passed
-      → (eqb k 5 && ltb 8 (depth m (u16 bs 0)) ≡ false) × (thirdPass m rs ≡ accepted passed)
+      → (eqb k K.CLASS && ltb No.deepest (depth m (u16 bs 0)) ≡ false) × (thirdPass m rs ≡ accepted passed)
   unfolding thirdPass
-  third-on m e = go (eqb k 5 && ltb 8 (depth m (u16 bs 0))) e
+  third-on m e = go (eqb k K.CLASS && ltb No.deepest (depth m (u16 bs 0))) e
     where
       go : (b : Bool) → (if b then refused No.DEEP at else thirdPass m rs) ≡ accepted passed
           → (b ≡ false) × (thirdPass m rs ≡ accepted passed)

@@ -65,10 +65,10 @@ module _ (bs : List ℕ) (m : Model) (e : decode bs ≡ accepted m) where
   pub lists-are-short : (s : State) → sound bs s ≡ true → Fitting s
   lists-are-short s h = lists-fit m s (is-sound s h)
 
-  pub blocks-are-few : (s : State) (p : ℕ) → sound bs s ≡ true → length (process s p .frames) ≤ 8
+  pub blocks-are-few : (s : State) (p : ℕ) → sound bs s ≡ true → length (process s p .frames) ≤ No.deepest
   blocks-are-few s p h =
       let q : Process = process s p in
-      free-or-fine (length (q .frames) ≤ 8) (proc-at (is-sound s h) p)
+      free-or-fine (length (q .frames) ≤ No.deepest) (proc-at (is-sound s h) p)
       (λ d v. let a = ap length (al-none (q .frames) d) in omega arith)
       (λ d f. eight-blocks m (accepted-nested bs m e) (q .frames) (f .frames-ok))
 

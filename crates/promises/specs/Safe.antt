@@ -12,7 +12,7 @@ use Rattle.semantics.specs.Words.{if_then_else_, Outcome, ok, fails, _>>=_, _>>
 use Rattle.semantics.specs.Model.{Expr, literal, global, local, add, subtract, multiply, lesser, greater, negate, theClock}
 use Rattle.semantics.specs.Model.{Model, Action, HOLD, PRIO, TRACE, SET, LSET, DO, PUTR, PUTB, PUTS, BECOME, REQ, TRY, WHILE}
 use Rattle.semantics.specs.Model.{START, CLOSE}
-use Rattle.semantics.specs.State.{State, Process, Frame, Event, Notice, wakes, returnsR, returnsB, Floor, empty, held, process}
+use Rattle.semantics.specs.State.{State, Process, Frame, Event, Notice, wakes, returnsR, returnsB, Floor, empty, heldBy, process}
 use Rattle.semantics.specs.State.{with-floor, with-events, at-clock}
 use Rattle.semantics.specs.Value.{isI32, inRange, eval}
 use Rattle.semantics.specs.Claim.{offers, Choice, choice}
@@ -116,7 +116,7 @@ module _ (m : Model) where
   occurs-safe : (s : State) (n : Notice) → ((p : ℕ) → noticed p n ≤ al (process s p .frames)) → Safe (occurs m s n)
   unfolding occurs
   occurs-safe s (wakes p) l =
-      moves-safe (with-floor s (held p)) p (let a = l p in let b = once-self p in omega arith)
+      moves-safe (with-floor s (heldBy p)) p (let a = l p in let b = once-self p in omega arith)
   occurs-safe s (returnsR i n g) l = safe
   occurs-safe s (returnsB i n g) l = safe-need _ _ refl safe
 
@@ -126,8 +126,8 @@ module _ (m : Model) where
   step-safe s h b = go (s .floor) (s .events) refl refl
     where
       go : (f : Floor) (es : List Event) → s .floor ≡ f → s .events ≡ es
-          → Safe {A = Next} (elim f [ held p ↦ moves m s p | empty ↦ next m s es ])
-      go (held p) es e g =
+          → Safe {A = Next} (elim f [ heldBy p ↦ moves m s p | empty ↦ next m s es ])
+      go (heldBy p) es e g =
           moves-safe s p (let a = h .in-one p in let l = once-self p in let c = ap (onFloor p) e in omega arith)
       go empty [] e g = absurd (idle-stops (s .closed) (rw (e, g) at b))
       go empty (x ∷ xs) e g =

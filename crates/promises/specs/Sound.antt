@@ -8,11 +8,11 @@ use mathlib.Core.Bool.{true}
 use lib.ListN.{length, getD}
 use lib.IntN.{ℤ, pos, negsuc}
 use Rattle.semantics.specs.Numbers as No
+use Rattle.semantics.specs.Numbers.{lowest, ofReturns}
 use Rattle.semantics.specs.Model.{Model}
 use Rattle.semantics.specs.State.{State, Process, Frame, Slave, Waiter, Event, Notice, wakes, returnsR, returnsB, Floor, empty}
-use Rattle.semantics.specs.State.{held, nobody}
+use Rattle.semantics.specs.State.{heldBy, nobody}
 use Rattle.semantics.specs.Claim.{standsIn}
-use Rattle.semantics.specs.Step.{lowest, ofReturns}
 use Rattle.semantics.specs.Sound.{chained, asksAt}
 use Rattle.promises.specs.Laws.{AllOf, Ordered, over, only, once}
 use Rattle.promises.specs.Fit.{I32, Within}
@@ -38,7 +38,7 @@ al (f ∷ fs) = 1
 
 abbrev pub onFloor : ℕ → Floor → ℕ
 onFloor k empty = 0
-onFloor k (held p) = once k p
+onFloor k (heldBy p) = once k p
 
 abbrev pub noticed : ℕ → Notice → ℕ
 noticed k (wakes p) = once k p
@@ -110,7 +110,7 @@ pub record ProcOk (m : Model) (n : ℕ) (q : Process) : Type 0 where
 pub record ReturnOk (known n : ℕ) (x : ℤ) (i a g : ℕ) : Type 0 where
   pub is-low : x ≡ ofReturns
   pub is-known : i < known
-  pub amount-ok : Within 1 1_000_000 a
+  pub amount-ok : Within 1 No.topAmount a
   pub giver-ok : Within 1 n g
 
 abbrev pub NoticeOk : Model → ℕ → List Process → ℤ → Notice → Type 0

@@ -11,18 +11,19 @@ use borrow.Author.Tests.{ltb-true, leb-true, le-leb, eqb-true, eq-eqb}
 use lib.ListN.{length, getD, set, length-set, length-map}
 use lib.IntN.{ℤ, natAbs}
 use lib.Signed.{leZ, nonNeg}
-use Rattle.semantics.specs.Words.{if_then_else_, Outcome, ok, _>>=_, all, keep, isEmpty, more, less, within}
+use Rattle.semantics.specs.Words.{if_then_else_, Outcome, ok, _>>=_, all, keep, isEmpty, more, fewer, within}
 use Rattle.semantics.specs.Numbers as No
+use Rattle.semantics.specs.Numbers.{lowest, ofReturns}
 use Rattle.semantics.specs.Model.{Expr, Share, Model, Action, HOLD, PRIO, TRACE, SET, LSET, DO, PUTR, PUTB, PUTS, BECOME, REQ}
 use Rattle.semantics.specs.Model.{TRY, WHILE, START, CLOSE}
-use Rattle.semantics.specs.State.{State, Process, Frame, Waiter, Event, Notice, wakes, returnsR, returnsB, Floor, empty, held}
+use Rattle.semantics.specs.State.{State, Process, Frame, Waiter, Event, Notice, wakes, returnsR, returnsB, Floor, empty, heldBy}
 use Rattle.semantics.specs.State.{nobody, process, put, freePlace, living, newcomer, at-clock, with-last, with-globals}
 use Rattle.semantics.specs.State.{with-free, with-bins, with-waiting, with-floor, with-events, with-priority, with-locals}
 use Rattle.semantics.specs.State.{with-held, with-slaves, with-frames, wake, join, past, into, begin}
 use Rattle.semantics.specs.Value.{eval}
 use Rattle.semantics.specs.Claim.{Offer, offers, standsIn, goes, choice, grant}
 use Rattle.semantics.specs.Walk.{Next, quiet}
-use Rattle.semantics.specs.Step.{lowest, ofReturns, isReturn, handed, kept, freed, stay, freeAll, leave, ends, exhausted, hold}
+use Rattle.semantics.specs.Step.{isReturn, handed, kept, freed, stay, freeAll, leave, ends, exhausted, hold}
 use Rattle.semantics.specs.Step.{prio, setGlobal, setLocal, doTimes, notify, putr, putb, become, puts, start, inFront, request}
 use Rattle.semantics.specs.Step.{while, trace, close, act, moves, occurs, next, step}
 use Rattle.semantics.specs.Sound.{chained, asking, asksAt}
@@ -69,7 +70,7 @@ free-all-sound m i (r ∷ rs) s h =
 -- THE PROCESS q in place p of r has the floor in s. Each action of it, and the end of a block, leads on to a sound state.
 module _ (m : Model) (t : Fit m) (r : State) (p : ℕ) where
   abbrev s : State
-  s = with-floor r (held p)
+  s = with-floor r (heldBy p)
 
   abbrev q : Process
   q = process r p
@@ -162,7 +163,7 @@ module _ (m : Model) (t : Fit m) (r : State) (p : ℕ) where
         good-need No.HELD (leb n (getD (q .held) i 0)) λ h₁.
         let f = fine in
         let k₀ = k .0 in
-        notify-sound (PUTR i n) e (returnsR i n (q .number)) (with-held q (less (q .held) i n))
+        notify-sound (PUTR i n) e (returnsR i n (q .number)) (with-held q (fewer (q .held) i n))
         (fine-held f _ (length-set (q .held) i _)) refl refl refl refl (λ k. refl)
         (record { is-low = refl; is-known = k₀; amount-ok = k .1; giver-ok = omega arith })
         (λ j. less-at (q .held) i n j (omega arith) (leb-true n (getD (q .held) i 0) h₁))
@@ -323,9 +324,9 @@ pub step-sound : (m : Model) → Fit m → (s : State) → Sound m s → Good (�
 unfolding step
 step-sound m t s h = go (s .floor) refl
   where
-    go : (f : Floor) → s .floor ≡ f → Leads m (elim f [ held p ↦ moves m s p | empty ↦ next m s (s .events) ])
-    go (held p) e =
-        let same : with-floor s (held p) ≡ s = ap (with-floor s) (sym e) in
+    go : (f : Floor) → s .floor ≡ f → Leads m (elim f [ heldBy p ↦ moves m s p | empty ↦ next m s (s .events) ])
+    go (heldBy p) e =
+        let same : with-floor s (heldBy p) ≡ s = ap (with-floor s) (sym e) in
         subst (λ u. Leads m (moves m u p)) same
         (moves-sound m t s p (recount h (λ k. ap (onFloor k) (sym e)) (λ j. refl)))
     go empty e = next-sound m t s (s .events) e (recount h (λ k. ap (onFloor k) (sym e)) (λ j. refl))

@@ -9,7 +9,7 @@ use mathlib.Core.Option.{Option, none, some}
 use lib.Dec.{eqb}
 use borrow.Author.Tests.{leb-true, eq-eqb, eqb-false}
 use lib.ListN.{length, getD, set, take, drop, length-set}
-use Rattle.semantics.specs.Words.{any, more, less}
+use Rattle.semantics.specs.Words.{any, more, fewer}
 use Rattle.semantics.specs.Numbers as No
 use Rattle.semantics.specs.Model.{Kind, resource, bin, sync, Item, get, condition, Claim, Branch, Model, Action, HOLD, PRIO}
 use Rattle.semantics.specs.Model.{TRACE, SET, LSET, DO, PUTR, PUTB, PUTS, BECOME, REQ, TRY, WHILE, START, CLOSE}
@@ -140,8 +140,8 @@ module _ (m : Model) (s : State) {l : List Waiter} {z : ℕ → ℕ} (h : Held m
       let f = hand-fine h p one in
       let k₀ = k .0 in
       let u : i < length (s .free) = let a = h .frees-many in omega arith in
-      let a : Held m (with-free s (less (s .free) i n)) l z (λ j. only j i n) =
-      frees h (less (s .free) i n) (length-set (s .free) i _)
+      let a : Held m (with-free s (fewer (s .free) i n)) l z (λ j. only j i n) =
+      frees h (fewer (s .free) i n) (length-set (s .free) i _)
       (λ j. let b = less-at (s .free) i n j u (leb-true n (getD (s .free) i 0) e) in omega arith) in
       alter a p (with-held q (more (q .held) i n)) one (fine-held f _ (length-set (q .held) i _)) (hand-alive h p one) refl
       (λ j. refl) (λ j. let b = more-at (q .held) i n j (omega arith) in omega arith)

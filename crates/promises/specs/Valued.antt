@@ -11,6 +11,7 @@ use borrow.Author.Tests.{leb-true, ltb-true, ltb-false, eqb-true}
 use lib.ListN.{length, getD, drop, length-map}
 use Rattle.semantics.specs.Words.{all, any, within}
 use Rattle.semantics.specs.Numbers as No
+use Rattle.semantics.specs.Kinds as K
 use Rattle.semantics.specs.Model.{Expr, add, subtract, multiply, lesser, greater, negate, theClock, resource, bin, sync, Item}
 use Rattle.semantics.specs.Model.{get, condition, Model}
 use Rattle.semantics.specs.Bytes.{u8, u16, u32, i32, signed, parts}
@@ -61,7 +62,7 @@ itemAt x k =
     (condition (u16 x 2) (relationOf (u8 x 1)) (i32 x 4))
 
 abbrev validAt : List ℕ → ℕ → Bool
-validAt x k = (leb k 2 && (eqb (u8 x 1) 0 && within 1 1_000_000 (u32 x 4))) || (eqb k 3 && within 1 6 (u8 x 1))
+validAt x k = (leb k 2 && (eqb (u8 x 1) 0 && within 1 No.topAmount (u32 x 4))) || (eqb k 3 && within 1 6 (u8 x 1))
 
 no-clash : (x y : List ℕ) (k l : ℕ) → leb k 2 && (eqb k l && eqb (u16 x 2) (u16 y 2)) ≡ false → Apart (itemAt x k) (itemAt y l)
 no-clash x y zero zero e = e
@@ -79,22 +80,22 @@ no-clash x y (suc (suc zero)) (suc (suc (suc l))) e = refl
 no-clash x y (suc (suc (suc k))) l e = refl
 
 -- a thing is claimed in an amount from 1 on
-amount : (x : List ℕ) → (eqb (u8 x 1) 0 && within 1 1_000_000 (u32 x 4)) || false ≡ true → Within 1 1_000_000 (u32 x 4)
+amount : (x : List ℕ) → (eqb (u8 x 1) 0 && within 1 No.topAmount (u32 x 4)) || false ≡ true → Within 1 No.topAmount (u32 x 4)
 amount x e =
-    or-true (eqb (u8 x 1) 0 && within 1 1_000_000 (u32 x 4)) false e (Within 1 1_000_000 (u32 x 4))
+    or-true (eqb (u8 x 1) 0 && within 1 No.topAmount (u32 x 4)) false e (Within 1 No.topAmount (u32 x 4))
     (λ f. says-within .yes (and-true (eqb (u8 x 1) 0) _ f .1)) (λ f. no-way f)
 
 -- past the kinds of things there is one of conditions
 at-3 : (x : List ℕ) (k : ℕ) → 3 ≤ k → validAt x k ≡ true → k ≡ 3
 at-3 x k h e =
-    or-true (leb k 2 && (eqb (u8 x 1) 0 && within 1 1_000_000 (u32 x 4))) _ e (k ≡ 3)
+    or-true (leb k 2 && (eqb (u8 x 1) 0 && within 1 No.topAmount (u32 x 4))) _ e (k ≡ 3)
     (λ f. let l = leb-true k 2 (and-true (leb k 2) _ f .0) in absurd (omega arith))
     (λ f. eqb-true k 3 (and-true (eqb k 3) _ f .0))
 
 -- AN ENTRY that fits. A class body also nests 8 blocks at most.
 abbrev pub EntryFit : Model → Entry → Type 0
-EntryFit m (RES n) = n ≤ 1_000_000
-EntryFit m (BIN n) = n ≤ 1_000_000
+EntryFit m (RES n) = n ≤ No.topAmount
+EntryFit m (BIN n) = n ≤ No.topAmount
 EntryFit m SYNC = Unit {0}
 EntryFit m (VAR v) = I32 v
 EntryFit m (CLASS b) = b < length (m .blocks)
@@ -133,9 +134,9 @@ module _ (n : List ℕ) (g : Gathered) (c : (j : ℕ) → getD n j 0 ≡ getD (c
   onto-fits (binary u) (x ∷ y ∷ es) f h = (f x y (h .0) (h .1 .0), h .1 .1)
 
   node-fits : (op v : ℕ)
-      → (not (eqb op 1) || ltb v (getD n 4 0)) && (not (eqb op 2) || ltb v No.locals) ≡ true → NodeFit (nodeOf op v)
+      → (not (eqb op 1) || ltb v (getD n K.VAR 0)) && (not (eqb op 2) || ltb v No.locals) ≡ true → NodeFit (nodeOf op v)
   node-fits zero v e = signed-fits v
-  node-fits (suc zero) v e = there 4 v (and-true (ltb v (getD n 4 0)) _ e .0)
+  node-fits (suc zero) v e = there K.VAR v (and-true (ltb v (getD n K.VAR 0)) _ e .0)
   node-fits (suc (suc zero)) v e = ltb-true v No.locals e
   node-fits (suc (suc (suc op))) v e =
       all-get NodeFit
@@ -145,12 +146,12 @@ module _ (n : List ℕ) (g : Gathered) (c : (j : ℕ) → getD n j 0 ≡ getD (c
       two : (x y : Expr) → ExprFit m x → ExprFit m y → ExprFit m x × ExprFit m y
       two x y a b = (a, b)
 
-  pile-fits : (ns : List (List ℕ)) → all (nodeKnown (getD n 4 0)) ns ≡ true → PileFit (pile ns)
+  pile-fits : (ns : List (List ℕ)) → all (nodeKnown (getD n K.VAR 0)) ns ≡ true → PileFit (pile ns)
   unfolding pile
   pile-fits [] e = tt
-  pile-fits (d ∷ ns) e = let a = and-true (nodeKnown (getD n 4 0) d) _ e in go (pile ns) (a .0) (pile-fits ns (a .1))
+  pile-fits (d ∷ ns) e = let a = and-true (nodeKnown (getD n K.VAR 0) d) _ e in go (pile ns) (a .0) (pile-fits ns (a .1))
     where
-      go : (p : Option (List Expr)) → nodeKnown (getD n 4 0) d ≡ true → PileFit p
+      go : (p : Option (List Expr)) → nodeKnown (getD n K.VAR 0) d ≡ true → PileFit p
           → PileFit (elim p [ none ↦ none | some es ↦ onto (nodeOf (u16 d 0) (u32 d 2)) es ])
       go none e h = tt
       go (some es) e h = onto-fits (nodeOf (u16 d 0) (u32 d 2)) es (node-fits (u16 d 0) (u32 d 2) e) h
@@ -166,7 +167,7 @@ module _ (n : List ℕ) (g : Gathered) (c : (j : ℕ) → getD n j 0 ≡ getD (c
 
   -- Claims, and what a START hands over.
   abbrev ListFit : {B : Type 0} → (B → Type 0) → (B → B → Type 0) → List B → Type 0
-  ListFit P R xs = (length xs ≤ 4) × AllOf P xs × Ordered R xs
+  ListFit P R xs = (length xs ≤ No.mostItems) × AllOf P xs × Ordered R xs
 
   list-fits : {B : Type 0} (p : Part) (f : List ℕ → B) (P : B → Type 0) (R : B → B → Type 0)
       → ((x : List ℕ) → partValid p x ≡ true → partKnown p n x ≡ true → P (f x))
@@ -175,8 +176,8 @@ module _ (n : List ℕ) (g : Gathered) (c : (j : ℕ) → getD n j 0 ≡ getD (c
   unfolding tailKnown listValid listTwice
   list-fits p f P R g h bs t =
       let xs : List (List ℕ) = partsOf p bs in
-      let a = and-true (leb (u16 bs 0) 4) _ (t .0) in
-      let l = leb-true (u16 bs 0) 4 (a .0) in
+      let a = and-true (leb (u16 bs 0) No.mostItems) _ (t .0) in
+      let l = leb-true (u16 bs 0) No.mostItems (a .0) in
       let b = all-both _ _ xs (all-hold (partValid p) xs (a .1)) (all-hold (partKnown p n) xs (t .2)) in (
         omega (arith, length-map xs f, parts-many (partSize p) (u16 bs 0) (drop 2 bs)),
         all-mapped (λ x. (partValid p x ≡ true) × (partKnown p n x ≡ true)) P f (λ x k. g x (k .0) (k .1)) xs b,
@@ -184,12 +185,12 @@ module _ (n : List ℕ) (g : Gathered) (c : (j : ℕ) → getD n j 0 ≡ getD (c
       )
 
   item-fits : (x : List ℕ) (k : ℕ) → validAt x k ≡ true → ltb (u16 x 2) (getD n (k + 1) 0) ≡ true → ItemFit m (itemAt x k)
-  item-fits x zero e f = (there 1 (u16 x 2) f, amount x e)
-  item-fits x (suc zero) e f = (there 2 (u16 x 2) f, amount x e)
-  item-fits x (suc (suc zero)) e f = (there 3 (u16 x 2) f, amount x e)
+  item-fits x zero e f = (there K.RES (u16 x 2) f, amount x e)
+  item-fits x (suc zero) e f = (there K.BIN (u16 x 2) f, amount x e)
+  item-fits x (suc (suc zero)) e f = (there K.SYNC (u16 x 2) f, amount x e)
   item-fits x (suc (suc (suc k))) e f =
       let d = at-3 x (suc (suc (suc k))) (omega arith) e in
-      (there 4 (u16 x 2) (subst (λ j. ltb (u16 x 2) (getD n (j + 1) 0) ≡ true) d f), signed-fits (u32 x 4))
+      (there K.VAR (u16 x 2) (subst (λ j. ltb (u16 x 2) (getD n (j + 1) 0) ≡ true) d f), signed-fits (u32 x 4))
 
   claim-fits : (bs : List ℕ) → Told claim bs → ClaimFit m (claimIn bs)
   unfolding claimIn
@@ -200,28 +201,28 @@ module _ (n : List ℕ) (g : Gathered) (c : (j : ℕ) → getD n j 0 ≡ getD (c
   unfolding sharesIn
   shares-fit =
       list-fits share shareOf (ShareFit m) SharesApart
-      (λ x v k. (there 1 (u16 x 0) k, says-within .yes v)) (λ x y e. e)
+      (λ x v k. (there K.RES (u16 x 0) k, says-within .yes v)) (λ x y e. e)
 
   each-branch : (xs : List (List ℕ)) → all (λ b. listValid item (drop 2 b)) xs ≡ true
       → any (λ b. listTwice item (drop 2 b)) xs ≡ false
-      → all (λ b. ltb (u16 b 0) (getD n 6 0) && all (partKnown item n) (partsOf item (drop 2 b))) xs ≡ true
+      → all (λ b. ltb (u16 b 0) (getD n K.BLOCK 0) && all (partKnown item n) (partsOf item (drop 2 b))) xs ≡ true
       → AllOf (BranchFit m) (map branchOf xs)
   unfolding tailKnown
   each-branch [] v t k = tt
   each-branch (b ∷ xs) v t k =
       let v₁ = and-true (listValid item (drop 2 b)) _ v in
       let t₁ = or-false (listTwice item (drop 2 b)) _ t in
-      let k₁ = and-true (ltb (u16 b 0) (getD n 6 0) && all (partKnown item n) (partsOf item (drop 2 b))) _ k in
-      let k₂ = and-true (ltb (u16 b 0) (getD n 6 0)) _ (k₁ .0) in
-      ((there 6 (u16 b 0) (k₂ .0), claim-fits (drop 2 b) (v₁ .0, t₁ .0, k₂ .1)), each-branch xs (v₁ .1) (t₁ .1) (k₁ .1))
+      let k₁ = and-true (ltb (u16 b 0) (getD n K.BLOCK 0) && all (partKnown item n) (partsOf item (drop 2 b))) _ k in
+      let k₂ = and-true (ltb (u16 b 0) (getD n K.BLOCK 0)) _ (k₁ .0) in
+      ((there K.BLOCK (u16 b 0) (k₂ .0), claim-fits (drop 2 b) (v₁ .0, t₁ .0, k₂ .1)), each-branch xs (v₁ .1) (t₁ .1) (k₁ .1))
 
   branches-fit : (bs : List ℕ) → Told branches bs
-      → Within 1 4 (length (branchesIn bs)) × AllOf (BranchFit m) (branchesIn bs)
+      → Within 1 No.mostBranches (length (branchesIn bs)) × AllOf (BranchFit m) (branchesIn bs)
   unfolding tailKnown branchesIn
   branches-fit bs t =
       let xs : List (List ℕ) = branchesFrom (u16 bs 0) (drop 2 bs) in
-      let a = and-true (within 1 4 (u16 bs 0)) _ (t .0) in
-      let w : Within 1 4 (u16 bs 0) = says-within .yes (a .0) in
+      let a = and-true (within 1 No.mostBranches (u16 bs 0)) _ (t .0) in
+      let w : Within 1 No.mostBranches (u16 bs 0) = says-within .yes (a .0) in
       (omega (arith, length-map xs branchOf, branches-many (u16 bs 0) (drop 2 bs)), each-branch xs (a .1) (t .1) (t .2))
 
   -- THE ROWS, in the table's order: s is that the field is in its set, k that it is known, t what the tail says.
@@ -236,22 +237,22 @@ module _ (n : List ℕ) (g : Gathered) (c : (j : ℕ) → getD n j 0 ≡ getD (c
       & (λ bs s k t. says-within .yes s .high)
       & (λ bs s k t. tt)
       & (λ bs s k t. signed-fits (u32 bs 0))
-      & (λ bs s k t. there 6 (u16 bs 0) k)
+      & (λ bs s k t. there K.BLOCK (u16 bs 0) k)
       & (λ bs s k t. tt)
-      & (λ bs s k t. (there 5 (u16 bs 0) k, says-within .yes s .high))
+      & (λ bs s k t. (there K.CLASS (u16 bs 0) k, says-within .yes s .high))
       & (λ bs s k t. expression-fits bs t)
       & (λ bs s k t. expression-fits bs t)
-      & (λ bs s k t. (there 4 (u16 bs 0) k, expression-fits (drop 2 bs) t))
+      & (λ bs s k t. (there K.VAR (u16 bs 0) k, expression-fits (drop 2 bs) t))
       & (λ bs s k t. (ltb-true (u16 bs 0) No.locals k, expression-fits (drop 2 bs) t))
-      & (λ bs s k t. there 6 (u16 bs 2) k)
-      & (λ bs s k t. (there 1 (u16 bs 0) k, says-within .yes s))
-      & (λ bs s k t. (there 2 (u16 bs 0) k, says-within .yes s))
-      & (λ bs s k t. (there 3 (u16 bs 0) k, says-within .yes s))
-      & (λ bs s k t. there 3 (u16 bs 0) k)
+      & (λ bs s k t. there K.BLOCK (u16 bs 2) k)
+      & (λ bs s k t. (there K.RES (u16 bs 0) k, says-within .yes s))
+      & (λ bs s k t. (there K.BIN (u16 bs 0) k, says-within .yes s))
+      & (λ bs s k t. (there K.SYNC (u16 bs 0) k, says-within .yes s))
+      & (λ bs s k t. there K.SYNC (u16 bs 0) k)
       & (λ bs s k t. claim-fits bs t)
       & (λ bs s k t. branches-fit bs t)
-      & (λ bs s k t. (there 6 (u16 bs 0) k, claim-fits (drop 2 bs) t))
-      & (λ bs s k t. let h = shares-fit (drop 6 bs) t in (there 5 (u16 bs 0) k, says-within .yes s .high, h .0, h .1, h .2))
+      & (λ bs s k t. (there K.BLOCK (u16 bs 0) k, claim-fits (drop 2 bs) t))
+      & (λ bs s k t. let h = shares-fit (drop 6 bs) t in (there K.CLASS (u16 bs 0) k, says-within .yes s .high, h .0, h .1, h .2))
       & (λ bs s k t. expression-fits bs t)
       & (λ bs s k t. tt)
       & tt

@@ -6,7 +6,7 @@ use mathlib.Core.List.{List, [], _∷_, map}
 use mathlib.Core.Bool.{true}
 use borrow.Author.Tests.{leb-true}
 use lib.ListN.{length, getD, set, take, drop, length-set}
-use Rattle.semantics.specs.Words.{more, less}
+use Rattle.semantics.specs.Words.{more, fewer}
 use Rattle.semantics.specs.Model.{Model, resource, bin, sync, Item, get, condition, Claim}
 use Rattle.semantics.specs.Bytes.{u8, u16, i32}
 use Rattle.semantics.specs.Record.{relationOf, itemOf}
@@ -56,13 +56,13 @@ module _ {w : List ℕ} {p i n : ℕ} (d : Doing w (Takes p (get resource i n)) 
       let few = d .before .free-few in
       let low = all-get (λ x. x ≤ 1_000_000) (s .free) i 0 (d .before .free-low) (omega arith) in
       record {
-        is = with-free s (less (s .free) i n);
+        is = with-free s (fewer (s .free) i n);
         shows =
             ap (λ x. set w (8 + i) (x - n)) free-is
             ∙ ap (λ x. set x (8 + i) v) (d .shows)
             ∙ free-set s (d .before) i v (d .given .known .0);
         before =
-            free-sized s (d .before) (less (s .free) i n) (omega (arith, length-set (s .free) i v))
+            free-sized s (d .before) (fewer (s .free) i n) (omega (arith, length-set (s .free) i v))
             (all-set (λ x. x ≤ 1_000_000) (s .free) i v (d .before .free-low) (omega arith));
         after = d .after;
         given =
@@ -85,7 +85,7 @@ module _ {w : List ℕ} {p i n : ℕ} (d : Doing w (Takes p (get resource i n)) 
   resource-taken f = f less-free
 
 -- A BIN.
-module _ {w : List ℕ} {i n : ℕ} (d : Doing w (InBin i n) (λ s. with-bins s (less (s .bins) i n))) where
+module _ {w : List ℕ} {i n : ℕ} (d : Doing w (InBin i n) (λ s. with-bins s (fewer (s .bins) i n))) where
   pub bins-few : i < 32
   bins-few = omega (arith, d .given .there, d .before .bins-few)
 
@@ -95,7 +95,7 @@ module _ {w : List ℕ} {i n : ℕ} (d : Doing w (InBin i n) (λ s. with-bins s 
   pub bin-enough : n ≤ getD w (40 + i) 0
   bin-enough = omega (arith, bin-is, d .given .enough)
 
-  pub bin-taken : set w (40 + i) (getD w (40 + i) 0 - n) ≡ workOf (with-bins (d .is) (less (d .is .bins) i n))
+  pub bin-taken : set w (40 + i) (getD w (40 + i) 0 - n) ≡ workOf (with-bins (d .is) (fewer (d .is .bins) i n))
   bin-taken =
       let v : ℕ = getD (d .is .bins) i 0 - n in
       ap (λ x. set w (40 + i) (x - n)) bin-is
@@ -129,7 +129,7 @@ module _ {w : List ℕ} {p : ℕ} {x y : Item} (e : x ≡ y) where
 
 module _ {w : List ℕ} {p j n : ℕ} where
   pub bin-told : Doing w (Takes p (get bin j n)) (takeItem p (get bin j n))
-      → Doing w (InBin j n) (λ s. with-bins s (less (s .bins) j n))
+      → Doing w (InBin j n) (λ s. with-bins s (fewer (s .bins) j n))
   unfolding takeItem
   bin-told d =
       record {
@@ -140,7 +140,7 @@ module _ {w : List ℕ} {p j n : ℕ} where
         given = record { there = d .given .known; enough = leb-true n (getD (d .is .bins) j 0) (d .given .enough) };
       }
 
-  pub bin-done : {u : List ℕ} → Done w (InBin j n) (λ s. with-bins s (less (s .bins) j n)) u
+  pub bin-done : {u : List ℕ} → Done w (InBin j n) (λ s. with-bins s (fewer (s .bins) j n)) u
       → Done w (Takes p (get bin j n)) (takeItem p (get bin j n)) u
   unfolding takeItem bin-told
   bin-done f d = f (bin-told d)

@@ -2,7 +2,7 @@
 ghost use mathlib.Core.Path.{_≡_};
 ghost use Prim.Native.Nat.{_+_, _≤_};
 ghost use lib.ListN.{length, getD, take};
-ghost use Rattle.semantics.specs.Words.{less};
+ghost use Rattle.semantics.specs.Words.{fewer};
 ghost use Rattle.semantics.specs.Model.{resource, get};
 ghost use Rattle.semantics.specs.Record.{itemOf};
 ghost use Rattle.semantics.specs.State.{with-bins};
@@ -40,8 +40,8 @@ fn take_resource(w: &mut [u64], p: usize, i: usize, n: u64)
 
 // n of bin i.
 fn take_bin(w: &mut [u64], i: usize, n: u64)
-    requires { ⌜ Doing (now w) (InBin i n) (λ s. with-bins s (less (s .bins) i n)) ⌝ }
-    ensures { λ _. ⌜ Done (now (w .entry)) (InBin i n) (λ s. with-bins s (less (s .bins) i n)) (now (w .exit)) ⌝ }
+    requires { ⌜ Doing (now w) (InBin i n) (λ s. with-bins s (fewer (s .bins) i n)) ⌝ }
+    ensures { λ _. ⌜ Done (now (w .entry)) (InBin i n) (λ s. with-bins s (fewer (s .bins) i n)) (now (w .exit)) ⌝ }
 {
     let there = w[40 + i];
     w[40 + i] = there - n;

@@ -4,8 +4,8 @@ use native.Mathlib.Omega.{arith}
 use mathlib.Core.Path.{_≡_, _∙_, ap}
 use mathlib.Core.List.{List}
 use lib.ListN.{getD}
+use Rattle.semantics.specs.Numbers.{ofReturns}
 use Rattle.semantics.specs.State.{State, Event, Notice, wakes, process, enter, wake, sooner}
-use Rattle.semantics.specs.Step.{ofReturns}
 use Rattle.base_i32.specs.Code.{code}
 use Rattle.base_ordered.specs.Lines.{keyOf, packed}
 use Rattle.row_work.specs.Work.{EventSized, NoticeSized, Doing}

@@ -3,9 +3,9 @@ use Prim.Native.Nat.{ℕ, _≤_, _<_}
 use mathlib.Core.Path.{_≡_, sym, _∙_, ap}
 use mathlib.Core.List.{List, [], _∷_}
 use lib.ListN.{length, getD, set, drop}
+use Rattle.semantics.specs.Numbers.{ofReturns}
 use Rattle.semantics.specs.State.{State, Event, Notice, Waiter, process, at-clock, with-events, with-blocked, with-waiting}
 use Rattle.semantics.specs.State.{enter, join}
-use Rattle.semantics.specs.Step.{ofReturns}
 use Rattle.base_ordered.specs.Lines.{inserted, removed, eventKey, eventWord, dataOf}
 use Rattle.row_work.specs.Work.{workOf, Doing}
 use Rattle.row_process.specs.Process.{Shown, Lives}

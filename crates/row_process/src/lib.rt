@@ -5,7 +5,7 @@ ghost use mathlib.Core.List.{_∷_};
 ghost use Prim.Native.Nat.{_-_, _≤_, _<_};
 ghost use lib.Dec.{eqb};
 ghost use lib.ListN.{length, getD, set};
-ghost use Rattle.semantics.specs.Words.{all, isEmpty, more, less};
+ghost use Rattle.semantics.specs.Words.{all, isEmpty, more, fewer};
 ghost use Rattle.semantics.specs.State.{Frame, process, with-priority, with-locals, with-held, with-frames, past, into};
 ghost use Rattle.base_i32.specs.Code.{valueOf};
 ghost use Rattle.row_work.specs.Work.{frameWord, workOf, Doing, Done};
@@ -193,8 +193,8 @@ pub fn take_up(w: &mut [u64], p: usize, i: usize, n: u64)
 }
 
 pub fn give_back(w: &mut [u64], p: usize, i: usize, n: u64)
-    requires { ⌜ Doing (now w) (Holds p i n) (changed p (λ q. with-held q (less (q .held) i n))) ⌝ }
-    ensures { λ _. ⌜ Done (now (w .entry)) (Holds p i n) (changed p (λ q. with-held q (less (q .held) i n))) (now (w .exit)) ⌝ }
+    requires { ⌜ Doing (now w) (Holds p i n) (changed p (λ q. with-held q (fewer (q .held) i n))) ⌝ }
+    ensures { λ _. ⌜ Done (now (w .entry)) (Holds p i n) (changed p (λ q. with-held q (fewer (q .held) i n))) (now (w .exit)) ⌝ }
 {
     let held = held_of(w, p, i);
     row_work::set_word(w, p, process::HELD + i, held - n);

@@ -10,13 +10,13 @@ use lib.ListN.{length, getD, drop, getElem?, length-take, length-drop, length-ma
 use lib.Seq.{getD-take, getD-drop}
 use Rattle.semantics.specs.Words.{any}
 use Rattle.semantics.specs.Model.{Branch, Action, HOLD, PRIO, TRACE, SET, LSET, DO, PUTR, PUTB, PUTS, BECOME, REQ, TRY, WHILE}
-use Rattle.semantics.specs.Model.{START, CLOSE}
+use Rattle.semantics.specs.Model.{START, CLOSE, kindOf}
 use Rattle.semantics.specs.Bytes.{u16}
 use Rattle.semantics.specs.Claim.{Offer, enterBlock, offers}
-use Rattle.semantics.specs.Sound.{enters, entersAt, asking, asksAt}
+use Rattle.semantics.specs.Sound.{enters, entersAt, asksAt}
 use Rattle.promises.specs.Laws.{no-way}
 use Rattle.file_index.specs.Ties.{kindAt, bodyAt, ActionAt}
-use Rattle.file_actions.specs.Kinds.{kindOf, kind-of, is-do}
+use Rattle.file_actions.specs.Kinds.{kind-of, is-do}
 use Rattle.file_actions.specs.Bodies.{Numbers, told}
 use Rattle.file_map.specs.Map.{claimAt, OffersAt}
 use Rattle.row_sound.specs.Chain.{among, branchEnters, Branching, ActsAt, At, Standing}
@@ -200,24 +200,6 @@ others-enter (WHILE k c) g h b r = no-way (sym h)
 others-enter (START c t l) g h b r = refl
 others-enter CLOSE g h b r = refl
 
--- ONE ASKS at a REQ or TRY.
-pub asks-there : (x : Action) → (eqb (kindOf x) 25 || eqb (kindOf x) 26) ≡ asking x
-asks-there (HOLD e) = refl
-asks-there (PRIO e) = refl
-asks-there (TRACE e) = refl
-asks-there (SET i e) = refl
-asks-there (LSET i e) = refl
-asks-there (DO n k) = refl
-asks-there (PUTR i n) = refl
-asks-there (PUTB i n) = refl
-asks-there (PUTS i n) = refl
-asks-there (BECOME i) = refl
-asks-there (REQ c) = refl
-asks-there (TRY xs) = refl
-asks-there (WHILE k c) = refl
-asks-there (START c t l) = refl
-asks-there CLOSE = refl
-
 -- THE ACTION where one stands, if it isn't past the last.
 pub record Acts (bs row : List ℕ) (a : ℕ) (o : Option Action) : Type 0 where
   pub action : Action
@@ -280,4 +262,4 @@ module _ {bs row : List ℕ} {a : ℕ} (v : Standing bs row a) (g : a ≡ 1_024 
 
     pub by-asking : (eqb kind 25 || eqb kind 26) ≡ asksAt (v .action)
     by-asking =
-        ap (λ n. eqb n 25 || eqb n 26) kind-is ∙ asks-there x ∙ sym (ap asksAt (acts-in v g .is))
+        ap (λ n. eqb n 25 || eqb n 26) kind-is ∙ sym (ap asksAt (acts-in v g .is))

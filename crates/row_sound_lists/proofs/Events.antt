@@ -12,7 +12,6 @@ use lib.IntN.{ℤ}
 use Rattle.semantics.specs.Words.{if_then_else_, all, ordered, within}
 use Rattle.semantics.specs.Model.{Model}
 use Rattle.semantics.specs.State.{State, Event, Notice, wakes, returnsR, returnsB, process, sooner}
-use Rattle.semantics.specs.Step.{ofReturns}
 use Rattle.semantics.specs.Sound.{same, eventTied, eventInRange, returnInRange}
 use Rattle.promises.specs.Fit.{I32}
 use Rattle.base_i32.specs.Code.{code}
@@ -22,6 +21,7 @@ use Rattle.base_ordered.specs.Order.{sooner-key, kind-packed, number-packed, am
 use Rattle.row_work.specs.Work.{EventSized, NoticeSized}
 use Rattle.row_process.specs.Process.{Shown}
 use Rattle.semantics.specs.Numbers as No
+use Rattle.semantics.specs.Numbers.{ofReturns}
 use Rattle.row_process.proofs.Standing as Stand
 use Rattle.row_lists.proofs.Events as Ev
 use Rattle.row_sound_lists.specs.Tests.{each, wordOf, rises, returnFits, wordFits, eventFits, eventsFit}

@@ -8,7 +8,7 @@ use lib.Dec.{eqb, ltb}
 use borrow.Author.Tests.{lt-ltb, ne-eqb, eq-eqb, eqb-true, eqb-false}
 use lib.ListN.{length, getD}
 use Rattle.semantics.specs.Words.{if_then_else_, isEmpty, keep, collect}
-use Rattle.semantics.specs.State.{State, Frame, Slave, Waiter, Notice, wakes, returnsR, returnsB, Floor, empty, held, nobody}
+use Rattle.semantics.specs.State.{State, Frame, Slave, Waiter, Notice, wakes, returnsR, returnsB, Floor, empty, heldBy, nobody}
 use Rattle.semantics.specs.State.{process, isFree}
 use Rattle.semantics.specs.Sound.{onFloor, woken, waitersPlaces, listed, inOne}
 use Rattle.promises.specs.Laws.{AllOf, all-map, all-append, all-get, over, over-keep}
@@ -89,7 +89,7 @@ module _ {w : List ℕ} {P : State → Type 0} (v : Shown w P) (p : ℕ) where
     where
       by : (f : Floor) → oneIf (eqb (floorWord f) (p + 1)) ≡ over here (onFloor f)
       by empty = ap oneIf (ne-eqb 0 (p + 1) (λ e. omega arith))
-      by (held j) = same (eqb p j) refl
+      by (heldBy j) = same (eqb p j) refl
         where
           same : (b : Bool) → eqb p j ≡ b → oneIf (eqb (j + 1) (p + 1)) ≡ oneIf (eqb p j) + 0
           same true e =
@@ -145,7 +145,7 @@ woken-low (returnsB i n g) h = tt
 
 floor-low : (f : Floor) → FloorSized f → AllOf Low (onFloor f)
 floor-low empty h = tt
-floor-low (held p) h = (h, tt)
+floor-low (heldBy p) h = (h, tt)
 
 waiters-low : (ws : List Waiter) → WaitersSized ws → AllOf Low (waitersPlaces ws)
 waiters-low ws h = map-low (λ x. x .place) WaiterSized (λ x i. i .place-low) ws (h .each)

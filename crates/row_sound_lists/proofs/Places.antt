@@ -13,7 +13,6 @@ use lib.Signed.{mag, leZ}
 use Rattle.semantics.specs.Words.{if_then_else_, all, keep, isEmpty, within}
 use Rattle.semantics.specs.Model.{Model}
 use Rattle.semantics.specs.State.{State, Process, Frame, Slave, nobody, process, isFree}
-use Rattle.semantics.specs.Step.{lowest}
 use Rattle.semantics.specs.Value.{isI32}
 use Rattle.semantics.specs.Sound.{same, vacant, furnished, processInRange, ownNumber}
 use Rattle.promises.specs.Fit.{I32}
@@ -23,6 +22,7 @@ use Rattle.base_i32.specs.Laws.{code-order}
 use Rattle.row_work.specs.Work.{ProcessSized, SlaveSized}
 use Rattle.row_process.specs.Process.{Shown}
 use Rattle.semantics.specs.Numbers as No
+use Rattle.semantics.specs.Numbers.{lowest}
 use Rattle.row_process.proofs.Standing as Stand
 use Rattle.row_sound_lists.specs.Tests.{each, oneIf, wordOf, slavesKnown, alike, vacantRow, livingRow, placeFits}
 use Rattle.row_sound_lists.specs.Counted.{Furnished}

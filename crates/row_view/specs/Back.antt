@@ -13,7 +13,7 @@ use Rattle.semantics.specs.Words.{collect}
 use Rattle.semantics.specs.Numbers as No
 use Rattle.semantics.specs.Model.{Model}
 use Rattle.semantics.specs.State.{State, Process, Frame, Slave, Waiter, Event, Notice, wakes, returnsR, returnsB}
-use Rattle.semantics.specs.State.{Floor, empty, held}
+use Rattle.semantics.specs.State.{Floor, empty, heldBy}
 use Rattle.promises.specs.Laws.{AllOf}
 use Rattle.promises.specs.Fit.{I32}
 use Rattle.base_i32.specs.Code.{code, valueOf}
@@ -88,8 +88,8 @@ event-back e h =
 
 floor-back : (o : Floor) → floorOf (floorWord o) ≡ o
 floor-back empty = refl
-floor-back (held p) =
-    let a : p + 1 - 1 ≡ p = omega arith in rw (ne-eqb (p + 1) 0 (λ (e : p + 1 ≡ 0). omega arith)) (ap held a)
+floor-back (heldBy p) =
+    let a : p + 1 - 1 ≡ p = omega arith in rw (ne-eqb (p + 1) 0 (λ (e : p + 1 ≡ 0). omega arith)) (ap heldBy a)
 
 closed-back : (b : Bool) → eqb (closedWord b) 1 ≡ b
 closed-back true = refl

@@ -10,7 +10,7 @@ use Rattle.semantics.specs.Numbers as No
 use Rattle.semantics.specs.Model.{Model}
 use Rattle.semantics.specs.Decode.{refused, accepted, decode}
 use Rattle.semantics.specs.State.{State, Process, Frame, Slave, Waiter, Event, Notice, wakes, returnsR, returnsB}
-use Rattle.semantics.specs.State.{Floor, empty, held}
+use Rattle.semantics.specs.State.{Floor, empty, heldBy}
 use Rattle.semantics.specs.Sound.{soundIn}
 use Rattle.base_i32.specs.Code.{valueOf}
 use Rattle.base_ordered.specs.Lines.{kindOf, numberOf, amountOf, giverOf}
@@ -45,7 +45,7 @@ eventOf key word =
     }
 
 abbrev pub floorOf : ℕ → Floor
-floorOf x = if eqb x 0 then empty else held (x - 1)
+floorOf x = if eqb x 0 then empty else heldBy (x - 1)
 
 -- LISTS OF WORDS. The outermost block stands first in a row, and last in a process.
 unfoldable pub framesOf : List ℕ → List Frame

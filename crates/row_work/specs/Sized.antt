@@ -16,7 +16,7 @@ use Rattle.semantics.specs.Bytes.{u16, Raw, raw, torn, cut, recordsFrom, spans,
 use Rattle.semantics.specs.Record.{Entry, RES, BIN, SYNC, VAR, CLASS, BLOCK, ENTITY, ACTION, Row, table, rowIn, rowOf}
 use Rattle.semantics.specs.Decode.{accepted, Gathered, adds, gather, decode}
 use Rattle.semantics.specs.State.{State, Process, Frame, Slave, Waiter, Notice, wakes, returnsR, returnsB}
-use Rattle.semantics.specs.State.{Floor, empty, held, nobody}
+use Rattle.semantics.specs.State.{Floor, empty, heldBy, nobody}
 use Rattle.semantics.specs.Sound.{enters, entersAt, namedThere, chained}
 use Rattle.promises.specs.Laws.{no-way, and-true, if-has, AllOf, all-map, all-both, all-get, all-at, all-drop}
 use Rattle.promises.specs.Laws.{over, once, once-self}
@@ -271,7 +271,7 @@ module _ (m : Model) (f : Fit m) (n : Nested m) (r : Rounds m) where
     where
       by : (o : Floor) → s .floor ≡ o → FloorSized o
       by empty e = tt
-      by (held p) e =
+      by (heldBy p) e =
           let a = hand-in h p (let b = ap (onFloor p) e in let c = once-self p in omega arith) in
           let d = h .places-64 in
           omega arith

@@ -8,7 +8,7 @@ use lib.ListN.{length}
 use Rattle.semantics.specs.Words.{collect}
 use Rattle.semantics.specs.Numbers as No
 use Rattle.semantics.specs.State.{State, Process, Frame, Slave, Waiter, Event, Notice, wakes, returnsR, returnsB}
-use Rattle.semantics.specs.State.{Floor, empty, held}
+use Rattle.semantics.specs.State.{Floor, empty, heldBy}
 use Rattle.promises.specs.Laws.{AllOf}
 use Rattle.promises.specs.Fit.{I32}
 use Rattle.base_i32.specs.Code.{code}
@@ -56,7 +56,7 @@ closedWord false = 0
 
 abbrev pub floorWord : Floor → ℕ
 floorWord empty = 0
-floorWord (held p) = p + 1
+floorWord (heldBy p) = p + 1
 
 abbrev pub headOf : State → List ℕ
 headOf s =
@@ -130,7 +130,7 @@ pub record EventSized (e : Event) : Type 0 where
 
 abbrev pub FloorSized : Floor → Type 0
 FloorSized empty = Unit {0}
-FloorSized (held p) = p < 64
+FloorSized (heldBy p) = p < 64
 
 pub record Sized (s : State) : Type 0 where
   pub clock-low : s .clock ≤ No.latest

@@ -12,7 +12,7 @@ use Rattle.semantics.specs.Model.{Model}
 use Rattle.semantics.specs.Decode.{Checked, refused, accepted, decode}
 use Rattle.semantics.specs.State.{State, fresh}
 use Rattle.semantics.specs.Run as definition
-use Rattle.semantics.specs.Run.{FAULT, Room, endless, lines, fits, Ask, call, isNumber, noEnd}
+use Rattle.semantics.specs.Run.{FAULT, Room, endless, roomFor, fits, Ask, call, isNumber, noEnd}
 use Rattle.semantics.specs.Run.{leaves, stepsOf, limitsOf, noneEnds}
 use Rattle.semantics.specs.Bound.{bound, loops}
 use Rattle.promises.specs.Laws.{AllOf}
@@ -80,7 +80,7 @@ pub record Within (a : Ask) (c : Called) : Type 0 where
 
 nothing-fits : (r : Room) → fits [] r ≡ true
 nothing-fits endless = refl
-nothing-fits (lines n) = le-leb 0 n (omega arith)
+nothing-fits (roomFor n) = le-leb 0 n (omega arith)
 
 module _ (bs : List ℕ) (a : Ask) (w : List ℕ) where
   away-within : callRow bs a w ≡ turnedAway w → Within a (callRow bs a w)

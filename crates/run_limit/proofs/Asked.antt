@@ -8,7 +8,7 @@ use lib.Dec.{eqb}
 use borrow.Author.Tests.{ne-eqb}
 use lib.ListN.{length, getD}
 use Rattle.semantics.specs.Words.{if_then_else_, isEmpty}
-use Rattle.semantics.specs.State.{State, Event, Floor, empty, held}
+use Rattle.semantics.specs.State.{State, Event, Floor, empty, heldBy}
 use Rattle.semantics.specs.Run.{CLOSED, IDLE, LIMIT, Before, isClosed, isIdle, goesOn, nobodyHas, before}
 use Rattle.row_work.specs.Work.{closedWord, floorWord, workOf}
 use Rattle.run_limit.specs.Halts.{Showing, mayGo, haltedBy}
@@ -39,7 +39,7 @@ module _ {w : List ℕ} (v : Showing w) where
       by : (f : Floor) (es : List Event) → eqb (floorWord f) 0 && eqb (length es) 0 ≡ nobodyHas f && isEmpty es
       by empty [] = refl
       by empty (e ∷ es) = ne-eqb (suc (length es)) 0 (λ e. omega arith)
-      by (held p) es = rw (ne-eqb (p + 1) 0 (λ e. omega arith))
+      by (heldBy p) es = rw (ne-eqb (p + 1) 0 (λ e. omega arith))
 
   abbrev asked : Bool → Bool → Before
   asked c i = if c then isClosed else if i then isIdle else goesOn

@@ -6,33 +6,17 @@ use mathlib.Core.Bool.{Bool, true, false, _||_}
 use lib.ListN.{length, getD}
 use lib.Dec.{leb}
 use Rattle.semantics.specs.Words.{if_then_else_, sum, largest, any}
+use Rattle.semantics.specs.Numbers as No
+use Rattle.semantics.specs.Kinds as K
 use Rattle.semantics.specs.Model.{Action, HOLD, PRIO, TRACE, SET, LSET, DO, PUTR, PUTB, PUTS, BECOME, REQ, TRY, WHILE}
-use Rattle.semantics.specs.Model.{START, CLOSE, Model, block, body}
-
--- The kind of an action's record.
-abbrev pub kindOf : Action → ℕ
-kindOf (HOLD e) = 16
-kindOf (PRIO e) = 17
-kindOf (SET i e) = 18
-kindOf (LSET i e) = 19
-kindOf (DO n b) = 20
-kindOf (PUTR i n) = 21
-kindOf (PUTB i n) = 22
-kindOf (PUTS i n) = 23
-kindOf (BECOME i) = 24
-kindOf (REQ c) = 25
-kindOf (TRY bs) = 26
-kindOf (WHILE b c) = 27
-kindOf (START c t h) = 28
-kindOf (TRACE e) = 29
-kindOf CLOSE = 30
+use Rattle.semantics.specs.Model.{START, CLOSE, kindOf, Model, block, body}
 
 -- The table of own weights, for the kinds from 16 to 30: an action weighs 1, but PUTR (21) and PUTB (22) 2.
 abbrev pub ownWeights : List ℕ
 ownWeights = 1 ∷ 1 ∷ 1 ∷ 1 ∷ 1 ∷ 2 ∷ 2 ∷ 1 ∷ 1 ∷ 1 ∷ 1 ∷ 1 ∷ 1 ∷ 1 ∷ 1 ∷ []
 
 abbrev pub ownWeight : Action → ℕ
-ownWeight a = getD ownWeights (kindOf a - 16) 0
+ownWeight a = getD ownWeights (kindOf a - K.HOLD) 0
 
 -- What an action weighs beside its own weight, given the weights of later blocks: START its class; DO n × (block + 1); TRY the
 -- largest of its (block + 1). A class weighs its body block plus 1.
@@ -106,4 +90,4 @@ pub data Bounded : Type 0 where
 
 unfoldable pub boundIs : Model → Bounded
 unfolding bound
-boundIs m = if loops m then NONE else if leb (bound m) 4_294_967_295 then AT (bound m) else OVER
+boundIs m = if loops m then NONE else if leb (bound m) No.largestBound then AT (bound m) else OVER

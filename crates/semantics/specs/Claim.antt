@@ -8,7 +8,7 @@ use lib.Dec.{eqb, leb}
 use lib.ListN.{length, getD, set, take, drop, getElem?}
 use lib.IntN.{ℤ, pos}
 use lib.Signed.{ltZ, leZ}
-use Rattle.semantics.specs.Words.{all, any, isEmpty, more, less}
+use Rattle.semantics.specs.Words.{all, any, isEmpty, more, fewer}
 use Rattle.semantics.specs.Model.{Kind, resource, bin, sync, Relation, below, atMost, equals, differs, atLeast, above}
 use Rattle.semantics.specs.Model.{Item, get, condition, Claim, Action, HOLD, PRIO, TRACE, SET, LSET, DO, PUTR, PUTB, PUTS}
 use Rattle.semantics.specs.Model.{BECOME, REQ, TRY, WHILE, START, CLOSE, Model, block}
@@ -40,8 +40,8 @@ met s c = all (itemMet s) c
 unfoldable pub takeItem : ℕ → Item → State → State
 takeItem p (get resource i n) s =
     let q : Process = process s p in
-    put p (with-held q (more (q .held) i n)) (with-free s (less (s .free) i n))
-takeItem p (get bin i n) s = with-bins s (less (s .bins) i n)
+    put p (with-held q (more (q .held) i n)) (with-free s (fewer (s .free) i n))
+takeItem p (get bin i n) s = with-bins s (fewer (s .bins) i n)
 takeItem p (get sync i n) s =
     let q : Process = process s p in
     let w : List Waiter = getD (s .waiting) i [] in
@@ -85,6 +85,8 @@ abbrev pub standsIn : Model → List Frame → Option Action
 standsIn m [] = none
 standsIn m (f ∷ fs) = getElem? (block m (f .block)) (f .at)
 
+-- `none` isn't reached in a sound run, whose blocked processes stand at a REQ or TRY (`blockedStand`; it stays so by promises'
+-- `step-keeps-sound`).
 abbrev pub offersAt : Option Action → List Offer
 offersAt none = []
 offersAt (some a) = offers a

@@ -10,6 +10,7 @@ use lib.IntN.{ℤ}
 use Rattle.semantics.specs.Words.{if_then_else_, Outcome, ok, fails, Passed, passed, _>>=_, _>>_, need, all, collect}
 use Rattle.semantics.specs.Words.{largest, more}
 use Rattle.semantics.specs.Numbers as No
+use Rattle.semantics.specs.Kinds as K
 use Rattle.semantics.specs.Model.{Entity, Model, block, Action, HOLD, PRIO, TRACE, SET, LSET, DO, PUTR, PUTB, PUTS}
 use Rattle.semantics.specs.Model.{BECOME, REQ, TRY, WHILE, START, CLOSE}
 use Rattle.semantics.specs.Bytes.{u8, u16, u32, Raw, raw, torn, recordsFrom, parts}
@@ -24,13 +25,13 @@ pub data Checked (A : Type 0) : Type 0 where
 -- FIRST, RECORD BY RECORD: 1 to 7. `seen` has, at each group, how many records of it stand before.
 -- 3: a declaration stands before the first BLOCK, an action behind one.
 abbrev pub placed : ℕ → ℕ → Bool
-placed group blocks = eqb group 6 || (if eqb group 16 then ltb 0 blocks else eqb blocks 0)
+placed group blocks = eqb group K.BLOCK || (if eqb group K.ACTION then ltb 0 blocks else eqb blocks 0)
 
 unfoldable pub judged : List ℕ → ℕ → List ℕ → Outcome Passed
 unfolding rowOf bodyJudged
 judged seen k bs = do
   need No.KIND (ltb 0 (rowOf k .group))
-  need No.PLACE (placed (rowOf k .group) (getD seen 6 0))
+  need No.PLACE (placed (rowOf k .group) (getD seen K.BLOCK 0))
   need No.MANY (ltb (getD seen (rowOf k .group) 0) (rowOf k .most))
   bodyJudged (rowOf k) bs
 
@@ -45,7 +46,7 @@ firstPass seen (raw at k bs ∷ rs) =
     elim (judged seen k bs) [ fails n ↦ refused n at | ok x ↦ firstPass (saw seen k) rs ]
 
 abbrev pub noneSeen : List ℕ
-noneSeen = replicate 17 0
+noneSeen = replicate K.groups 0
 
 -- THEN, RECORD BY RECORD: 8 and 9. `n` has, at each group, how many records of it the file has.
 -- In an expression, op 1 names a global and op 2 a local.
@@ -54,16 +55,16 @@ nodeKnown vars d = (not (eqb (u16 d 0) 1) || ltb (u32 d 2) vars) && (not (eqb (u
 
 -- The item kinds 0 to 3 name a RES, BIN, SYNC, VAR, which are the groups 1 to 4; a share names a RES.
 abbrev pub partKnown : Part → List ℕ → List ℕ → Bool
-partKnown item n i = ltb (u16 i 2) (getD n (u8 i 0 + 1) 0)
-partKnown share n h = ltb (u16 h 0) (getD n 1 0)
+partKnown item n i = ltb (u16 i 2) (getD n (u8 i 0 + K.RES) 0)
+partKnown share n h = ltb (u16 h 0) (getD n K.RES 0)
 
 unfoldable pub tailKnown : List ℕ → Tail → List ℕ → Bool
 unfolding branchesFrom parts
 tailKnown n nothing bs = true
-tailKnown n expression bs = all (nodeKnown (getD n 4 0)) (nodes bs)
+tailKnown n expression bs = all (nodeKnown (getD n K.VAR 0)) (nodes bs)
 tailKnown n (listOf p) bs = all (partKnown p n) (partsOf p bs)
 tailKnown n branches bs =
-    all (λ b. ltb (u16 b 0) (getD n 6 0) && all (partKnown item n) (partsOf item (drop 2 b)))
+    all (λ b. ltb (u16 b 0) (getD n K.BLOCK 0) && all (partKnown item n) (partsOf item (drop 2 b)))
     (branchesFrom (u16 bs 0) (drop 2 bs))
 
 abbrev pub fieldKnown : List ℕ → Naming → List ℕ → Bool
@@ -107,8 +108,9 @@ named n own k bs = do
   need No.ORDER (all (leb own) (innerOf (rowOf k .says bs)))
 
 abbrev pub opened : ℕ → ℕ → ℕ
-opened own k = if eqb k 6 then suc own else own
+opened own k = if eqb k K.BLOCK then suc own else own
 
+-- The first pass has refused what is torn: its clause isn't reached here, in `gather` or in `thirdPass`.
 unfoldable pub secondPass : List ℕ → ℕ → List Raw → Checked Passed
 unfolding named
 secondPass n own [] = accepted passed
@@ -116,7 +118,9 @@ secondPass n own (torn at ∷ rs) = refused No.SHORT at
 secondPass n own (raw at k bs ∷ rs) =
     elim (named n own k bs) [ fails x ↦ refused x at | ok y ↦ secondPass n (opened own k) rs ]
 
--- THE MODEL that the records make: each adds to what those behind it make. `loose` are actions whose BLOCK is still to come.
+-- THE MODEL that the records make: each adds to what those behind it make. So a list is in file order by putting in front, and
+-- `loose` are actions whose BLOCK is still to come. Read forwards, each action would go to the end of the last block, and the
+-- laws would have to open lists at their end instead of their front.
 pub record Gathered : Type 0 where
   pub model : Model
   pub loose : List Action
@@ -186,21 +190,21 @@ module _ (m : Model) where
   thirdPass [] = accepted passed
   thirdPass (torn at ∷ rs) = refused No.SHORT at
   thirdPass (raw at k bs ∷ rs) =
-      if eqb k 5 && ltb 8 (depth (u16 bs 0)) then refused No.DEEP at else thirdPass rs
+      if eqb k K.CLASS && ltb No.deepest (depth (u16 bs 0)) then refused No.DEEP at else thirdPass rs
 
-abbrev pub andThen : {A B : Type 0} → Checked A → (A → Checked B) → Checked B
-andThen (refused n p) f = refused n p
-andThen (accepted a) f = f a
+abbrev pub ifAccepted : {A B : Type 0} → Checked A → (A → Checked B) → Checked B
+ifAccepted (refused n p) f = refused n p
+ifAccepted (accepted a) f = f a
 
 -- Over 65,535 bytes: 4 at place 0, first of all.
 unfoldable pub decode : List ℕ → Checked Model
 unfolding recordsFrom firstPass gather secondPass thirdPass _>>=_ _>>_ need
 decode bs =
-    elim (leb (length bs) 65_535) [
+    elim (leb (length bs) No.longestFile) [
       | false ↦ refused No.MANY 0
       | true ↦
           let rs : List Raw = recordsFrom 0 bs in
           let m : Model = gather rs .model in
-          andThen (firstPass noneSeen rs) λ n.
-          andThen (secondPass n 0 rs) λ x. andThen (thirdPass m rs) λ y. accepted m
+          ifAccepted (firstPass noneSeen rs) λ n.
+          ifAccepted (secondPass n 0 rs) λ x. ifAccepted (thirdPass m rs) λ y. accepted m
     ]

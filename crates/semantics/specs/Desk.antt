@@ -5,7 +5,7 @@ use Prim.Native.Nat.{ℕ}
 use mathlib.Core.List.{List}
 use Rattle.semantics.specs.Words.{Passed, passed}
 use Rattle.semantics.specs.State.{fresh}
-use Rattle.semantics.specs.Decode.{Checked, accepted, andThen, decode}
+use Rattle.semantics.specs.Decode.{Checked, accepted, ifAccepted, decode}
 use Rattle.semantics.specs.Run.{Answer, Ran, run}
 use Rattle.semantics.specs.Bound.{Bounded, boundIs}
 use Rattle.semantics.specs.Journal.{roomIn, written}
@@ -13,12 +13,12 @@ use Rattle.semantics.specs.Journal.{roomIn, written}
 -- Check: the number and the place of a refusal, or accepted.
 unfoldable pub checkFile : List ℕ → Checked Passed
 unfolding decode
-checkFile bs = andThen (decode bs) λ m. accepted passed
+checkFile bs = ifAccepted (decode bs) λ m. accepted passed
 
 -- Bound: the refusal, or NONE, OVER or the number.
 unfoldable pub boundFile : List ℕ → Checked Bounded
 unfolding decode boundIs
-boundFile bs = andThen (decode bs) λ m. accepted (boundIs m)
+boundFile bs = ifAccepted (decode bs) λ m. accepted (boundIs m)
 
 -- Run whole, from fresh, with a step limit and a lent journal: the refusal, or the answer, the steps done and what the journal
 -- holds.
@@ -30,6 +30,6 @@ pub record Told : Type 0 where
 unfoldable pub runFile : List ℕ → ℕ → List ℕ → Checked Told
 unfolding decode run fresh written
 runFile bs limit j =
-    andThen (decode bs) λ m.
+    ifAccepted (decode bs) λ m.
     let r : Ran = run m limit (roomIn j) (fresh m) in
     accepted (record { answer = r .answer; steps = r .steps; journal = written (r .lines) j })

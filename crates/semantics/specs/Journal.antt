@@ -6,7 +6,7 @@ use lib.IntN.{ℤ, pos, negsuc}
 use lib.ListN.{length, drop}
 use Rattle.semantics.specs.Words.{collect}
 use Rattle.semantics.specs.Walk.{Line}
-use Rattle.semantics.specs.Run.{Room, lines}
+use Rattle.semantics.specs.Run.{Room, roomFor}
 
 abbrev pub le16 : ℕ → List ℕ
 le16 n = n % 256 ∷ n / 256 % 256 ∷ []
@@ -28,7 +28,7 @@ journal ls = collect lineBytes ls
 
 -- A lent journal has room for a line in each 16 of its bytes; the bytes beyond what was written are as they were.
 abbrev pub roomIn : List ℕ → Room
-roomIn bs = lines (length bs / 16)
+roomIn bs = roomFor (length bs / 16)
 
 unfoldable pub written : List Line → List ℕ → List ℕ
 unfolding journal

@@ -1,5 +1,6 @@
 pub mod Words
 pub mod Numbers
+pub mod Kinds
 pub mod Model
 pub mod Bytes
 pub mod Record

@@ -4,6 +4,7 @@ use Prim.Native.Nat.{ℕ}
 use mathlib.Core.List.{List, []}
 use lib.ListN.{getD}
 use lib.IntN.{ℤ}
+use Rattle.semantics.specs.Kinds as K
 
 -- 0 literal, 1 global, 2 local, 3 add, 4 subtract, 5 multiply, 6 lesser, 7 greater, 8 clock, 9 negate
 pub data Expr : Type 0 where
@@ -49,6 +50,24 @@ pub data Action : Type 0 where
   WHILE : ℕ → Claim → Action  -- block, claim
   START : ℕ → ℕ → List Share → Action  -- class, offset, what is handed over
   CLOSE : Action
+
+-- The kind of an action's record.
+abbrev pub kindOf : Action → ℕ
+kindOf (HOLD e) = K.HOLD
+kindOf (PRIO e) = K.PRIO
+kindOf (SET i e) = K.SET
+kindOf (LSET i e) = K.LSET
+kindOf (DO n b) = K.DO
+kindOf (PUTR i n) = K.PUTR
+kindOf (PUTB i n) = K.PUTB
+kindOf (PUTS i n) = K.PUTS
+kindOf (BECOME i) = K.BECOME
+kindOf (REQ c) = K.REQ
+kindOf (TRY bs) = K.TRY
+kindOf (WHILE b c) = K.WHILE
+kindOf (START c t h) = K.START
+kindOf (TRACE e) = K.TRACE
+kindOf CLOSE = K.CLOSE
 
 pub record Entity : Type 0 where
   pub class : ℕ

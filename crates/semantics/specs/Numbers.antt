@@ -1,6 +1,7 @@
--- The numbers that document 01 gives ("Numbers the desk sees", "The journal and one whole run"), by their names.
+-- The numbers that document 01 gives, by their names; the kinds of a record are in Kinds.
 -- Assumes nothing.
 use Prim.Native.Nat.{ℕ}
+use lib.IntN.{ℤ, negsuc}
 
 -- 1 to 10 refuse a model.
 abbrev pub SHORT : ℕ
@@ -89,8 +90,8 @@ binReturned = 6
 abbrev pub waitingAsSlave : ℕ
 waitingAsSlave = 7
 
-abbrev pub freed : ℕ
-freed = 8
+abbrev pub slaveFreed : ℕ
+slaveFreed = 8
 
 abbrev pub traced : ℕ
 traced = 9
@@ -98,8 +99,54 @@ traced = 9
 abbrev pub closed : ℕ
 closed = 10
 
+-- At most, of a model file: its bytes; each of RES, BIN, SYNC and VAR; CLASS, BLOCK, ENTITY; actions.
+abbrev pub longestFile : ℕ
+longestFile = 65_535
+
+abbrev pub mostThings : ℕ
+mostThings = 32
+
+abbrev pub mostClasses : ℕ
+mostClasses = 64
+
+abbrev pub mostBlocks : ℕ
+mostBlocks = 256
+
+abbrev pub mostEntities : ℕ
+mostEntities = 64
+
+abbrev pub mostActions : ℕ
+mostActions = 1_024
+
+-- .. a total, an offset or an amount; the nodes of an expression; the items of a claim or of a START's list; the branches of a
+-- TRY; the slaves that a PUTS frees; the blocks that nest.
+abbrev pub topAmount : ℕ
+topAmount = 1_000_000
+
+abbrev pub mostNodes : ℕ
+mostNodes = 16
+
+abbrev pub mostItems : ℕ
+mostItems = 4
+
+abbrev pub mostBranches : ℕ
+mostBranches = 4
+
+abbrev pub mostSlaves : ℕ
+mostSlaves = 64
+
+abbrev pub deepest : ℕ
+deepest = 8
+
+-- The lowest priority of a process, and that of a return notice.
+abbrev pub lowest : ℤ
+lowest = negsuc 9_999  -- -10,000
+
+abbrev pub ofReturns : ℤ
+ofReturns = negsuc 14_999  -- -15,000
+
 -- Times go to 2,000,000,000, process numbers to 2,147,483,647, a bin to 1,000,000,000; there are 64 places, 64 returns may
--- wait, and a process has 8 locals.
+-- wait, and a process has 8 locals. The bound is answered up to 4,294,967,295, and `plan` runs 1,000,000 steps.
 abbrev pub latest : ℕ
 latest = 2_000_000_000
 
@@ -117,3 +164,9 @@ returns = 64
 
 abbrev pub locals : ℕ
 locals = 8
+
+abbrev pub largestBound : ℕ
+largestBound = 4_294_967_295
+
+abbrev pub planSteps : ℕ
+planSteps = 1_000_000

@@ -1,4 +1,4 @@
--- The twelve plans of document 01 ("Plans to try on both sides") as a single thePlans, with the 72 bytes of its worked example.
+-- The twelve plans of document 01 ("Plans to try on both sides") as a single table, with the 72 bytes of its worked example.
 -- Assumes nothing.
 use Prim.Native.Nat.{ℕ, _+_}
 use mathlib.Core.Path.{_≡_, refl}
@@ -6,48 +6,56 @@ use mathlib.Core.List.{List, [], _∷_, _++_, map}
 use lib.ListN.{length}
 use lib.IntN.{ℤ, pos, negsuc}
 use Rattle.semantics.specs.Words.{collect}
+use Rattle.semantics.specs.Numbers as No
+use Rattle.semantics.specs.Kinds as K
+use Rattle.semantics.specs.Model.{Model}
 use Rattle.semantics.specs.State.{fresh, process}
 use Rattle.semantics.specs.Run.{IDLE, LIMIT, FAULT, endless, run}
-use Rattle.semantics.specs.Bound.{AT}
+use Rattle.semantics.specs.Bound.{AT, weight}
 use Rattle.semantics.specs.Journal.{le16, le32, twos}
 use Rattle.semantics.specs.Decode.{refused, accepted, decode}
-use Rattle.semantics.specs.Plan.{Told, Printed, refusedAt, ran, planFor}
+use Rattle.semantics.specs.Plan.{PrintedLine, Printed, refusedAt, ran, planFor}
 
 -- Records, written.
 abbrev rec : ℕ → List ℕ → List ℕ
 rec k bs = le16 (2 + length bs) ++ le16 k ++ bs
 
 abbrev RES : ℕ → List ℕ
-RES n = rec 1 (le32 n)
+RES n = rec K.RES (le32 n)
 
 abbrev CLASS : ℕ → List ℕ
-CLASS b = rec 5 (le16 b)
+CLASS b = rec K.CLASS (le16 b)
 
 abbrev BLOCK : List ℕ
-BLOCK = rec 6 []
+BLOCK = rec K.BLOCK []
 
 abbrev ENTITY : ℕ → ℕ → List ℕ
-ENTITY c t = rec 7 (le16 c ++ le32 t)
+ENTITY c t = rec K.ENTITY (le16 c ++ le32 t)
 
 abbrev HOLD : ℤ → List ℕ
-HOLD v = rec 16 (le16 0 ++ le32 (twos v))
+HOLD v = rec K.HOLD (le16 0 ++ le32 (twos v))
 
 abbrev PRIO : ℤ → List ℕ
-PRIO v = rec 17 (le16 0 ++ le32 (twos v))
+PRIO v = rec K.PRIO (le16 0 ++ le32 (twos v))
 
 abbrev DO : ℕ → ℕ → List ℕ
-DO n b = rec 20 (le16 n ++ le16 b)
+DO n b = rec K.DO (le16 n ++ le16 b)
 
 abbrev PUTR : ℕ → ℕ → List ℕ
-PUTR i n = rec 21 (le16 i ++ le32 n)
+PUTR i n = rec K.PUTR (le16 i ++ le32 n)
 
 -- A claim of 1 of each resource listed.
 abbrev REQ : List ℕ → List ℕ
-REQ is = rec 25 (le16 (length is) ++ collect (λ i. 0 ∷ 0 ∷ le16 i ++ le32 1) is)
+REQ is = rec K.REQ (le16 (length is) ++ collect (λ i. 0 ∷ 0 ∷ le16 i ++ le32 1) is)
 
 -- One process, which does what the actions say.
 one : List ℕ → List ℕ
 one bs = CLASS 0 ++ ENTITY 0 0 ++ BLOCK ++ bs
+
+-- DO n of an empty block.
+doing : ℕ → List ℕ
+unfolding one
+doing n = one (DO n 1 ++ BLOCK)
 
 -- The worked example.
 pub example : List ℕ
@@ -80,58 +88,61 @@ waiters =
     ++ BLOCK ++ REQ (0 ∷ []) ++ PUTR 0 1
     ++ BLOCK ++ PRIO (pos 1) ++ REQ (0 ∷ []) ++ PUTR 0 1
 
--- A plan is looked at by what `plan` prints with a step limit, or by the first process's priority after so many steps.
+-- A file is looked at by what `plan` prints with a step limit, by what block 0 weighs, or by the first process's priority after
+-- so many steps.
 pub data Look : Type 0 where
   prints priority : ℕ → Look
+  weighs : Look
 
 pub data Shows : Type 0 where
   printed : Printed → Shows
   has : ℤ → Shows
+  weighing : ℕ → Shows
 
 pub record Case : Type 0 where
-  pub number : ℕ
   pub look : Look
   pub file : List ℕ
   pub shows : Shows
 
-priorityAfter : ℕ → List ℕ → Shows
-unfolding decode run fresh
-priorityAfter n bs =
-    elim (decode bs) [
-      | refused k p ↦ printed (refusedAt k p)
-      | accepted m ↦ has (process (run m n endless (fresh m) .state) 0 .priority)
-    ]
+ofModel : (Model → Shows) → List ℕ → Shows
+unfolding decode
+ofModel f bs = elim (decode bs) [ refused k p ↦ printed (refusedAt k p) | accepted m ↦ f m ]
 
 pub shown : Look → List ℕ → Shows
-unfolding planFor priorityAfter
+unfolding planFor ofModel run fresh weight
 shown (prints n) bs = printed (planFor n bs)
-shown (priority n) bs = priorityAfter n bs
+shown (priority n) bs = ofModel (λ m. has (process (run m n endless (fresh m) .state) 0 .priority)) bs
+shown weighs bs = ofModel (λ m. weighing (weight m 0)) bs
 
-abbrev plan : ℕ → List ℕ → Printed → Case
-plan k bs p = record { number = k; look = prints 1_000_000; file = bs; shows = printed p }
+-- What the definitions show of cases, and what the cases say.
+abbrev pub seen : List Case → List Shows
+seen cs = map (λ c. shown (c .look) (c .file)) cs
 
-abbrev stopping : ℕ → ℕ → List ℕ → Printed → Case
-stopping k n bs p = record { number = k; look = prints n; file = bs; shows = printed p }
+abbrev pub said : List Case → List Shows
+said cs = map (λ c. c .shows) cs
 
--- The lines of plan 2, of plan 8 with two waiters, and of plan 9. With W, A comes back first at
--- 15: the walk passes Z, since B is still out, and goes on to W.
-abbrev exampleLines : List Told
+-- What is printed of a run to its end, or for n steps; the weight of block 0; the priority after 1 step.
+abbrev stops : ℕ → List ℕ → Printed → Case
+stops n bs p = record { look = prints n; file = bs; shows = printed p }
+
+abbrev toEnd : List ℕ → Printed → Case
+toEnd bs p = stops No.planSteps bs p
+
+abbrev weight0 : List ℕ → ℕ → Case
+weight0 bs n = record { look = weighs; file = bs; shows = weighing n }
+
+abbrev priority1 : List ℕ → ℤ → Case
+priority1 bs v = record { look = priority 1; file = bs; shows = has v }
+
+-- The lines of plans 2 and 9.
+abbrev exampleLines : List PrintedLine
 exampleLines =
     (0, 1, 4, pos 0) ∷ (0, 2, 3, pos 0)
     ∷ (3, 1, 2, pos 0) ∷ (3, 1, 5, pos 0) ∷ (3, 2, 4, pos 0)
     ∷ (6, 2, 2, pos 0) ∷ (6, 2, 5, pos 0)
     ∷ []
 
-abbrev waitersLines : List Told
-waitersLines =
-    (0, 1, 4, pos 0) ∷ (0, 2, 3, pos 0)
-    ∷ (1, 3, 3, pos 0)
-    ∷ (10, 1, 2, pos 0) ∷ (10, 1, 5, pos 0)
-    ∷ (10, 3, 4, pos 0) ∷ (10, 3, 2, pos 0) ∷ (10, 3, 5, pos 0)
-    ∷ (10, 2, 4, pos 0) ∷ (10, 2, 2, pos 0) ∷ (10, 2, 5, pos 0)
-    ∷ []
-
-abbrev threeLines : List Told
+abbrev threeLines : List PrintedLine
 threeLines =
     (0, 1, 4, pos 0) ∷ (0, 2, 3, pos 0)
     ∷ (1, 3, 3, pos 0)
@@ -140,7 +151,56 @@ threeLines =
     ∷ (15, 3, 4, pos 0) ∷ (15, 3, 2, pos 0) ∷ (15, 3, 5, pos 1)
     ∷ []
 
-abbrev fourLines : List Told
+-- THE TABLE: a row for each plan, with all that document 01 says of it.
+pub record Numbered : Type 0 where
+  pub number : ℕ
+  pub cases : List Case
+
+abbrev numbered : ℕ → List Case → Numbered
+numbered k cs = record { number = k; cases = cs }
+
+pub thePlans : List Numbered
+unfolding one doing example three
+thePlans =
+    numbered 1 (toEnd [] (ran [] IDLE 0 (AT 0)) ∷ [])
+    ∷ numbered 2 (toEnd example (ran exampleLines IDLE 10 (AT 10)) ∷ [])
+    ∷ numbered 3 (weight0 (doing 0) 1 ∷ toEnd (doing 0) (ran ((0, 1, 2, pos 0) ∷ []) IDLE 2 (AT 2)) ∷ [])
+    ∷ numbered 4 (weight0 (doing 3) 4 ∷ toEnd (doing 3) (ran ((0, 1, 2, pos 0) ∷ []) IDLE 5 (AT 5)) ∷ [])
+    ∷ numbered 5 (toEnd (one (HOLD (negsuc 0))) (ran [] (FAULT 22) 0 (AT 2)) ∷ [])
+    ∷ numbered 6
+    (toEnd (one (HOLD (pos 2_000_000_000))) (ran ((2_000_000_000, 1, 2, pos 0) ∷ []) IDLE 2 (AT 2))
+    ∷ toEnd (one (HOLD (pos 2_000_000_000) ++ HOLD (pos 1))) (ran [] (FAULT 23) 1 (AT 3))
+    ∷ [])
+    ∷ numbered 7
+    (stops 4 (three []) (ran ((0, 1, 4, pos 0) ∷ (0, 2, 3, pos 0) ∷ (1, 3, 3, pos 0) ∷ []) LIMIT 4 (AT 16)) ∷ [])
+    ∷ numbered 8
+    (stops 5 (three (PRIO (pos 1))) (ran ((0, 1, 4, pos 0) ∷ (0, 2, 3, pos 0) ∷ (1, 3, 4, pos 0) ∷ []) LIMIT 5 (AT 17)) ∷ [])
+    ∷ numbered 9 (toEnd (three []) (ran threeLines IDLE 16 (AT 16)) ∷ [])
+    ∷ numbered 10 (priority1 (one (PRIO (negsuc 19_999))) (negsuc 9_999) ∷ [])
+    ∷ numbered 11 (toEnd (RES 2 ++ one (REQ (0 ∷ []) ++ PUTR 0 2)) (ran ((0, 1, 4, pos 0) ∷ []) (FAULT 24) 1 (AT 4)) ∷ [])
+    ∷ numbered 12 (toEnd (RES 1 ++ one (REQ (0 ∷ []))) (ran ((0, 1, 4, pos 0) ∷ []) (FAULT 26) 1 (AT 2)) ∷ [])
+    ∷ []
+
+pub one-to-twelve : map (λ r. r .number) thePlans ≡ 1 ∷ 2 ∷ 3 ∷ 4 ∷ 5 ∷ 6 ∷ 7 ∷ 8 ∷ 9 ∷ 10 ∷ 11 ∷ 12 ∷ []
+unfolding thePlans
+one-to-twelve = refl
+
+pub the-twelve-plans : map (λ r. seen (r .cases)) thePlans ≡ map (λ r. said (r .cases)) thePlans
+unfolding shown thePlans
+the-twelve-plans = refl
+
+-- FURTHER MODELS: a run that has ended answers so also where its limit is reached, as the empty file with limit 0; plan 8 with
+-- two waiters; plan 9 with W: A comes back first at 15, the walk passes Z, since B is still out, and goes on to W.
+abbrev waitersLines : List PrintedLine
+waitersLines =
+    (0, 1, 4, pos 0) ∷ (0, 2, 3, pos 0)
+    ∷ (1, 3, 3, pos 0)
+    ∷ (10, 1, 2, pos 0) ∷ (10, 1, 5, pos 0)
+    ∷ (10, 3, 4, pos 0) ∷ (10, 3, 2, pos 0) ∷ (10, 3, 5, pos 0)
+    ∷ (10, 2, 4, pos 0) ∷ (10, 2, 2, pos 0) ∷ (10, 2, 5, pos 0)
+    ∷ []
+
+abbrev fourLines : List PrintedLine
 fourLines =
     (0, 1, 4, pos 0) ∷ (0, 2, 3, pos 0)
     ∷ (1, 3, 3, pos 0)
@@ -151,31 +211,17 @@ fourLines =
     ∷ (15, 4, 5, pos 0) ∷ (15, 3, 5, pos 1)
     ∷ []
 
--- A run that has ended answers so also where its limit is reached: the empty file with limit 0.
-pub thePlans : List Case
-unfolding one example three four waiters
-thePlans =
-    plan 1 [] (ran [] IDLE 0 (AT 0))
-    ∷ stopping 1 0 [] (ran [] IDLE 0 (AT 0))
-    ∷ plan 2 example (ran exampleLines IDLE 10 (AT 10))
-    ∷ plan 3 (one (DO 0 1 ++ BLOCK)) (ran ((0, 1, 2, pos 0) ∷ []) IDLE 2 (AT 2))
-    ∷ plan 4 (one (DO 3 1 ++ BLOCK)) (ran ((0, 1, 2, pos 0) ∷ []) IDLE 5 (AT 5))
-    ∷ plan 5 (one (HOLD (negsuc 0))) (ran [] (FAULT 22) 0 (AT 2))
-    ∷ plan 6 (one (HOLD (pos 2_000_000_000))) (ran ((2_000_000_000, 1, 2, pos 0) ∷ []) IDLE 2 (AT 2))
-    ∷ plan 6 (one (HOLD (pos 2_000_000_000) ++ HOLD (pos 1))) (ran [] (FAULT 23) 1 (AT 3))
-    ∷ stopping 7 4 (three []) (ran ((0, 1, 4, pos 0) ∷ (0, 2, 3, pos 0) ∷ (1, 3, 3, pos 0) ∷ []) LIMIT 4 (AT 16))
-    ∷ stopping 8 5 (three (PRIO (pos 1))) (ran ((0, 1, 4, pos 0) ∷ (0, 2, 3, pos 0) ∷ (1, 3, 4, pos 0) ∷ []) LIMIT 5 (AT 17))
-    ∷ plan 8 waiters (ran waitersLines IDLE 14 (AT 14))
-    ∷ plan 9 (three []) (ran threeLines IDLE 16 (AT 16))
-    ∷ plan 9 four (ran fourLines IDLE 20 (AT 20))
-    ∷ record { number = 10; look = priority 1; file = one (PRIO (negsuc 19_999)); shows = has (negsuc 9_999) }
-    ∷ plan 11 (RES 2 ++ one (REQ (0 ∷ []) ++ PUTR 0 2)) (ran ((0, 1, 4, pos 0) ∷ []) (FAULT 24) 1 (AT 4))
-    ∷ plan 12 (RES 1 ++ one (REQ (0 ∷ []))) (ran ((0, 1, 4, pos 0) ∷ []) (FAULT 26) 1 (AT 2))
+pub furtherModels : List Case
+unfolding four waiters
+furtherModels =
+    stops 0 [] (ran [] IDLE 0 (AT 0))
+    ∷ toEnd waiters (ran waitersLines IDLE 14 (AT 14))
+    ∷ toEnd four (ran fourLines IDLE 20 (AT 20))
     ∷ []
 
-pub the-twelve-plans : map (λ c. shown (c .look) (c .file)) thePlans ≡ map (λ c. c .shows) thePlans
-unfolding shown thePlans
-the-twelve-plans = refl
+pub the-further-models : seen furtherModels ≡ said furtherModels
+unfolding shown furtherModels
+the-further-models = refl
 
 pub the-72-bytes : example
     ≡ 6 ∷ 0 ∷ 1 ∷ 0 ∷ 1 ∷ 0 ∷ 0 ∷ 0

@@ -10,6 +10,7 @@ use lib.ListN.{length, getD, take, drop}
 use lib.IntN.{ℤ}
 use Rattle.semantics.specs.Words.{if_then_else_, Outcome, Passed, _>>_, need, all, any, within}
 use Rattle.semantics.specs.Numbers as No
+use Rattle.semantics.specs.Kinds as K
 use Rattle.semantics.specs.Model.{Expr, literal, global, local, add, subtract, multiply, lesser, greater, negate}
 use Rattle.semantics.specs.Model.{theClock, resource, bin, sync, Relation, below, atMost, equals, differs, atLeast, above}
 use Rattle.semantics.specs.Model.{Item, get, condition, Claim, Branch, Share, Entity, Action, HOLD, PRIO, TRACE, SET}
@@ -52,6 +53,7 @@ abbrev pub oneTree : Option (List Expr) → Bool
 oneTree none = false
 oneTree (some es) = eqb (length es) 1
 
+-- The first two clauses aren't reached: SIZE asks for one tree (`sized`).
 abbrev pub theTree : Option (List Expr) → Expr
 theTree none = theClock
 theTree (some []) = theClock
@@ -76,8 +78,8 @@ partSize share = 6
 -- An item is u8 kind, u8 relation, u16 number, i32 amount; a share is u16 resource, u32 amount.
 abbrev pub partValid : Part → List ℕ → Bool
 partValid item i =
-    (leb (u8 i 0) 2 && (eqb (u8 i 1) 0 && within 1 1_000_000 (u32 i 4))) || (eqb (u8 i 0) 3 && within 1 6 (u8 i 1))
-partValid share h = within 1 1_000_000 (u32 h 2)
+    (leb (u8 i 0) 2 && (eqb (u8 i 1) 0 && within 1 No.topAmount (u32 i 4))) || (eqb (u8 i 0) 3 && within 1 6 (u8 i 1))
+partValid share h = within 1 No.topAmount (u32 h 2)
 
 -- Two parts that name one resource, bin or sync.
 abbrev pub samePart : Part → List ℕ → List ℕ → Bool
@@ -97,12 +99,13 @@ listSized p bs = leb 2 (length bs) && eqb (length bs) (2 + partSize p * u16 bs 0
 
 unfoldable pub listValid : Part → List ℕ → Bool
 unfolding parts
-listValid p bs = leb (u16 bs 0) 4 && all (partValid p) (partsOf p bs)
+listValid p bs = leb (u16 bs 0) No.mostItems && all (partValid p) (partsOf p bs)
 
 unfoldable pub listTwice : Part → List ℕ → Bool
 unfolding parts repeats
 listTwice p bs = repeats (samePart p) (partsOf p bs)
 
+-- The relations 1 to 6; no other is reached (`partValid`).
 abbrev pub relationOf : ℕ → Relation
 relationOf r = getD (equals ∷ below ∷ atMost ∷ equals ∷ differs ∷ atLeast ∷ above ∷ []) r equals
 
@@ -159,7 +162,7 @@ shares = listOf share
 -- one START list.
 abbrev pub sized : Tail → List ℕ → Bool
 sized nothing bs = eqb (length bs) 0
-sized expression bs = eqb (length bs % 6) 0 && (within 1 16 (length bs / 6) && oneTree (pile (nodes bs)))
+sized expression bs = eqb (length bs % 6) 0 && (within 1 No.mostNodes (length bs / 6) && oneTree (pile (nodes bs)))
 sized (listOf p) bs = listSized p bs
 sized branches bs = leb 2 (length bs) && branchesFit (u16 bs 0) (drop 2 bs)
 
@@ -167,7 +170,8 @@ abbrev pub valid : Tail → List ℕ → Bool
 valid nothing bs = true
 valid expression bs = all nodeValid (nodes bs)
 valid (listOf p) bs = listValid p bs
-valid branches bs = within 1 4 (u16 bs 0) && all (λ b. listValid item (drop 2 b)) (branchesFrom (u16 bs 0) (drop 2 bs))
+valid branches bs =
+    within 1 No.mostBranches (u16 bs 0) && all (λ b. listValid item (drop 2 b)) (branchesFrom (u16 bs 0) (drop 2 bs))
 
 abbrev pub twice : Tail → List ℕ → Bool
 twice nothing bs = false
@@ -177,11 +181,11 @@ twice branches bs = any (λ b. listTwice item (drop 2 b)) (branchesFrom (u16 bs 
 
 -- A FIELD with a stated set: where it begins, and the set's ends. No kind has two.
 pub data Field : Type 0 where
-  free : Field  -- every value may stand
+  anyValue : Field  -- every value may stand
   u16In u32In : ℕ → ℕ → ℕ → Field
 
 abbrev pub inSet : Field → List ℕ → Bool
-inSet free bs = true
+inSet anyValue bs = true
 inSet (u16In at lo hi) bs = within lo hi (u16 bs at)
 inSet (u32In at lo hi) bs = within lo hi (u32 bs at)
 
@@ -190,6 +194,9 @@ pub data Naming : Type 0 where
   nameless : Naming
   names : ℕ → ℕ → Naming
   namesLocal : ℕ → Naming
+
+abbrev pub entityOf : List ℕ → Entity
+entityOf bs = record { class = u16 bs 0; offset = u32 bs 2 }
 
 -- A record, understood.
 pub data Entry : Type 0 where
@@ -218,37 +225,46 @@ declares k n h f x e = record { kind = k; group = k; most = n; head = h; field =
 
 abbrev acts : ℕ → ℕ → Field → Naming → Tail → (List ℕ → Action) → Row
 acts k h f x t a =
-    record { kind = k; group = 16; most = 1_024; head = h; field = f; naming = x; tail = t; says = λ bs. ACTION (a bs) }
+    record {
+      kind = k;
+      group = K.ACTION;
+      most = No.mostActions;
+      head = h;
+      field = f;
+      naming = x;
+      tail = t;
+      says = λ bs. ACTION (a bs);
+    }
 
 abbrev pub table : List Row
 table =
-    declares 1 32 4 (u32In 0 0 1_000_000) nameless (λ bs. RES (u32 bs 0))
-    ∷ declares 2 32 4 (u32In 0 0 1_000_000) nameless (λ bs. BIN (u32 bs 0))
-    ∷ declares 3 32 0 free nameless (λ bs. SYNC)
-    ∷ declares 4 32 4 free nameless (λ bs. VAR (i32 bs 0))
-    ∷ declares 5 64 2 free (names 6 0) (λ bs. CLASS (u16 bs 0))
-    ∷ declares 6 256 0 free nameless (λ bs. BLOCK)
-    ∷ declares 7 64 6 (u32In 2 0 1_000_000) (names 5 0) (λ bs. ENTITY (record { class = u16 bs 0; offset = u32 bs 2 }))
-    ∷ acts 16 0 free nameless expression (λ bs. HOLD (expressionIn bs))
-    ∷ acts 17 0 free nameless expression (λ bs. PRIO (expressionIn bs))
-    ∷ acts 18 2 free (names 4 0) expression (λ bs. SET (u16 bs 0) (expressionIn (drop 2 bs)))
-    ∷ acts 19 2 free (namesLocal 0) expression (λ bs. LSET (u16 bs 0) (expressionIn (drop 2 bs)))
-    ∷ acts 20 4 free (names 6 2) nothing (λ bs. DO (u16 bs 0) (u16 bs 2))
-    ∷ acts 21 6 (u32In 2 1 1_000_000) (names 1 0) nothing (λ bs. PUTR (u16 bs 0) (u32 bs 2))
-    ∷ acts 22 6 (u32In 2 1 1_000_000) (names 2 0) nothing (λ bs. PUTB (u16 bs 0) (u32 bs 2))
-    ∷ acts 23 4 (u16In 2 1 64) (names 3 0) nothing (λ bs. PUTS (u16 bs 0) (u16 bs 2))
-    ∷ acts 24 2 free (names 3 0) nothing (λ bs. BECOME (u16 bs 0))
-    ∷ acts 25 0 free nameless claim (λ bs. REQ (claimIn bs))
-    ∷ acts 26 0 free nameless branches (λ bs. TRY (branchesIn bs))
-    ∷ acts 27 2 free (names 6 0) claim (λ bs. WHILE (u16 bs 0) (claimIn (drop 2 bs)))
-    ∷ acts 28 6 (u32In 2 0 1_000_000) (names 5 0) shares (λ bs. START (u16 bs 0) (u32 bs 2) (sharesIn (drop 6 bs)))
-    ∷ acts 29 0 free nameless expression (λ bs. TRACE (expressionIn bs))
-    ∷ acts 30 0 free nameless nothing (λ bs. CLOSE)
+    declares K.RES No.mostThings 4 (u32In 0 0 No.topAmount) nameless (λ bs. RES (u32 bs 0))
+    ∷ declares K.BIN No.mostThings 4 (u32In 0 0 No.topAmount) nameless (λ bs. BIN (u32 bs 0))
+    ∷ declares K.SYNC No.mostThings 0 anyValue nameless (λ bs. SYNC)
+    ∷ declares K.VAR No.mostThings 4 anyValue nameless (λ bs. VAR (i32 bs 0))
+    ∷ declares K.CLASS No.mostClasses 2 anyValue (names K.BLOCK 0) (λ bs. CLASS (u16 bs 0))
+    ∷ declares K.BLOCK No.mostBlocks 0 anyValue nameless (λ bs. BLOCK)
+    ∷ declares K.ENTITY No.mostEntities 6 (u32In 2 0 No.topAmount) (names K.CLASS 0) (λ bs. ENTITY (entityOf bs))
+    ∷ acts K.HOLD 0 anyValue nameless expression (λ bs. HOLD (expressionIn bs))
+    ∷ acts K.PRIO 0 anyValue nameless expression (λ bs. PRIO (expressionIn bs))
+    ∷ acts K.SET 2 anyValue (names K.VAR 0) expression (λ bs. SET (u16 bs 0) (expressionIn (drop 2 bs)))
+    ∷ acts K.LSET 2 anyValue (namesLocal 0) expression (λ bs. LSET (u16 bs 0) (expressionIn (drop 2 bs)))
+    ∷ acts K.DO 4 anyValue (names K.BLOCK 2) nothing (λ bs. DO (u16 bs 0) (u16 bs 2))
+    ∷ acts K.PUTR 6 (u32In 2 1 No.topAmount) (names K.RES 0) nothing (λ bs. PUTR (u16 bs 0) (u32 bs 2))
+    ∷ acts K.PUTB 6 (u32In 2 1 No.topAmount) (names K.BIN 0) nothing (λ bs. PUTB (u16 bs 0) (u32 bs 2))
+    ∷ acts K.PUTS 4 (u16In 2 1 No.mostSlaves) (names K.SYNC 0) nothing (λ bs. PUTS (u16 bs 0) (u16 bs 2))
+    ∷ acts K.BECOME 2 anyValue (names K.SYNC 0) nothing (λ bs. BECOME (u16 bs 0))
+    ∷ acts K.REQ 0 anyValue nameless claim (λ bs. REQ (claimIn bs))
+    ∷ acts K.TRY 0 anyValue nameless branches (λ bs. TRY (branchesIn bs))
+    ∷ acts K.WHILE 2 anyValue (names K.BLOCK 0) claim (λ bs. WHILE (u16 bs 0) (claimIn (drop 2 bs)))
+    ∷ acts K.START 6 (u32In 2 0 No.topAmount) (names K.CLASS 0) shares (λ bs. START (u16 bs 0) (u32 bs 2) (sharesIn (drop 6 bs)))
+    ∷ acts K.TRACE 0 anyValue nameless expression (λ bs. TRACE (expressionIn bs))
+    ∷ acts K.CLOSE 0 anyValue nameless nothing (λ bs. CLOSE)
     ∷ []
 
--- The row of what is no kind: of group 0.
+-- The row of what is no kind: of group 0, which KIND refuses (`judged`), so that what it says is never read.
 abbrev pub noRow : Row
-noRow = record { kind = 0; group = 0; most = 0; head = 0; field = free; naming = nameless; tail = nothing; says = λ bs. SYNC }
+noRow = record { kind = 0; group = 0; most = 0; head = 0; field = anyValue; naming = nameless; tail = nothing; says = λ bs. SYNC }
 
 abbrev pub rowIn : List Row → ℕ → Row
 rowIn [] k = noRow

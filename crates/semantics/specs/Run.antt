@@ -10,7 +10,7 @@ use Rattle.semantics.specs.Words.{if_then_else_, ok, fails, isEmpty}
 use Rattle.semantics.specs.Numbers as No
 use Rattle.semantics.specs.Model.{Model}
 use Rattle.semantics.specs.Decode.{refused, accepted, decode}
-use Rattle.semantics.specs.State.{State, Floor, empty, held}
+use Rattle.semantics.specs.State.{State, Floor, empty, heldBy}
 use Rattle.semantics.specs.Walk.{Line, Next}
 use Rattle.semantics.specs.Step.{step}
 use Rattle.semantics.specs.Sound.{soundIn}
@@ -38,7 +38,7 @@ pub data Before : Type 0 where
 
 abbrev pub nobodyHas : Floor → Bool
 nobodyHas empty = true
-nobodyHas (held p) = false
+nobodyHas (heldBy p) = false
 
 abbrev pub before : State → Before
 before s = if s .closed then isClosed else if nobodyHas (s .floor) && isEmpty (s .events) then isIdle else goesOn
@@ -46,15 +46,15 @@ before s = if s .closed then isClosed else if nobodyHas (s .floor) && isEmpty (s
 -- Room in the journal for so many lines; `endless` for a reader who empties it before it is full.
 pub data Room : Type 0 where
   endless : Room
-  lines : ℕ → Room
+  roomFor : ℕ → Room
 
 abbrev pub fits : List Line → Room → Bool
 fits ls endless = true
-fits ls (lines n) = leb (length ls) n
+fits ls (roomFor n) = leb (length ls) n
 
 abbrev pub left : List Line → Room → Room
 left ls endless = endless
-left ls (lines n) = lines (n - length ls)
+left ls (roomFor n) = roomFor (n - length ls)
 
 -- At most n steps. A step that faults, or whose lines don't fit, is not made and leaves the state and the lines as before it.
 unfoldable pub run : Model → ℕ → Room → State → Ran

@@ -10,14 +10,15 @@ use lib.IntN.{ℤ, pos}
 use lib.Signed.{leZ}
 use Rattle.semantics.specs.Words.{if_then_else_, all, any, keep, isEmpty, ordered, collect, sum, upTo, within}
 use Rattle.semantics.specs.Numbers as No
+use Rattle.semantics.specs.Kinds as K
 use Rattle.semantics.specs.Model.{Model, block, Action, HOLD, PRIO, TRACE, SET, LSET, DO, PUTR, PUTB, PUTS, BECOME, REQ}
-use Rattle.semantics.specs.Model.{TRY, WHILE, START, CLOSE}
+use Rattle.semantics.specs.Model.{TRY, WHILE, START, CLOSE, kindOf}
 use Rattle.semantics.specs.Decode.{refused, accepted, decode}
 use Rattle.semantics.specs.State.{State, Process, Frame, Waiter, Event, Notice, wakes, returnsR, returnsB, Floor, empty}
-use Rattle.semantics.specs.State.{held, process, isFree, sooner, higher}
+use Rattle.semantics.specs.State.{heldBy, process, isFree, sooner, higher}
 use Rattle.semantics.specs.Value.{isI32}
 use Rattle.semantics.specs.Claim.{standsIn}
-use Rattle.semantics.specs.Step.{lowest, ofReturns, isReturn}
+use Rattle.semantics.specs.Step.{isReturn}
 
 abbrev pub same : ℤ → ℤ → Bool
 same x y = leZ x y && leZ y x
@@ -60,12 +61,12 @@ shaped m s =
 -- EVERY NUMBER IS IN ITS RANGE: a process's priority from -10,000, a return notice's exactly -15,000.
 abbrev pub processInRange : Model → Process → Bool
 processInRange m q =
-    leZ lowest (q .priority)
+    leZ No.lowest (q .priority)
     && (isI32 (q .priority) && (all isI32 (q .locals) && all (λ x. ltb (x .of) (m .syncs)) (q .slaves)))
 
 abbrev pub returnInRange : ℕ → ℕ → ℤ → ℕ → ℕ → ℕ → Bool
 returnInRange known last x i n g =
-    same x ofReturns && (ltb i known && (within 1 1_000_000 n && within 1 last g))
+    same x No.ofReturns && (ltb i known && (within 1 No.topAmount n && within 1 last g))
 
 abbrev pub eventInRange : Model → State → Event → Bool
 eventInRange m s e =
@@ -138,7 +139,7 @@ ownNumbers s = ofLiving (ownNumber s) s
 -- AND IS IN EXACTLY ONE of floor, event list, blocked list, a waiting list or one owner's slaves.
 abbrev pub onFloor : Floor → List ℕ
 onFloor empty = []
-onFloor (held p) = p ∷ []
+onFloor (heldBy p) = p ∷ []
 
 abbrev pub woken : Notice → List ℕ
 woken (wakes p) = p ∷ []
@@ -162,21 +163,7 @@ inOne s =
 
 -- A BLOCKED ONE STANDS AT A REQ OR TRY.
 abbrev pub asking : Action → Bool
-asking (HOLD e) = false
-asking (PRIO e) = false
-asking (TRACE e) = false
-asking (SET i e) = false
-asking (LSET i e) = false
-asking (DO n k) = false
-asking (PUTR i n) = false
-asking (PUTB i n) = false
-asking (PUTS i n) = false
-asking (BECOME i) = false
-asking (REQ c) = true
-asking (TRY bs) = true
-asking (WHILE k c) = false
-asking (START c t h) = false
-asking CLOSE = false
+asking a = eqb (kindOf a) K.REQ || eqb (kindOf a) K.TRY
 
 abbrev pub asksAt : Option Action → Bool
 asksAt none = false

@@ -49,7 +49,7 @@ pub record Waiter : Type 0 where
 
 pub data Floor : Type 0 where
   empty : Floor
-  held : ℕ → Floor  -- by the process in this place
+  heldBy : ℕ → Floor  -- by the process in this place
 
 -- `processes` are the 64 places.
 pub record State : Type 0 where

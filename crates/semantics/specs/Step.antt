@@ -7,13 +7,14 @@ use mathlib.Core.Bool.{Bool, true, false, _&&_}
 use mathlib.Core.Option.{none, some}
 use lib.Dec.{eqb, leb, ltb}
 use lib.ListN.{length, getD, set}
-use lib.IntN.{ℤ, pos, negsuc, natAbs}
+use lib.IntN.{pos, natAbs}
 use lib.Signed.{leZ, nonNeg}
-use Rattle.semantics.specs.Words.{if_then_else_, Outcome, ok, fails, _>>=_, _>>_, need, all, keep, isEmpty, more, less}
+use Rattle.semantics.specs.Words.{if_then_else_, Outcome, ok, fails, _>>=_, _>>_, need, all, keep, isEmpty, more, fewer}
 use Rattle.semantics.specs.Numbers as No
+use Rattle.semantics.specs.Kinds as K
 use Rattle.semantics.specs.Model.{Expr, Share, Model, Action, HOLD, PRIO, TRACE, SET, LSET, DO, PUTR, PUTB, PUTS, BECOME}
-use Rattle.semantics.specs.Model.{REQ, TRY, WHILE, START, CLOSE}
-use Rattle.semantics.specs.State.{State, Process, Frame, Slave, Waiter, Event, empty, held, Notice, wakes, returnsR}
+use Rattle.semantics.specs.Model.{REQ, TRY, WHILE, START, CLOSE, kindOf}
+use Rattle.semantics.specs.State.{State, Process, Frame, Slave, Waiter, Event, empty, heldBy, Notice, wakes, returnsR}
 use Rattle.semantics.specs.State.{returnsB, nobody, process, put, at-clock, now-closed, with-globals, with-free}
 use Rattle.semantics.specs.State.{with-bins, with-waiting, with-floor, with-events, with-blocked, with-priority}
 use Rattle.semantics.specs.State.{with-locals, with-held, with-slaves, with-frames, enter, wake, join, onward, past, into}
@@ -21,13 +22,6 @@ use Rattle.semantics.specs.State.{begin, living}
 use Rattle.semantics.specs.Value.{eval}
 use Rattle.semantics.specs.Claim.{offers, standsIn, waits, goes, choice, grant}
 use Rattle.semantics.specs.Walk.{Next, line, quiet, after, walk}
-
--- The lowest priority of a process, -10,000, and that of a return notice, -15,000.
-abbrev pub lowest : ℤ
-lowest = negsuc 9_999
-
-abbrev pub ofReturns : ℤ
-ofReturns = negsuc 14_999
 
 abbrev pub isReturn : Event → Bool
 isReturn e = elim (e .notice) [ wakes p ↦ false | returnsR i n g ↦ true | returnsB i n g ↦ true ]
@@ -39,7 +33,7 @@ handed (x ∷ xs) l = handed xs (more l (x .of) (x .amount))
 
 unfoldable pub kept : List Share → List ℕ → List ℕ
 kept [] l = l
-kept (x ∷ xs) l = kept xs (less l (x .of) (x .amount))
+kept (x ∷ xs) l = kept xs (fewer l (x .of) (x .amount))
 
 -- The first n slaves of sync i in the order claimed, and those that stay.
 unfoldable pub freed : ℕ → ℕ → List Slave → List ℕ
@@ -56,26 +50,13 @@ stay i (suc n) (x ∷ xs) = elim (eqb (x .of) i) [ true ↦ stay i n xs | false 
 unfoldable pub freeAll : ℕ → List ℕ → State → Next
 unfolding wake
 freeAll i [] s = quiet s
-freeAll i (r ∷ rs) s = after (line s (process s r .number) No.freed (pos i)) (freeAll i rs (wake (s .clock) r s))
+freeAll i (r ∷ rs) s = after (line s (process s r .number) No.slaveFreed (pos i)) (freeAll i rs (wake (s .clock) r s))
 
 -- A block that is left: the process goes past the action that named it, but meets a WHILE again.
 abbrev pub comesBack : Action → Bool
-comesBack (HOLD e) = false
-comesBack (PRIO e) = false
-comesBack (TRACE e) = false
-comesBack (SET i e) = false
-comesBack (LSET i e) = false
-comesBack (DO n b) = false
-comesBack (PUTR i n) = false
-comesBack (PUTB i n) = false
-comesBack (PUTS i n) = false
-comesBack (BECOME i) = false
-comesBack (REQ c) = false
-comesBack (TRY bs) = false
-comesBack (WHILE b c) = true
-comesBack (START c t h) = false
-comesBack CLOSE = false
+comesBack a = eqb (kindOf a) K.WHILE
 
+-- `none` isn't reached in a sound run, where the inner block is named where the outer one stands (`namedThere`).
 abbrev pub leave : Model → List Frame → List Frame
 leave m fs = elim (standsIn m fs) [ none ↦ fs | some a ↦ if comesBack a then fs else onward fs ]
 
@@ -93,7 +74,8 @@ module _ (m : Model) (s : State) (p : ℕ) (q : Process) where
     need No.OWING (all (λ n. eqb n 0) (q .held) && isEmpty (q .slaves))
     ok (after (line s (q .number) No.ended (pos 0)) (quiet (off nobody)))
 
-  -- Innermost block exhausted: one round less; go round again, or leave the block.
+  -- Innermost block exhausted: one round less; go round again, or leave the block. One in no block doesn't have the floor in a
+  -- sound run: 20 isn't reached (promises' `step-faults`).
   unfoldable pub exhausted : List Frame → Outcome Next
   unfolding ends onward
   exhausted [] = fails No.STATE
@@ -116,7 +98,7 @@ module _ (m : Model) (s : State) (p : ℕ) (q : Process) where
   unfolding eval past
   prio e = do
     v ← eval s q e
-    ok (quiet (on (past (with-priority q (if leZ lowest v then v else lowest)))))
+    ok (quiet (on (past (with-priority q (if leZ No.lowest v then v else No.lowest)))))
 
   -- SET, LSET; SET then walks.
   unfoldable pub setGlobal : ℕ → Expr → Outcome Next
@@ -142,13 +124,13 @@ module _ (m : Model) (s : State) (p : ℕ) (q : Process) where
   unfolding past enter
   notify n r = do
     need No.NOTICES (ltb (length (keep isReturn (s .events))) No.returns)
-    ok (quiet (with-events (on (past r)) (enter (record { time = s .clock; priority = ofReturns; notice = n }) (s .events))))
+    ok (quiet (with-events (on (past r)) (enter (record { time = s .clock; priority = No.ofReturns; notice = n }) (s .events))))
 
   unfoldable pub putr : ℕ → ℕ → Outcome Next
   unfolding notify
   putr i n = do
     need No.HELD (leb n (getD (q .held) i 0))
-    notify (returnsR i n (q .number)) (with-held q (less (q .held) i n))
+    notify (returnsR i n (q .number)) (with-held q (fewer (q .held) i n))
 
   unfoldable pub putb : ℕ → ℕ → Outcome Next
   unfolding notify
@@ -242,14 +224,15 @@ moves m s p =
 -- A return notice, when first, adds the amount, walks and is gone.
 unfoldable pub occurs : Model → State → Notice → Outcome Next
 unfolding moves walk
-occurs m s (wakes p) = moves m (with-floor s (held p)) p
+occurs m s (wakes p) = moves m (with-floor s (heldBy p)) p
 occurs m s (returnsR i n g) =
     ok (after (line s g No.resourceReturned (pos i)) (walk m (with-free s (more (s .free) i n))))
 occurs m s (returnsB i n g) = do
   need No.BIN (leb (getD (s .bins) i 0 + n) No.fullBin)
   ok (after (line s g No.binReturned (pos i)) (walk m (with-bins s (more (s .bins) i n))))
 
--- If nobody has the floor, the first of the event list takes it and the clock becomes its time.
+-- If nobody has the floor, the first of the event list takes it and the clock becomes its time. With an empty list the run
+-- answers IDLE before it (`before`): 20 isn't reached (promises' `step-faults`).
 unfoldable pub next : Model → State → List Event → Outcome Next
 unfolding occurs
 next m s [] = fails No.STATE
@@ -257,4 +240,4 @@ next m s (e ∷ es) = occurs m (with-events (at-clock s (e .time)) es) (e .notic
 
 unfoldable pub step : Model → State → Outcome Next
 unfolding moves next _>>=_ _>>_ need
-step m s = elim (s .floor) [ held p ↦ moves m s p | empty ↦ next m s (s .events) ]
+step m s = elim (s .floor) [ heldBy p ↦ moves m s p | empty ↦ next m s (s .events) ]

@@ -83,12 +83,12 @@ abbrev pub upTo : ℕ → List ℕ
 upTo zero = []
 upTo (suc n) = n ∷ upTo n
 
--- xs with n more, or n less, at index i.
+-- xs with n more, or n fewer, at index i.
 abbrev pub more : List ℕ → ℕ → ℕ → List ℕ
 more xs i n = set xs i (getD xs i 0 + n)
 
-abbrev pub less : List ℕ → ℕ → ℕ → List ℕ
-less xs i n = set xs i (getD xs i 0 - n)
+abbrev pub fewer : List ℕ → ℕ → ℕ → List ℕ
+fewer xs i n = set xs i (getD xs i 0 - n)
 
 -- lo..hi
 abbrev pub within : ℕ → ℕ → ℕ → Bool
