@@ -192,7 +192,7 @@ pub mod limit {
 
     pub const OFFERED: u32 = 4;
 
-    pub const LOCAL: u32 = 8;
+    pub const LOCAL: u32 = LOCALS as u32;
 }
 
 // Codes of numbers of the i32 range, v + 2^31: of 0, of the lowest priority of a process, of the priority of returns; and the
