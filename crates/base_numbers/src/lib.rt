@@ -81,6 +81,21 @@ pub mod line {
     pub const CLOSED: u32 = 10;
 
     pub const BYTES: usize = 16;
+
+    // Where its parts begin, and how many bytes stand behind the length, as it says.
+    pub const KIND_AT: usize = 2;
+
+    pub const TIME_AT: usize = 4;
+
+    pub const PROCESS_AT: usize = 8;
+
+    pub const VALUE_AT: usize = 12;
+
+    pub const LENGTH: u32 = 14;
+
+    // Its bytes as `plan` prints it, at most: time, process, kind and value with a mark behind each, of which only the value may be
+    // negative.
+    pub const TEXT: usize = 40;
 }
 
 // The kinds of a record.
@@ -193,6 +208,9 @@ pub mod limit {
     pub const OFFERED: u32 = 4;
 
     pub const LOCAL: u32 = LOCALS as u32;
+
+    // The steps that `plan` makes.
+    pub const PLAN_STEPS: u32 = 1000000;
 }
 
 // Codes of numbers of the i32 range, v + 2^31: of 0, of the lowest priority of a process, of the priority of returns; and the
@@ -424,4 +442,18 @@ pub mod branch {
 
     // The bytes before its claim's items: its block, and how many they are.
     pub const HEAD: usize = 4;
+}
+
+// A number of the i32 range as its two's complement: the lowest word of a negative one, and the highest.
+pub mod twos {
+    pub const NEGATIVE: u32 = 2147483648;
+
+    pub const HIGHEST: u32 = 4294967295;
+}
+
+// The answer of the bound as one word: a bound is its own, and these stand behind all of them.
+pub mod bound {
+    pub const NONE: u64 = 4294967296;
+
+    pub const OVER: u64 = 8589934592;
 }
