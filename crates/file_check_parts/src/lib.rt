@@ -73,7 +73,8 @@ fn node_known(n: [u32; group::MANY], d: &[u8]) -> bool
 {
     let op = file_fields::u16_at(d, 0);
     let operand = file_fields::u32_at(d, 2);
-    ((op != op::GLOBAL) | (operand < n[group::VAR])) & ((op != op::LOCAL) | (operand < limit::LOCAL))
+    ((op != op::GLOBAL) | (operand < n[group::VAR]))
+        & ((op != op::LOCAL) | (operand < limit::LOCAL))
 }
 
 // ---- all parts: `test` is one of base_numbers::part
@@ -154,7 +155,11 @@ fn same_part(share: bool, i: &[u8], j: &[u8]) -> bool
 fn part_size(share: bool) -> usize
     ensures { λ r. ⌜ (r ≡ partSize (partOf share)) × ((6 ≤ r) × (r ≤ 8)) ⌝ }
 {
-    if share { part::SHARE_BYTES } else { item::BYTES }
+    if share {
+        part::SHARE_BYTES
+    } else {
+        item::BYTES
+    }
 }
 
 // Whether one of the parts of bs names what the part x does.
