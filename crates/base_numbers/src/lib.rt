@@ -93,8 +93,7 @@ pub mod line {
 
     pub const LENGTH: u32 = 14;
 
-    // Its bytes as `plan` prints it, at most: time, process, kind and value with a mark behind each, of which only the value may be
-    // negative.
+    // Its bytes as `plan` prints it, at most: time, process, kind and value, a mark behind each, and a minus.
     pub const TEXT: usize = 40;
 }
 
