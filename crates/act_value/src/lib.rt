@@ -6,14 +6,10 @@ ghost use lib.IntN.{negℤ};
 ghost use Rattle.semantics.specs.Numbers as No;
 ghost use Rattle.semantics.specs.Record.{nodes, expressionIn};
 ghost use Rattle.semantics.specs.Value.{inRange};
-ghost use Rattle.file_check_tails.specs.Tails.{arity};
 ghost use Rattle.base_i32.specs.Code.{valueOf, valueIn};
 ghost use Rattle.act_value.specs.Parts.{evalIn};
 ghost use Rattle.act_value.specs.Reading.{Readable, Stands, Read, HasCode, leafCode, ofTwo, given};
 use base_i32::Value;
-
-// How many operands each op takes.
-const OPERANDS: [u32; 10] = [0, 0, 0, 2, 2, 2, 2, 2, 0, 1];
 
 struct Node {
     op: u32,
@@ -36,17 +32,6 @@ fn node_at(bs: &[u8], k: usize) -> Node
     let op = file_fields::u16_at(node, 0);
     let operand = file_fields::u32_at(node, 2);
     Node { op, operand }
-}
-
-// How many trees an op takes for its operands; an unknown op is a leaf.
-fn operands(op: u32) -> u32
-    ensures { λ r. ⌜ r ≡ arity op ⌝ }
-{
-    let at = op as usize;
-    if at < 10 {
-        return OPERANDS[at];
-    }
-    0
 }
 
 // The code that stands in a row of numbers.
@@ -110,7 +95,7 @@ fn tree_at<'a>(bs: &'a [u8], globals: &'a [u64], locals: &'a [u64], clock: u32, 
         Read (w .gs) (w .ls) clock (nodes (now (bs .entry))) k r) ⌝ }
 {
     let node = node_at(bs, k);
-    let many = operands(node.op);
+    let many = file_check_tails::operands(node.op);
     if many == 0 {
         let code = leaf(globals, locals, clock, node.op, node.operand);
         return Tree {

@@ -92,6 +92,9 @@ pub mod line {
     pub const VALUE_AT: usize = 12;
 
     pub const LENGTH: u32 = 14;
+
+    // Its bytes as `plan` prints it, at most: time, process, kind and value, a mark behind each, and a minus.
+    pub const TEXT: usize = 40;
 }
 
 // The kinds of a record.
@@ -152,6 +155,9 @@ pub mod item {
     pub const CONDITION: u32 = 3;
 
     pub const BYTES: usize = 8;
+
+    // The last relation of a condition; they are numbered from 1.
+    pub const LAST_RELATION: u32 = 6;
 }
 
 // How many there may be, and how large.
@@ -193,6 +199,17 @@ pub mod limit {
     pub const RETURNS: usize = 64;
 
     pub const STEP_LINES: usize = 66;
+
+    // The items of a claim and the shares of a START, the branches of a TRY, and a process's locals, as numbers of a file are
+    // compared with them.
+    pub const LISTED: u32 = 4;
+
+    pub const OFFERED: u32 = 4;
+
+    pub const LOCAL: u32 = LOCALS as u32;
+
+    // The steps that `plan` makes.
+    pub const PLAN_STEPS: u32 = 1000000;
 }
 
 // Codes of numbers of the i32 range, v + 2^31: of 0, of the lowest priority of a process, of the priority of returns; and the
@@ -409,4 +426,143 @@ pub mod most {
     pub const WAITER: u64 = word::KEY * word::RANKS - 1;
 
     pub const KEY: u64 = word::TIME * limit::LATEST + code::HIGHEST;
+}
+
+// The groups that the records of a file are counted in, by number: a declaration's is its kind, and all actions are one.
+pub mod group {
+    // Places in a row of counts.
+    pub const RES: usize = 1;
+
+    pub const VAR: usize = 4;
+
+    pub const BLOCK: usize = 6;
+
+    // How many there are, with 0, which is none; and what stands for a local where the table of kinds says what a field names.
+    pub const MANY: usize = 17;
+
+    pub const LOCAL: usize = 17;
+
+    // As the table of kinds has them.
+    pub const NONE: u32 = 0;
+
+    pub const BLOCKS: u32 = 6;
+
+    pub const ACTIONS: u32 = 16;
+}
+
+// The columns of the table of kinds.
+pub mod column {
+    // The group that a record is counted in and the most of that; the bytes of its fields.
+    pub const GROUP: usize = 0;
+
+    pub const MOST: usize = 1;
+
+    pub const HEAD: usize = 2;
+
+    // The field with a stated set: its size, its place, the lowest and the highest.
+    pub const FIELD_SIZE: usize = 3;
+
+    pub const FIELD_AT: usize = 4;
+
+    pub const LOWEST: usize = 5;
+
+    pub const HIGHEST: usize = 6;
+
+    // What follows the fields; the group of what its naming field names, and the place of that.
+    pub const TAIL: usize = 7;
+
+    pub const NAMING: usize = 8;
+
+    pub const NAMING_AT: usize = 9;
+
+    // How many columns there are, and rows: one for each kind from 0 on.
+    pub const MANY: usize = 10;
+
+    pub const KINDS: usize = 31;
+}
+
+// What follows a record's fields.
+pub mod tail {
+    pub const NOTHING: u32 = 0;
+
+    pub const EXPRESSION: u32 = 1;
+
+    pub const BRANCHES: u32 = 2;
+
+    pub const CLAIM: u32 = 3;
+
+    pub const SHARES: u32 = 4;
+}
+
+// The ops of an expression's nodes; how many there are, and the bytes of a node.
+pub mod op {
+    pub const LITERAL: u32 = 0;
+
+    pub const GLOBAL: u32 = 1;
+
+    pub const LOCAL: u32 = 2;
+
+    pub const ADD: u32 = 3;
+
+    pub const SUBTRACT: u32 = 4;
+
+    pub const MULTIPLY: u32 = 5;
+
+    pub const LESSER: u32 = 6;
+
+    pub const GREATER: u32 = 7;
+
+    pub const CLOCK: u32 = 8;
+
+    pub const NEGATE: u32 = 9;
+
+    pub const MANY: usize = 10;
+
+    pub const NODE_BYTES: usize = 6;
+}
+
+// The tests of the parts of one size that a body has: check 6, then check 8.
+pub mod part {
+    pub const ITEM_VALID: u32 = 0;
+
+    pub const SHARE_VALID: u32 = 1;
+
+    pub const NODE_VALID: u32 = 2;
+
+    pub const ITEM_KNOWN: u32 = 3;
+
+    pub const SHARE_KNOWN: u32 = 4;
+
+    pub const NODE_KNOWN: u32 = 5;
+
+    // The bytes of a share of a START.
+    pub const SHARE_BYTES: usize = 6;
+}
+
+// The tests of a branch of a TRY: checks 6 to 9.
+pub mod branch {
+    pub const VALID: u32 = 0;
+
+    pub const ONCE: u32 = 1;
+
+    pub const KNOWN: u32 = 2;
+
+    pub const LATER: u32 = 3;
+
+    // The bytes before its claim's items: its block, and how many they are.
+    pub const HEAD: usize = 4;
+}
+
+// A number of the i32 range as its two's complement: the lowest word of a negative one, and the highest.
+pub mod twos {
+    pub const NEGATIVE: u32 = 2147483648;
+
+    pub const HIGHEST: u32 = 4294967295;
+}
+
+// The answer of the bound as one word: a bound is its own, and these stand behind all of them.
+pub mod bound {
+    pub const NONE: u64 = 4294967296;
+
+    pub const OVER: u64 = 8589934592;
 }

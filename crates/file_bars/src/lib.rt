@@ -1,9 +1,11 @@
 // Whether one action's branches bar another's, by bits: the map has three words of each branch for the things that it names.
+use base_numbers::map;
 ghost use mathlib.Core.Path.{_≡_};
-ghost use Prim.Native.Nat.{_+_, _≤_, _<_};
-ghost use lib.ListN.{length, getD};
+ghost use Prim.Native.Nat.{_≤_, _<_};
+ghost use lib.ListN.{length};
 ghost use Rattle.semantics.specs.Words.{any};
 ghost use Rattle.semantics.specs.Claim.{bars};
+ghost use Rattle.base_numbers.specs.Map as Map;
 ghost use Rattle.file_bars.specs.Barring.{Barring};
 ghost use Rattle.file_bars.specs.Bits.{namesNothing, within, strictlyWithin, namedAt, branchesTo};
 
@@ -15,28 +17,14 @@ struct Named {
 }
 
 fn named_at(map: &[u32], n: usize) -> Named
-    requires { ⌜ (length (now map) ≡ 18754) × (n < 4096) ⌝ }
+    requires { ⌜ (length (now map) ≡ Map.WORDS) × (n < 4096) ⌝ }
     ensures { λ r. ⌜ r ≡ namedAt (now (map .entry)) n ⌝ }
 {
     Named {
-        resources: map[6466 + n],
-        bins: map[10562 + n],
-        syncs: map[14658 + n],
+        resources: map[map::RESOURCES + n],
+        bins: map[map::BINS + n],
+        syncs: map[map::SYNCS + n],
     }
-}
-
-fn wide(x: u32) -> usize
-    ensures { λ r. ⌜ r ≡ x ⌝ }
-{
-    x as usize
-}
-
-// Where the branches of action a begin; those of the action before it end there.
-fn branches_from(map: &[u32], a: usize) -> usize
-    requires { ⌜ (length (now map) ≡ 18754) × (a ≤ 1024) ⌝ }
-    ensures { λ r. ⌜ r ≡ getD (now (map .entry)) (1345 + a) 0 ⌝ }
-{
-    wide(map[1345 + a])
 }
 
 fn names_nothing(x: Named) -> bool
@@ -55,7 +43,7 @@ fn within(x: Named, y: Named) -> bool
 
 // Whether x is a non-empty, strict part of what branch n names.
 fn strict_part(map: &[u32], x: Named, n: usize) -> bool
-    requires { ⌜ (length (now map) ≡ 18754) × (n < 4096) ⌝ }
+    requires { ⌜ (length (now map) ≡ Map.WORDS) × (n < 4096) ⌝ }
     ensures { λ r. ⌜ r ≡ strictlyWithin x (namedAt (now (map .entry)) n) ⌝ }
 {
     let y = named_at(map, n);
@@ -64,7 +52,7 @@ fn strict_part(map: &[u32], x: Named, n: usize) -> bool
 
 // Whether branch n names such a part of what one of the branches from `from` to before `to` names.
 fn covered(map: &[u32], from: usize, to: usize, n: usize) -> bool
-    requires { ⌜ (length (now map) ≡ 18754) × ((to ≤ 4096) × (n < 4096)) ⌝ }
+    requires { ⌜ (length (now map) ≡ Map.WORDS) × ((to ≤ 4096) × (n < 4096)) ⌝ }
     ensures { λ r. ⌜ r ≡ any (strictlyWithin (namedAt (now (map .entry)) n)) (branchesTo (now (map .entry)) from to) ⌝ }
 {
     let x = named_at(map, n);
@@ -83,10 +71,10 @@ pub fn bars(map: &[u32], b: usize, q: usize) -> bool
     requires { ⌜ Barring (now map) b q ⌝ }
     ensures { λ r. ⌜ ((v : Barring (now (map .entry)) b q) → r ≡ bars (v .by) (v .of)) ⌝ }
 {
-    let from = branches_from(map, b);
-    let to = branches_from(map, b + 1);
-    let end = branches_from(map, q + 1);
-    let mut x = branches_from(map, q);
+    let from = file_map::branches_from(map, b);
+    let to = file_map::branches_from(map, b + 1);
+    let end = file_map::branches_from(map, q + 1);
+    let mut x = file_map::branches_from(map, q);
     while x < end {
         if !covered(map, from, to, x) {
             return false;

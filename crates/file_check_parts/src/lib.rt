@@ -1,4 +1,9 @@
 // Checks 6, 7 and 8 on the parts of one size that a record's body has: items of a claim, shares of a START, nodes.
+use base_numbers::group;
+use base_numbers::item;
+use base_numbers::limit;
+use base_numbers::op;
+use base_numbers::part;
 ghost use mathlib.Core.Path.{_≡_};
 ghost use mathlib.Core.Bool.{true};
 ghost use Prim.Native.Nat.{_+_, _*_, _≤_, _<_};
@@ -19,8 +24,8 @@ fn item_valid(i: &[u8]) -> bool
     let kind = file_fields::u8_at(i, 0);
     let relation = file_fields::u8_at(i, 1);
     let amount = file_fields::u32_at(i, 4);
-    (kind <= 2) & ((relation == 0) & ((1 <= amount) & (amount <= 1000000)))
-        | ((kind == 3) & ((1 <= relation) & (relation <= 6)))
+    (kind <= item::GET_S) & ((relation == 0) & ((1 <= amount) & (amount <= limit::AMOUNT)))
+        | ((kind == item::CONDITION) & ((1 <= relation) & (relation <= item::LAST_RELATION)))
 }
 
 fn share_valid(h: &[u8]) -> bool
@@ -28,7 +33,7 @@ fn share_valid(h: &[u8]) -> bool
     ensures { λ r. ⌜ r ≡ partValid share (now (h .entry)) ⌝ }
 {
     let amount = file_fields::u32_at(h, 2);
-    (1 <= amount) & (amount <= 1000000)
+    (1 <= amount) & (amount <= limit::AMOUNT)
 }
 
 fn node_valid(d: &[u8]) -> bool
@@ -37,67 +42,68 @@ fn node_valid(d: &[u8]) -> bool
 {
     let op = file_fields::u16_at(d, 0);
     let operand = file_fields::u32_at(d, 2);
-    (op <= 2) | ((op <= 9) & (operand == 0))
+    (op <= op::LOCAL) | ((op <= op::NEGATE) & (operand == 0))
 }
 
 // ---- one part: check 8, where `n` has how many there are of each group
 
-fn item_known(n: [u32; 17], i: &[u8]) -> bool
+fn item_known(n: [u32; group::MANY], i: &[u8]) -> bool
     requires { ⌜ 8 ≤ length (now i) ⌝ }
     ensures { λ r. ⌜ r ≡ partKnown item n (now (i .entry)) ⌝ }
 {
     let group = (file_fields::u8_at(i, 0) + 1) as usize;
     let number = file_fields::u16_at(i, 2);
-    if group < 17 {
+    if group < group::MANY {
         return number < n[group];
     }
     false
 }
 
-fn share_known(n: [u32; 17], h: &[u8]) -> bool
+fn share_known(n: [u32; group::MANY], h: &[u8]) -> bool
     requires { ⌜ 6 ≤ length (now h) ⌝ }
     ensures { λ r. ⌜ r ≡ partKnown share n (now (h .entry)) ⌝ }
 {
     let number = file_fields::u16_at(h, 0);
-    number < n[1]
+    number < n[group::RES]
 }
 
-fn node_known(n: [u32; 17], d: &[u8]) -> bool
+fn node_known(n: [u32; group::MANY], d: &[u8]) -> bool
     requires { ⌜ 6 ≤ length (now d) ⌝ }
     ensures { λ r. ⌜ r ≡ nodeKnown (getD n 4 0) (now (d .entry)) ⌝ }
 {
     let op = file_fields::u16_at(d, 0);
     let operand = file_fields::u32_at(d, 2);
-    ((op != 1) | (operand < n[4])) & ((op != 2) | (operand < 8))
+    ((op != op::GLOBAL) | (operand < n[group::VAR]))
+        & ((op != op::LOCAL) | (operand < limit::LOCAL))
 }
 
-// ---- all parts: `test` is one of 0 to 5
+// ---- all parts: `test` is one of base_numbers::part
 
 fn size_of(test: u32) -> usize
     ensures { λ r. ⌜ (r ≡ sizeOf test) × ((6 ≤ r) × (r ≤ 8)) ⌝ }
 {
     match test {
-        0 => 8,
-        3 => 8,
-        _ => 6,
+        part::ITEM_VALID => item::BYTES,
+        part::ITEM_KNOWN => item::BYTES,
+        _ => op::NODE_BYTES,
     }
 }
 
-fn part_passes(test: u32, n: [u32; 17], x: &[u8]) -> bool
+fn part_passes(test: u32, n: [u32; group::MANY], x: &[u8]) -> bool
     requires { ⌜ sizeOf test ≤ length (now x) ⌝ }
     ensures { λ r. ⌜ r ≡ passes test n (now (x .entry)) ⌝ }
 {
     match test {
-        0 => item_valid(x),
-        1 => share_valid(x),
-        2 => node_valid(x),
-        3 => item_known(n, x),
-        4 => share_known(n, x),
+        part::ITEM_VALID => item_valid(x),
+        part::SHARE_VALID => share_valid(x),
+        part::NODE_VALID => node_valid(x),
+        part::ITEM_KNOWN => item_known(n, x),
+        part::SHARE_KNOWN => share_known(n, x),
         _ => node_known(n, x),
     }
 }
 
-pub fn parts_pass(test: u32, n: [u32; 17], count: u32, bs: &[u8]) -> bool
+pub fn parts_pass(test: u32, n: [u32; group::MANY], count: u32, bs: &[u8]) -> bool
     requires { ⌜ sizeOf test * count ≤ length (now bs) ⌝ }
     ensures { λ r. ⌜ r ≡ all (passes test n) (parts (sizeOf test) count (now (bs .entry))) ⌝ }
 {
@@ -123,7 +129,7 @@ fn same_item(i: &[u8], j: &[u8]) -> bool
     let other = file_fields::u8_at(j, 0);
     let a = file_fields::u16_at(i, 2);
     let b = file_fields::u16_at(j, 2);
-    (kind <= 2) & ((kind == other) & (a == b))
+    (kind <= item::GET_S) & ((kind == other) & (a == b))
 }
 
 fn same_share(i: &[u8], j: &[u8]) -> bool
@@ -149,7 +155,11 @@ fn same_part(share: bool, i: &[u8], j: &[u8]) -> bool
 fn part_size(share: bool) -> usize
     ensures { λ r. ⌜ (r ≡ partSize (partOf share)) × ((6 ≤ r) × (r ≤ 8)) ⌝ }
 {
-    if share { 6 } else { 8 }
+    if share {
+        part::SHARE_BYTES
+    } else {
+        item::BYTES
+    }
 }
 
 // Whether one of the parts of bs names what the part x does.

@@ -1,4 +1,11 @@
 // Checks 5 to 9 on what follows a record's fields: an expression, a claim, the shares of a START, the branches of a TRY.
+use base_numbers::branch;
+use base_numbers::group;
+use base_numbers::item;
+use base_numbers::limit;
+use base_numbers::op;
+use base_numbers::part;
+use base_numbers::tail;
 ghost use mathlib.Core.Path.{_≡_};
 ghost use mathlib.Core.Bool.{true};
 ghost use Prim.Native.Nat.{_+_, _*_, _≤_, _<_};
@@ -11,15 +18,17 @@ ghost use Rattle.semantics.specs.Decode.{partKnown, tailKnown};
 ghost use Rattle.file_check_parts.specs.Tests.{partOf};
 ghost use Rattle.file_check_tails.specs.Tails.{tailOf, branchPasses, arity, heightOf, grownBy};
 
-const ARITY: [u32; 10] = [0, 0, 0, 2, 2, 2, 2, 2, 0, 1];
+// How many trees each op takes for its operands.
+const ARITY: [u32; op::MANY] = [0, 0, 0, 2, 2, 2, 2, 2, 0, 1];
 
 // ---- expressions
 
-fn taken_off(op: u32) -> u32
+// How many trees an op takes for its operands; an unknown op is a leaf.
+pub fn operands(op: u32) -> u32
     ensures { λ r. ⌜ (r ≡ arity op) × (r ≤ 2) ⌝ }
 {
     let k = op as usize;
-    if k < 10 {
+    if k < op::MANY {
         return ARITY[k];
     }
     0
@@ -41,8 +50,8 @@ fn height(n: usize, bs: &[u8]) -> u32
     let mut k = n;
     while 0 < k {
         k = k - 1;
-        let op = file_fields::u16_at(bs, 6 * k);
-        h = grown(taken_off(op), h);
+        let op = file_fields::u16_at(bs, op::NODE_BYTES * k);
+        h = grown(operands(op), h);
     }
     h
 }
@@ -50,14 +59,14 @@ fn height(n: usize, bs: &[u8]) -> u32
 fn expression_sized(bs: &[u8]) -> bool
     ensures { λ r. ⌜ r ≡ sized expression (now (bs .entry)) ⌝ }
 {
-    let n = bs.len() / 6;
-    if bs.len() % 6 != 0 {
+    let n = bs.len() / op::NODE_BYTES;
+    if bs.len() % op::NODE_BYTES != 0 {
         return false;
     }
     if n < 1 {
         return false;
     }
-    if 16 < n {
+    if limit::NODES < n {
         return false;
     }
     height(n, bs) == 2
@@ -73,9 +82,9 @@ fn list_sized(share: bool, bs: &[u8]) -> bool
     }
     let n = file_fields::u16_at(bs, 0) as usize;
     if share {
-        return bs.len() == 2 + 6 * n;
+        return bs.len() == 2 + part::SHARE_BYTES * n;
     }
-    bs.len() == 2 + 8 * n
+    bs.len() == 2 + item::BYTES * n
 }
 
 fn list_valid(share: bool, bs: &[u8]) -> bool
@@ -84,9 +93,11 @@ fn list_valid(share: bool, bs: &[u8]) -> bool
 {
     let n = file_fields::u16_at(bs, 0);
     if share {
-        return (n <= 4) & file_check_parts::parts_pass(1, [0u32; 17], n, &bs[2..]);
+        return (n <= limit::LISTED)
+            & file_check_parts::parts_pass(part::SHARE_VALID, [0u32; group::MANY], n, &bs[2..]);
     }
-    (n <= 4) & file_check_parts::parts_pass(0, [0u32; 17], n, &bs[2..])
+    (n <= limit::LISTED)
+        & file_check_parts::parts_pass(part::ITEM_VALID, [0u32; group::MANY], n, &bs[2..])
 }
 
 fn list_twice(share: bool, bs: &[u8]) -> bool
@@ -97,15 +108,15 @@ fn list_twice(share: bool, bs: &[u8]) -> bool
     file_check_parts::parts_repeat(share, n, &bs[2..])
 }
 
-fn list_known(share: bool, n: [u32; 17], bs: &[u8]) -> bool
+fn list_known(share: bool, n: [u32; group::MANY], bs: &[u8]) -> bool
     requires { ⌜ (2 ≤ length (now bs)) × (2 + partSize (partOf share) * u16 (now bs) 0 ≤ length (now bs)) ⌝ }
     ensures { λ r. ⌜ r ≡ all (partKnown (partOf share) n) (partsOf (partOf share) (now (bs .entry))) ⌝ }
 {
     let count = file_fields::u16_at(bs, 0);
     if share {
-        return file_check_parts::parts_pass(4, n, count, &bs[2..]);
+        return file_check_parts::parts_pass(part::SHARE_KNOWN, n, count, &bs[2..]);
     }
-    file_check_parts::parts_pass(3, n, count, &bs[2..])
+    file_check_parts::parts_pass(part::ITEM_KNOWN, n, count, &bs[2..])
 }
 
 // ---- the branches of a TRY
@@ -114,7 +125,7 @@ fn branch_size(bs: &[u8]) -> usize
     requires { ⌜ 4 ≤ length (now bs) ⌝ }
     ensures { λ r. ⌜ (r ≡ branchSize (now (bs .entry))) × ((4 ≤ r) × (r ≤ 600000)) ⌝ }
 {
-    4 + 8 * (file_fields::u16_at(bs, 2) as usize)
+    branch::HEAD + item::BYTES * (file_fields::u16_at(bs, 2) as usize)
 }
 
 fn branches_fit(count: u32, bs: &[u8]) -> bool
@@ -123,7 +134,7 @@ fn branches_fit(count: u32, bs: &[u8]) -> bool
     let mut rest = bs;
     let mut left = count;
     while 0 < left {
-        if rest.len() < 4 {
+        if rest.len() < branch::HEAD {
             return false;
         }
         let size = branch_size(rest);
@@ -136,21 +147,21 @@ fn branches_fit(count: u32, bs: &[u8]) -> bool
     rest.len() == 0
 }
 
-fn branch_passes(test: u32, n: [u32; 17], own: u32, b: &[u8]) -> bool
+fn branch_passes(test: u32, n: [u32; group::MANY], own: u32, b: &[u8]) -> bool
     requires { ⌜ (4 ≤ length (now b)) × (branchSize (now b) ≤ length (now b)) ⌝ }
     ensures { λ r. ⌜ r ≡ branchPasses test n own (now (b .entry)) ⌝ }
 {
     let claim = &b[2..];
     let block = file_fields::u16_at(b, 0);
     match test {
-        0 => list_valid(false, claim),
-        1 => !list_twice(false, claim),
-        2 => (block < n[6]) & list_known(false, n, claim),
+        branch::VALID => list_valid(false, claim),
+        branch::ONCE => !list_twice(false, claim),
+        branch::KNOWN => (block < n[group::BLOCK]) & list_known(false, n, claim),
         _ => own <= block,
     }
 }
 
-fn branches_pass(test: u32, n: [u32; 17], own: u32, count: u32, bs: &[u8]) -> bool
+fn branches_pass(test: u32, n: [u32; group::MANY], own: u32, count: u32, bs: &[u8]) -> bool
     requires { ⌜ branchesFit count (now bs) ≡ true ⌝ }
     ensures { λ r. ⌜ r ≡ all (branchPasses test n own) (branchesFrom count (now (bs .entry))) ⌝ }
 {
@@ -175,8 +186,8 @@ fn branches_sized(bs: &[u8]) -> bool
     branches_fit(file_fields::u16_at(bs, 0), &bs[2..])
 }
 
-// All branches of a TRY's tail pass a test (0 to 3 of `branch_passes`).
-pub fn all_branches(test: u32, n: [u32; 17], own: u32, bs: &[u8]) -> bool
+// All branches of a TRY's tail pass a test, one of base_numbers::branch.
+pub fn all_branches(test: u32, n: [u32; group::MANY], own: u32, bs: &[u8]) -> bool
     requires { ⌜ sized branches (now bs) ≡ true ⌝ }
     ensures { λ r. ⌜ r ≡ all (branchPasses test n own) (branchesFrom (u16 (now (bs .entry)) 0) (drop 2 (now (bs .entry)))) ⌝ }
 {
@@ -188,7 +199,8 @@ fn branches_valid(bs: &[u8]) -> bool
     ensures { λ r. ⌜ r ≡ valid branches (now (bs .entry)) ⌝ }
 {
     let count = file_fields::u16_at(bs, 0);
-    ((1 <= count) & (count <= 4)) & all_branches(0, [0u32; 17], 0, bs)
+    ((1 <= count) & (count <= limit::OFFERED))
+        & all_branches(branch::VALID, [0u32; group::MANY], 0, bs)
 }
 
 // ---- any tail, by its number
@@ -197,10 +209,10 @@ pub fn tail_sized(tail: u32, bs: &[u8]) -> bool
     ensures { λ r. ⌜ r ≡ sized (tailOf tail) (now (bs .entry)) ⌝ }
 {
     match tail {
-        1 => expression_sized(bs),
-        2 => branches_sized(bs),
-        3 => list_sized(false, bs),
-        4 => list_sized(true, bs),
+        tail::EXPRESSION => expression_sized(bs),
+        tail::BRANCHES => branches_sized(bs),
+        tail::CLAIM => list_sized(false, bs),
+        tail::SHARES => list_sized(true, bs),
         _ => bs.len() == 0,
     }
 }
@@ -210,10 +222,15 @@ pub fn tail_valid(tail: u32, bs: &[u8]) -> bool
     ensures { λ r. ⌜ r ≡ valid (tailOf tail) (now (bs .entry)) ⌝ }
 {
     match tail {
-        1 => file_check_parts::parts_pass(2, [0u32; 17], (bs.len() / 6) as u32, bs),
-        2 => branches_valid(bs),
-        3 => list_valid(false, bs),
-        4 => list_valid(true, bs),
+        tail::EXPRESSION => file_check_parts::parts_pass(
+            part::NODE_VALID,
+            [0u32; group::MANY],
+            (bs.len() / op::NODE_BYTES) as u32,
+            bs,
+        ),
+        tail::BRANCHES => branches_valid(bs),
+        tail::CLAIM => list_valid(false, bs),
+        tail::SHARES => list_valid(true, bs),
         _ => true,
     }
 }
@@ -223,22 +240,27 @@ pub fn tail_twice(tail: u32, bs: &[u8]) -> bool
     ensures { λ r. ⌜ r ≡ twice (tailOf tail) (now (bs .entry)) ⌝ }
 {
     match tail {
-        2 => !all_branches(1, [0u32; 17], 0, bs),
-        3 => list_twice(false, bs),
-        4 => list_twice(true, bs),
+        tail::BRANCHES => !all_branches(branch::ONCE, [0u32; group::MANY], 0, bs),
+        tail::CLAIM => list_twice(false, bs),
+        tail::SHARES => list_twice(true, bs),
         _ => false,
     }
 }
 
-pub fn tail_known(tail: u32, n: [u32; 17], bs: &[u8]) -> bool
+pub fn tail_known(tail: u32, n: [u32; group::MANY], bs: &[u8]) -> bool
     requires { ⌜ sized (tailOf tail) (now bs) ≡ true ⌝ }
     ensures { λ r. ⌜ r ≡ tailKnown n (tailOf tail) (now (bs .entry)) ⌝ }
 {
     match tail {
-        1 => file_check_parts::parts_pass(5, n, (bs.len() / 6) as u32, bs),
-        2 => all_branches(2, n, 0, bs),
-        3 => list_known(false, n, bs),
-        4 => list_known(true, n, bs),
+        tail::EXPRESSION => file_check_parts::parts_pass(
+            part::NODE_KNOWN,
+            n,
+            (bs.len() / op::NODE_BYTES) as u32,
+            bs,
+        ),
+        tail::BRANCHES => all_branches(branch::KNOWN, n, 0, bs),
+        tail::CLAIM => list_known(false, n, bs),
+        tail::SHARES => list_known(true, n, bs),
         _ => true,
     }
 }

@@ -1,14 +1,9 @@
 // How deep blocks nest: by recursion over the blocks that a block names, each block measured once.
+use base_numbers::limit;
 ghost use mathlib.Core.Path.{_≡_};
 ghost use Prim.Native.Nat.{_+_, _≤_, _<_, max};
 ghost use lib.ListN.{getD};
 ghost use Rattle.file_depth.specs.Deep.{depthOf, startOf, namesIn, Graph, Known, measured};
-
-fn wide(x: u16) -> usize
-    ensures { λ r. ⌜ r ≡ x ⌝ }
-{
-    x as usize
-}
 
 fn greater(x: u16, y: u16) -> u16
     ensures { λ r. ⌜ r ≡ max x y ⌝ }
@@ -17,22 +12,26 @@ fn greater(x: u16, y: u16) -> u16
 }
 
 // where the blocks that block b names begin in `goes`
-fn start<'a>(first: &'a [u16; 257], from: &'a [u16; 1025], b: usize) -> usize
+fn start<'a>(
+    first: &'a [u16; limit::BLOCKS + 1],
+    from: &'a [u16; limit::ACTIONS + 1],
+    b: usize,
+) -> usize
     requires { ⌜ b ≤ 256 ⌝ }
     requires { ⌜ getD (now first) b 0 ≤ 1024 ⌝ }
     ensures { λ r. ⌜ r ≡ startOf (now (first .entry)) (now (from .entry)) b ⌝ }
 {
-    let a = wide(first[b]);
-    wide(from[a])
+    let a = base_wide::short_index(first[b]);
+    base_wide::short_index(from[a])
 }
 
 // How many blocks nest at block b, itself included. The memo has what is found already, and gets what is found here.
 pub fn depth<'a>(
-    first: &'a [u16; 257],
-    from: &'a [u16; 1025],
-    goes: &'a [u16; 4096],
+    first: &'a [u16; limit::BLOCKS + 1],
+    from: &'a [u16; limit::ACTIONS + 1],
+    goes: &'a [u16; limit::BRANCHES],
     blocks: usize,
-    memo: &mut [u16; 256],
+    memo: &mut [u16; limit::BLOCKS],
     b: usize,
 ) -> u16
     requires { ⌜ Graph (now first) (now from) (now goes) blocks ⌝ }
@@ -52,7 +51,7 @@ pub fn depth<'a>(
     let mut k = start(first, from, b);
     let end = start(first, from, b + 1);
     while k < end {
-        let x = wide(goes[k]);
+        let x = base_wide::short_index(goes[k]);
         let v = depth(first, from, goes, blocks, memo, x);
         d = greater(d, v);
         k = k + 1;

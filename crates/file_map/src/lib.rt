@@ -1,24 +1,18 @@
 // What the engine reads an accepted model by, as one row of numbers, the map: where blocks and actions begin, class bodies, and
 // of each branch where its claim stands and what it names.
+use base_numbers::map;
 ghost use mathlib.Core.Path.{_≡_};
 ghost use Prim.Native.Nat.{_+_, _≤_, _<_};
 ghost use lib.ListN.{length, getD};
 ghost use lib.Seq.{sets};
 ghost use Rattle.semantics.specs.Bytes.{recordsFrom};
+ghost use Rattle.base_numbers.specs.Map as Parts;
 ghost use Rattle.file_index.specs.Index.{Readable};
 ghost use Rattle.file_map.specs.MapOf.{mapOf};
 
-// From 0 on the actions that stand before each block; from 257 on the byte place of each action's record; from 1,281 on the body
-// block of each class; from 1,345 on the branches that stand before each action; from 2,370 on the byte place of each branch's
-// claim; from 6,466, 10,562 and 14,658 on the resources, bins and syncs that it names, as bits. What is not used is 0.
+// The parts that base_numbers::map says, one behind the other. What is not used is 0.
 pub struct Map {
-    pub words: [u32; 18754],
-}
-
-fn wide(x: u16) -> u32
-    ensures { λ r. ⌜ r ≡ x ⌝ }
-{
-    x as u32
+    pub words: [u32; map::WORDS],
 }
 
 // The numbers xs, laid from a place of the row on.
@@ -28,7 +22,7 @@ fn lay_u16(xs: &[u16], at: usize, row: &mut [u32])
 {
     let mut i = 0;
     while i < xs.len() {
-        row[at + i] = wide(xs[i]);
+        row[at + i] = base_wide::wide_short(xs[i]);
         i = i + 1;
     }
 }
@@ -51,15 +45,15 @@ pub fn map_of(s: &[u8]) -> Map
 {
     let x = file_index::index_of(s);
     let b = file_index::branches_of(s);
-    let mut words = [0u32; 18754];
-    lay_u16(&x.first, 0, &mut words);
-    lay_u16(&x.place, 257, &mut words);
-    lay_u16(&x.body, 1281, &mut words);
-    lay_u16(&b.from, 1345, &mut words);
-    lay_u16(&b.claim, 2370, &mut words);
-    lay_u32(&b.resources, 6466, &mut words);
-    lay_u32(&b.bins, 10562, &mut words);
-    lay_u32(&b.syncs, 14658, &mut words);
+    let mut words = [0u32; map::WORDS];
+    lay_u16(&x.first, map::FIRST, &mut words);
+    lay_u16(&x.place, map::PLACE, &mut words);
+    lay_u16(&x.body, map::BODY, &mut words);
+    lay_u16(&b.from, map::FROM, &mut words);
+    lay_u16(&b.claim, map::CLAIM, &mut words);
+    lay_u32(&b.resources, map::RESOURCES, &mut words);
+    lay_u32(&b.bins, map::BINS, &mut words);
+    lay_u32(&b.syncs, map::SYNCS, &mut words);
     Map { words: words }
 }
 
@@ -68,5 +62,29 @@ pub fn number_at(map: &[u32], i: usize) -> usize
     requires { ⌜ i < length (now map) ⌝ }
     ensures { λ r. ⌜ r ≡ getD (now (map .entry)) i 0 ⌝ }
 {
-    map[i] as usize
+    base_wide::index(map[i])
+}
+
+// Where the record of action a stands.
+pub fn place_of(map: &[u32], a: usize) -> usize
+    requires { ⌜ (length (now map) ≡ Parts.WORDS) × (a < 1024) ⌝ }
+    ensures { λ r. ⌜ r ≡ getD (now (map .entry)) (Parts.PLACE + a) 0 ⌝ }
+{
+    number_at(map, map::PLACE + a)
+}
+
+// The number of the branches that stand before action a: its own begin there, and those of the action before it end.
+pub fn branches_from(map: &[u32], a: usize) -> usize
+    requires { ⌜ (length (now map) ≡ Parts.WORDS) × (a ≤ 1024) ⌝ }
+    ensures { λ r. ⌜ r ≡ getD (now (map .entry)) (Parts.FROM + a) 0 ⌝ }
+{
+    number_at(map, map::FROM + a)
+}
+
+// Where the claim of branch n stands.
+pub fn claim_at(map: &[u32], n: usize) -> usize
+    requires { ⌜ (length (now map) ≡ Parts.WORDS) × (n < 4096) ⌝ }
+    ensures { λ r. ⌜ r ≡ getD (now (map .entry)) (Parts.CLAIM + n) 0 ⌝ }
+{
+    number_at(map, map::CLAIM + n)
 }

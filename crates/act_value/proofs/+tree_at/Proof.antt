@@ -17,7 +17,7 @@ use Rattle.act_value.proofs.leaf.Reads as leaf-reads
 use Rattle.act_value.proofs.negated.Reads as negated-reads
 use Rattle.act_value.proofs.node_at.Reads as node-at-reads
 use Rattle.act_value.proofs.of_two.Reads as of-two-reads
-use Rattle.act_value.proofs.operands.Reads as operands-reads
+use Rattle.file_check_tails.proofs.operands.Reads as operands-reads
 use Rattle.act_value.proofs.tree_at.Kinds as tree-at-kinds
 use Rattle.act_value.proofs.tree_at.Reads as tree-at
 
@@ -55,7 +55,7 @@ tree-at-operands-requires t c κs = search needs
 tree-at-leaf-requires : (t : ℕ) → tree-at-lts.Need-leaf-requires (tree-at-claims t) (tree-at-at t) tree-at.Post
 tree-at-leaf-requires t c κs = let o = c .before .before .before .before .before .before in
     let d = c .before .before .node-at in
-    let e = sym (c .before .operands .ensures) ∙ c .if1 .taken in
+    let e = sym (c .before .operands .ensures .0) ∙ c .if1 .taken in
     (o .pre .1 .0 .clock-ok, leaf-indexed (o .pre .1 .0) (o .args .k) (o .pre .1 .1) (d .result) (d .ensures) e)
 
 tree-at-add-t16 : (t : ℕ) → tree-at-lts.Need-add-t16 (tree-at-claims t) (tree-at-at t) tree-at.Post
@@ -64,7 +64,7 @@ tree-at-add-t16 t c = omega (arith, c .before .before .before .before .before .b
 tree-at-returns : (t : ℕ) → tree-at-lts.Need-returns (tree-at-claims t) (tree-at-at t) tree-at.Post
 tree-at-returns t c = let o = c .before .before .before .before .before .before .before in
     let d = c .before .before .before .node-at in
-    let e = sym (c .before .before .operands .ensures) ∙ c .before .if1 .taken in
+    let e = sym (c .before .before .operands .ensures .0) ∙ c .before .if1 .taken in
     λ w. leaf-read w (o .args .k) (o .pre .1 .1) (d .result) (d .ensures) e (c .leaf .result) (c .leaf .ensures)
 
 tree-at-add-tree-at : (t : ℕ) → tree-at-lts.Need-add-tree-at (tree-at-claims t) (tree-at-at t) tree-at.Post
@@ -74,7 +74,7 @@ tree-at-tree-at-requires : (t : ℕ) → tree-at-lts.Need-tree-at-requires (tree
 tree-at-tree-at-requires t c κs = let o = c .before .before .before .before .before .before in
     let p = o .pre .1 in
     let d = c .before .before .node-at in
-    let n = c .before .operands .ensures in
+    let n = c .before .operands .ensures .0 in
     let i = first-inside (p .0) (o .args .k) (p .1) (d .result) (d .ensures) (λ e. c .if1 .left (n ∙ e)) in
     (omega (arith, i, o .pre .0), (p .0, i))
 
@@ -85,7 +85,7 @@ tree-at-returns-2 : (t : ℕ) → tree-at-lts.Need-returns-2 (tree-at-claims t) 
 tree-at-returns-2 t c = let o = c .before .before .before .before .before .before .before .before .before in
     let d = c .before .before .before .before .before .node-at in
     let r = c .before .before .tree-at in
-    let e = sym (c .before .before .before .before .operands .ensures) ∙ c .before .if2 .taken in
+    let e = sym (c .before .before .before .before .operands .ensures .0) ∙ c .before .if2 .taken in
     λ w. one-read w (o .args .k) (o .pre .1 .1) (d .result) (d .ensures) (r .result) (r .ensures w) e
     (c .negated .result) (c .negated .ensures)
 
@@ -94,14 +94,14 @@ tree-at-tree-at-requires-2 t c κs = let o = c .before .before .before .before .
     let p = o .pre .1 in
     let d = c .before .before .before .before .node-at in
     let r = c .before .tree-at in
-    let n = c .before .before .before .operands .ensures in
+    let n = c .before .before .before .operands .ensures .0 in
     let e = takes-two (d .result .op) _ n (c .before .before .if1 .left) (c .if2 .left) in
     let i = second-inside (p .0) (o .args .k) (p .1) (d .result) (d .ensures) (r .result) (r .ensures (p .0)) e in
     (omega (arith, i, o .pre .0, r .ensures (p .0) .onward), (p .0, i))
 
 tree-at-of-two-requires : (t : ℕ) → tree-at-lts.Need-of-two-requires (tree-at-claims t) (tree-at-at t) tree-at.Post
 tree-at-of-two-requires t c κs = let d = c .before .before .before .before .before .before .before .node-at in
-    let n = c .before .before .before .before .before .before .operands .ensures in
+    let n = c .before .before .before .before .before .before .operands .ensures .0 in
     two-from-3 (d .result .op)
     (takes-two (d .result .op) _ n (c .before .before .before .before .before .if1 .left) (c .before .before .before .if2 .left))
 
@@ -113,7 +113,7 @@ tree-at-returns-3 t c = let second = c .before .before .before in
     let d = node .node-at in
     let r = first .tree-at in
     let r′ = second .tree-at2 in
-    let n = first .before .before .operands .ensures in
+    let n = first .before .before .operands .ensures .0 in
     let e = takes-two (d .result .op) _ n (first .before .if1 .left) (second .before .if2 .left) in
     λ w. two-read w (o .args .k) (o .pre .1 .1) (d .result) (d .ensures) (r .result) (r .ensures w) e
     (r′ .result) (r′ .ensures w) (c .of-two .result) (c .of-two .ensures)

@@ -30,11 +30,11 @@ mul-u16-at c = omega arith
 u16-at-requires : tie.Need-u16-at-requires Inv-loop μ-loop
 u16-at-requires c κs = omega arith
 
-taken-off-requires : tie.Need-taken-off-requires Inv-loop μ-loop
-taken-off-requires c κs = search needs
+operands-requires : tie.Need-operands-requires Inv-loop μ-loop
+operands-requires c κs = search needs
 
 grown-requires : tie.Need-grown-requires Inv-loop μ-loop
-grown-requires c κs = (c .taken-off .ensures .1, omega arith)
+grown-requires c κs = (c .operands .ensures .1, omega arith)
 
 loop-less : tie.Need-loop-less Inv-loop μ-loop
 loop-less c = omega arith
@@ -47,7 +47,7 @@ loop-again c = let o = c .before .before .before .before .before .before in
       (
         omega (arith, c .grown .ensures .1),
         c .grown .ensures .0 ∙ rw (
-          c .before .taken-off .ensures .0,
+          c .before .operands .ensures .0,
           c .before .before .u16-at .ensures .0,
           l .inv .1 .1,
         ) (sym (height-turn (o .args .n) (l .k) (o .args .bs .now) t
@@ -70,7 +70,7 @@ height-spec =
     sub-k
     mul-u16-at
     u16-at-requires
-    taken-off-requires
+    operands-requires
     grown-requires
     loop-less
     loop-again

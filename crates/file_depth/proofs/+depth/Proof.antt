@@ -17,7 +17,7 @@ use Rattle.file_depth.proofs.depth.Kinds as depth-kinds
 use Rattle.file_depth.proofs.depth.Reads as depth
 use Rattle.file_depth.proofs.greater.Reads as greater-reads
 use Rattle.file_depth.proofs.start.Reads as start-reads
-use Rattle.file_depth.proofs.wide.Reads as wide-reads
+use Rattle.base_wide.proofs.short_index.Reads as short-index-reads
 
 abbrev μ-depth : Measures 2 depth-kinds.ps ℕ
 μ-depth κs a = 256 - a .1 .1 .1 .1 .1 .0
@@ -32,8 +32,8 @@ abbrev depth-claims : ℕ → depth-lts.Claims
 depth-claims t = (
   start-reads.Asked,
   start-reads.Learnt,
-  wide-reads.Asked,
-  wide-reads.Learnt,
+  short-index-reads.Asked,
+  short-index-reads.Learnt,
   depth-below t,
   depth.Post,
   greater-reads.Asked,
@@ -82,24 +82,24 @@ depth-loop-holds : (t : ℕ) → depth-lts.Need-loop-holds (depth-claims t) (dep
 depth-loop-holds t c = let p = c .before .before .before .before .pre .1 in
     begun (p .1 .1) (c .before .start .ensures) (c .start2 .ensures) (names-rise (p .0) (p .1 .0))
 
-depth-mul-wide : (t : ℕ) → depth-lts.Need-mul-wide (depth-claims t) (depth-at t) depth.Post depth-Inv-loop depth-μ-loop
-depth-mul-wide t c = let p = c .before .before .before .before .before .before .pre .1 in
+depth-mul-short-index : (t : ℕ) → depth-lts.Need-mul-short-index (depth-claims t) (depth-at t) depth.Post depth-Inv-loop depth-μ-loop
+depth-mul-short-index t c = let p = c .before .before .before .before .before .before .pre .1 in
     omega (arith, c .loop-test .taken, in-range (p .0) (p .1 .0) (c .before .loop .inv))
 
-depth-element-copy-out-wide : (t : ℕ) →
-    depth-lts.Need-element-copy-out-wide (depth-claims t) (depth-at t) depth.Post depth-Inv-loop depth-μ-loop
-depth-element-copy-out-wide t c = let p = c .before .before .before .before .before .before .pre .1 in
+depth-element-copy-out-short-index : (t : ℕ) →
+    depth-lts.Need-element-copy-out-short-index (depth-claims t) (depth-at t) depth.Post depth-Inv-loop depth-μ-loop
+depth-element-copy-out-short-index t c = let p = c .before .before .before .before .before .before .pre .1 in
     omega (arith, c .loop-test .taken, in-range (p .0) (p .1 .0) (c .before .loop .inv))
 
-depth-wide-requires : (t : ℕ) → depth-lts.Need-wide-requires (depth-claims t) (depth-at t) depth.Post depth-Inv-loop depth-μ-loop
-depth-wide-requires t c κs = search needs
+depth-short-index-requires : (t : ℕ) → depth-lts.Need-short-index-requires (depth-claims t) (depth-at t) depth.Post depth-Inv-loop depth-μ-loop
+depth-short-index-requires t c κs = search needs
 
 depth-depth-requires : (t : ℕ) →
     depth-lts.Need-depth-requires (depth-claims t) (depth-at t) depth.Post depth-Inv-loop depth-μ-loop
 depth-depth-requires t c κs = let p = c .before .before .before .before .before .before .before .before .before .pre in
     let w = c .before .before .before .before .loop .inv in
     let x = next-later (p .1 .0) (p .1 .1 .0) w (c .before .before .before .loop-test .taken) in
-    let e = c .before .wide .ensures in
+    let e = c .before .short-index .ensures .0 in
     (omega (arith, x .0, x .1, e, p .0, p .1 .0 .laid .few), (p .1 .0, (omega (arith, x .1, e), w .known)))
 
 depth-greater-requires : (t : ℕ) →
@@ -119,7 +119,7 @@ depth-loop-again t c =
     let p = c .before .before .before .before .before .before .before .before .before .before .before .pre .1 in
     let w = c .before .before .before .before .before .before .loop .inv in
     let d = c .before .depth .ensures in
-    let x = c .before .before .before .wide .ensures in
+    let x = c .before .before .before .short-index .ensures .0 in
     let h = c .before .before .before .before .before .loop-test .taken in
     rw (c .greater .ensures)
     (turned w (omega (arith, in-range (p .0) (p .1 .0) w, w .last, p .0 .laid .room)) h
@@ -164,9 +164,9 @@ pub +depth-spec : {M : Type 1} → statement M
     (depth-add-start t)
     (depth-start-requires-2 t)
     (depth-loop-holds t)
-    (depth-mul-wide t)
-    (depth-element-copy-out-wide t)
-    (depth-wide-requires t)
+    (depth-mul-short-index t)
+    (depth-element-copy-out-short-index t)
+    (depth-short-index-requires t)
     (depth-depth-requires t)
     (depth-greater-requires t)
     (depth-add-k t)

@@ -16,14 +16,14 @@ abbrev μ-loop : tie.MeasureT-loop
 loop-holds : tie.Need-loop-holds Inv-loop μ-loop
 loop-holds c = let o = c .before .before in lay-starts (o .args .xs .now) (o .args .at) (o .args .row .now) (o .pre)
 
-mul-wide : tie.Need-mul-wide Inv-loop μ-loop
-mul-wide c = search needs
+mul-wide-short : tie.Need-mul-wide-short Inv-loop μ-loop
+mul-wide-short c = search needs
 
-shared-slice-read-wide : tie.Need-shared-slice-read-wide Inv-loop μ-loop
-shared-slice-read-wide c = search needs
+shared-slice-read-wide-short : tie.Need-shared-slice-read-wide-short Inv-loop μ-loop
+shared-slice-read-wide-short c = search needs
 
-wide-requires : tie.Need-wide-requires Inv-loop μ-loop
-wide-requires c κs = search needs
+wide-short-requires : tie.Need-wide-short-requires Inv-loop μ-loop
+wide-short-requires c κs = search needs
 
 add-row : tie.Need-add-row Inv-loop μ-loop
 add-row c = let l = c .before .before .before .loop in omega (arith, lay-room (l .inv) (c .before .before .loop-test .taken))
@@ -41,7 +41,7 @@ loop-less : tie.Need-loop-less Inv-loop μ-loop
 loop-less c = omega (arith, c .before .before .loop-test .taken)
 
 loop-again : tie.Need-loop-again Inv-loop μ-loop
-loop-again c = lay-turn (c .before .before .before .loop .inv) (c .before .before .loop-test .taken) (c .wide .ensures)
+loop-again c = lay-turn (c .before .before .before .loop .inv) (c .before .before .loop-test .taken) (c .wide-short .ensures .0)
 
 same-length : tie.Need-same-length Inv-loop μ-loop
 same-length c = lay-long (c .before .loop .inv)
@@ -56,9 +56,9 @@ lay-u16-spec =
     Inv-loop
     μ-loop
     loop-holds
-    mul-wide
-    shared-slice-read-wide
-    wide-requires
+    mul-wide-short
+    shared-slice-read-wide-short
+    wide-short-requires
     add-row
     mul-row
     slice-write-row
