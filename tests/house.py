@@ -1,0 +1,98 @@
+"""The house in order: what crates.txt and docs/ARCHITECTURE.md say of the sources is so.
+
+    python3 -B tests/house.py           fails if crates.txt lists for a crate something else than what it uses, or a crate that
+                                        stands below it in the list; if docs/ARCHITECTURE.md lacks a crate, or has one that isn't
+                                        there; or if a literal above 9 stands in code that its table of exceptions doesn't have
+    python3 -B tests/house.py write     writes the lists of crates.txt, in the order of its lines
+
+A crate uses another if its sources, specs or proofs name it, or if it holds a value of a type that the other declares (REACHED).
+Code is a source without comments, contracts and constants.
+"""
+import pathlib
+import re
+import sys
+
+import native
+
+ROOT = native.ROOT
+LIST = ROOT / 'crates.txt'
+PAPER = ROOT / 'docs' / 'ARCHITECTURE.md'
+KIT = ['bytes', 'io', 'libc', 'os']
+# Types that a crate holds without naming them; `rt` says where one is missing.
+REACHED = {'try_shifts': ['run_by_value'], 'desk_c': ['run_by_value', 'row_struct']}
+ROW = re.compile(r'(?m)^\| `(\w+)` \| (.*?) \|')
+
+
+def sources(crate):
+    return sorted((ROOT / 'crates' / crate / 'src').glob('*.rt'))
+
+
+def used(crate, known):
+    """The crates and kit libraries that it names, in the order of `known`."""
+    named = set(REACHED.get(crate, []))
+    for path in (ROOT / 'crates' / crate).rglob('*'):
+        if path.suffix in ('.rt', '.antt'):
+            text = path.read_text()
+            named |= set(re.findall(r'Rattle·(\w+?)(?=[·.])', text))
+            if path.suffix == '.rt':
+                named |= set(re.findall(r'\b([a-z]\w*)::', re.sub(r'//.*', '', text)))
+    return [name for name in known if name in named - {crate}]
+
+
+def lists(table):
+    """The lines of crates.txt as they should be."""
+    known = list(table) + KIT
+    for line in LIST.read_text().splitlines():
+        crate = line.partition(':')[0]
+        yield ' '.join([crate + ':'] + used(crate, known)) if crate in table else line
+
+
+def code(text):
+    """A source without comments, contracts, constants, bytes and texts."""
+    text = re.sub(r'//.*', '', native.without_contracts(text))
+    text = re.sub(r'(?ms)^ *(pub )?const .*?;$', '', text)
+    return re.sub(r"b'(\\.|[^'])'|b\"[^\"]*\"", '', text)
+
+
+def literals(crate):
+    found = ''.join(code(path.read_text()) for path in sources(crate))
+    numbers = re.findall(r'(?<![\w.])(\d+)(?:[ui](?:8|16|32|64|size))?\b', found)
+    return {int(number) for number in numbers if int(number) > 9}
+
+
+def excepted(paper):
+    """The literals that the table of exceptions has, crate by crate."""
+    part = paper.partition('## Literals that stay')[2].partition('\n## ')[0]
+    return {crate: {int(number.replace(',', '')) for number in re.findall(r'[\d,]*\d', cell)} for crate, cell in ROW.findall(part)}
+
+
+def faults():
+    table, paper = native.listed(), PAPER.read_text()
+    if LIST.read_text() != '\n'.join(lists(table)) + '\n':
+        yield 'crates.txt does not list what each crate uses: python3 -B tests/house.py write'
+    order = list(table)
+    for at, crate in enumerate(order):
+        for name in table[crate]:
+            if name in order[at:]:
+                yield f'{crate} stands above {name} in crates.txt, and uses it'
+    told = set(re.findall(r'(?m)^\| `(\w+)` \|', paper.partition('## The floors')[2].partition('\n## ')[0]))
+    yield from (f'docs/ARCHITECTURE.md does not say what {crate} is' for crate in order if crate not in told)
+    yield from (f'docs/ARCHITECTURE.md speaks of {crate}' for crate in sorted(told - set(order)) if not crate.endswith('_'))
+    stays = excepted(paper)
+    for crate in order:
+        if literals(crate) != stays.get(crate, set()):
+            yield f'{crate}: literals {sorted(literals(crate))}, and docs/ARCHITECTURE.md has {sorted(stays.get(crate, []))}'
+
+
+def main(words):
+    if words == ['write']:
+        LIST.write_text('\n'.join(lists(native.listed())) + '\n')
+        return
+    wrong = list(faults())
+    if wrong:
+        sys.exit('\n'.join(wrong))
+    print(len(native.listed()), 'crates: what each uses, what it is, and no number in its code without a name')
+
+
+if __name__ == '__main__':
+    main(sys.argv[1:])
