@@ -9,3 +9,4 @@ pub mod Blocked
 pub mod Waiting
 pub mod Places
 pub mod Sized
+pub mod Tied
