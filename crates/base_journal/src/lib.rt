@@ -4,6 +4,7 @@ ghost use Prim.Native.Nat.{_+_, _*_, _%_, _≤_, _<_};
 ghost use lib.ListN.{length};
 ghost use lib.Seq.{sets};
 ghost use Rattle.semantics.specs.Journal.{le16, le32, lineBytes};
+ghost use Rattle.base_numbers.specs.Line as Line;
 ghost use Rattle.base_i32.specs.Code.{valueOf};
 use base_numbers::byte;
 use base_numbers::line;
@@ -34,9 +35,9 @@ fn write_32(out: &mut [u8], at: usize, n: u32)
 
 // A line at its place, counted in lines. The kind has 16 bits, and `value` is a code.
 pub fn write_line(out: &mut [u8], at: usize, kind: u32, time: u32, process: u32, value: u32)
-    requires { ⌜ 16 * at + 16 ≤ length (now out) ⌝ }
+    requires { ⌜ Line.BYTES * at + Line.BYTES ≤ length (now out) ⌝ }
     requires { ⌜ kind < 65536 ⌝ }
-    ensures { λ _. ⌜ now (out .exit) ≡ sets (now (out .entry)) (16 * at)
+    ensures { λ _. ⌜ now (out .exit) ≡ sets (now (out .entry)) (Line.BYTES * at)
         (lineBytes (record { time = time; process = process; kind = kind; value = valueOf value })) ⌝ }
 {
     let start = line::BYTES * at;

@@ -14,3 +14,7 @@ OF_RETURNS = 2_147_468_648
 
 abbrev pub HIGHEST : ℕ
 HIGHEST = 4_294_967_295
+
+-- How many there are.
+abbrev pub CODES : ℕ
+CODES = 4_294_967_296

@@ -72,3 +72,13 @@ WAITERS_ALL = 2_048
 
 abbrev pub PROCESSES_ALL : ℕ
 PROCESSES_ALL = 8_192
+
+-- Where the locals of the process in place 0 begin, what it holds, and its slaves.
+abbrev pub FIRST_LOCALS : ℕ
+FIRST_LOCALS = 2_508
+
+abbrev pub FIRST_HELD : ℕ
+FIRST_HELD = 2_516
+
+abbrev pub FIRST_OWNED : ℕ
+FIRST_OWNED = 2_556

@@ -39,6 +39,9 @@ NUMBERS = 64
 abbrev pub AMOUNTS : ℕ
 AMOUNTS = 1_048_576
 
+abbrev pub GIVERS : ℕ
+GIVERS = 2_147_483_648
+
 abbrev pub AMOUNT : ℕ
 AMOUNT = 256
 

@@ -284,7 +284,9 @@ pub mod row {
 
     pub const PROCESSES_ALL: usize = process::WORDS * limit::PLACES;
 
-    // Where what the process in place 0 holds begins, and its slaves.
+    // Where the locals of the process in place 0 begin, what it holds, and its slaves.
+    pub const FIRST_LOCALS: usize = PROCESSES + process::LOCALS;
+
     pub const FIRST_HELD: usize = PROCESSES + process::HELD;
 
     pub const FIRST_OWNED: usize = PROCESSES + process::OWNED;

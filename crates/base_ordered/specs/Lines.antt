@@ -7,6 +7,8 @@ use Prim.Native.Nat.{ℕ, zero, suc, _+_, _-_, _*_, _/_, _%_, _≤_}
 use lib.ListN.{length, take, drop, replicate}
 use Rattle.semantics.specs.Words.{if_then_else_}
 use Rattle.semantics.specs.State.{Event, Waiter, Notice, wakes, returnsR, returnsB}
+use Rattle.base_numbers.specs.Word as Word
+use Rattle.base_numbers.specs.Code as Code
 use Rattle.base_i32.specs.Code.{code}
 
 -- LISTS. The row of n numbers that a list makes: zeros past its end.
@@ -32,33 +34,33 @@ placeOf q (x ∷ xs) = if q x then suc (placeOf q xs) else zero
 
 -- KEYS. The least key stands first: by time, and then the higher priority.
 abbrev pub keyOf : ℕ → ℕ → ℕ
-keyOf time rank = time * 4_294_967_296 + (4_294_967_295 - rank)
+keyOf time rank = time * Word.TIME + (Code.HIGHEST - rank)
 
 abbrev pub eventKey : Event → ℕ
 eventKey e = keyOf (e .time) (code (e .priority))
 
 abbrev pub waiterKey : Waiter → ℕ
-waiterKey w = 4_294_967_295 - code (w .priority)
+waiterKey w = Code.HIGHEST - code (w .priority)
 
 -- One that waits, in one word: in the order of the keys, whatever the places.
 abbrev pub waiterWord : Waiter → ℕ
-waiterWord w = 64 * waiterKey w + w .place
+waiterWord w = Word.KEY * waiterKey w + w .place
 
 -- DATA. A word: its kind, the number of a place, a resource or a bin, an amount, and the giver's number.
 abbrev pub packed : ℕ → ℕ → ℕ → ℕ → ℕ
-packed kind number amount giver = kind + 4 * (number + 64 * (amount + 1_048_576 * giver))
+packed kind number amount giver = kind + Word.KINDS * (number + Word.NUMBERS * (amount + Word.AMOUNTS * giver))
 
 abbrev pub kindOf : ℕ → ℕ
-kindOf word = word % 4
+kindOf word = word % Word.KINDS
 
 abbrev pub numberOf : ℕ → ℕ
-numberOf word = word / 4 % 64
+numberOf word = word / Word.KINDS % Word.NUMBERS
 
 abbrev pub amountOf : ℕ → ℕ
-amountOf word = word / 256 % 1_048_576
+amountOf word = word / Word.AMOUNT % Word.AMOUNTS
 
 abbrev pub giverOf : ℕ → ℕ
-giverOf word = word / 268_435_456
+giverOf word = word / Word.GIVER
 
 -- What an event does when it is first, in one word.
 abbrev pub dataOf : Notice → ℕ

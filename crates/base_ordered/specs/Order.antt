@@ -7,11 +7,14 @@ use native.Mathlib.Omega.{arith}
 use lib.Dec.{eqb, leb, ltb}
 use borrow.Author.Tests.{lt-ltb, le-ltb, leb-true, leb-false, ltb-true, ltb-false, eqb-true, eqb-false}
 use lib.ListN.{length, length-append, length-take, length-drop}
+use Rattle.semantics.specs.Numbers as No
 use Rattle.semantics.specs.Words.{insert}
 use Rattle.semantics.specs.State.{Event, Waiter, Notice, wakes, returnsR, returnsB, sooner, higher}
 use Rattle.semantics.specs.Step.{isReturn}
 use Rattle.promises.specs.Fit.{I32}
 use Rattle.promises.specs.Laws.{AllOf}
+use Rattle.base_numbers.specs.Word as Word
+use Rattle.base_numbers.specs.Code as Code
 use Rattle.base_i32.specs.Code.{code}
 use Rattle.base_i32.specs.Laws.{code-fits}
 use Rattle.base_ordered.specs.Code.{same-test, code-order}
@@ -27,7 +30,7 @@ higher-key w v h g =
     ∙ sym (same-test (code (v .priority)) (code (w .priority)) (waiterKey w) (waiterKey v) (λ l. omega arith) (λ l. omega arith))
 
 -- One time after another, whatever the ranks; at one time, the higher rank first.
-pub key-order : (t u a b : ℕ) → a < 4_294_967_296 → b < 4_294_967_296
+pub key-order : (t u a b : ℕ) → a < Word.RANKS → b < Word.RANKS
     → (ltb t u || (eqb t u && ltb b a)) ≡ ltb (keyOf t a) (keyOf u b)
 key-order t u a b h g = by (ltb t u) (eqb t u) refl refl
   where
@@ -55,13 +58,13 @@ at-most a b c d f g = by (leb a b) refl
 pub event-below : (e f : Event) → ltb (eventKey f) (eventKey e + 1) ≡ leb (eventKey f) (eventKey e)
 event-below e f = at-most (eventKey f) (eventKey e) (eventKey f) (eventKey e + 1) (λ h. omega arith) (λ h. omega arith)
 
-pub waiter-below : (w v : Waiter) → v .place < 64
-    → ltb (waiterWord v) (64 * (waiterKey w + 1)) ≡ leb (waiterKey v) (waiterKey w)
+pub waiter-below : (w v : Waiter) → v .place < Word.PLACES
+    → ltb (waiterWord v) (Word.KEY * (waiterKey w + 1)) ≡ leb (waiterKey v) (waiterKey w)
 waiter-below w v p =
-    at-most (waiterKey v) (waiterKey w) (waiterWord v) (64 * (waiterKey w + 1)) (λ h. omega arith) (λ h. omega arith)
+    at-most (waiterKey v) (waiterKey w) (waiterWord v) (Word.KEY * (waiterKey w + 1)) (λ h. omega arith) (λ h. omega arith)
 
 -- A key and the limit above it are a u64.
-pub event-key-low : (e : Event) → e .time ≤ 2_000_000_000 → eventKey e + 1 < 18_446_744_073_709_551_616
+pub event-key-low : (e : Event) → e .time ≤ No.latest → eventKey e + 1 < 18_446_744_073_709_551_616
 event-key-low e h = omega arith
 
 -- ONE MORE, put in behind those whose key is at most its own, goes where document 01 inserts it. The order is asked of those
@@ -104,7 +107,7 @@ module _ {A : Type 0} where
   removed-first e es = refl
 
 -- A PACKED WORD has its parts.
-module _ (kind number amount giver : ℕ) (k : kind < 4) (n : number < 64) (a : amount < 1_048_576) where
+module _ (kind number amount giver : ℕ) (k : kind < Word.KINDS) (n : number < Word.NUMBERS) (a : amount < Word.AMOUNTS) where
   pub kind-packed : kindOf (packed kind number amount giver) ≡ kind
   kind-packed = omega arith
 
@@ -127,15 +130,15 @@ kind-returns e = by (e .notice)
     by (returnsB i n g) = lt-ltb 0 (kindOf (packed 2 i n g)) (omega arith)
 
 -- A WAITER'S WORD has its parts and is below 2^38, and the key has its code.
-module _ (w : Waiter) (p : w .place < 64) where
-  pub word-place : waiterWord w % 64 ≡ w .place
+module _ (w : Waiter) (p : w .place < Word.PLACES) where
+  pub word-place : waiterWord w % Word.PLACES ≡ w .place
   word-place = omega arith
 
-  pub word-key : waiterWord w / 64 ≡ waiterKey w
+  pub word-key : waiterWord w / Word.KEY ≡ waiterKey w
   word-key = omega arith
 
-  pub word-low : waiterWord w < 274_877_906_944
+  pub word-low : waiterWord w < Word.KEY * Word.RANKS
   word-low = omega arith
 
-pub key-code : (w : Waiter) → I32 (w .priority) → code (w .priority) ≡ 4_294_967_295 - waiterKey w
+pub key-code : (w : Waiter) → I32 (w .priority) → code (w .priority) ≡ Code.HIGHEST - waiterKey w
 key-code w h = omega (arith, code-fits (w .priority) h)

@@ -12,6 +12,7 @@ use Rattle.semantics.specs.State.{Event, Waiter, sooner, enter, higher}
 use Rattle.semantics.specs.Step.{isReturn}
 use Rattle.promises.specs.Fit.{I32}
 use Rattle.promises.specs.Laws.{AllOf, all-map}
+use Rattle.base_numbers.specs.Word as Word
 use Rattle.base_ordered.specs.Lines.{pad, Canon, inserted, removed, placeOf, kindOf, eventKey, eventWord, waiterKey, waiterWord}
 use Rattle.base_ordered.specs.Order.{Keyed, insert-placed, higher-key, sooner-key, event-below, waiter-below, kind-returns}
 
@@ -126,10 +127,10 @@ returns-kept es k words n h l =
 
 -- WAITERS. A row of words, and one more put in behind those whose key is at most its own.
 pub waiter-entered : (w : Waiter) (ws : List Waiter) → I32 (w .priority) → AllOf (λ v. I32 (v .priority)) ws
-    → AllOf (λ v. v .place < 64) ws → (k : ℕ) (row : List ℕ) (n at : ℕ) → row ≡ pad k (map waiterWord ws) → n ≡ length ws
-    → at ≡ placeOf (λ y. ltb y (64 * (waiterKey w + 1))) (take n row)
+    → AllOf (λ v. v .place < Word.PLACES) ws → (k : ℕ) (row : List ℕ) (n at : ℕ) → row ≡ pad k (map waiterWord ws) → n ≡ length ws
+    → at ≡ placeOf (λ y. ltb y (Word.KEY * (waiterKey w + 1))) (take n row)
     → pad k (inserted at (waiterWord w) (take n row)) ≡ pad k (map waiterWord (insert higher w ws))
 waiter-entered w ws h hs ps k row n at g l p =
     entered higher waiterKey w ws (all-map _ _ (λ v i. higher-key w v h i) ws hs)
-    (λ y. ltb y (64 * (waiterKey w + 1))) waiterWord (all-map _ _ (λ v i. waiter-below w v i) ws ps)
+    (λ y. ltb y (Word.KEY * (waiterKey w + 1))) waiterWord (all-map _ _ (λ v i. waiter-below w v i) ws ps)
     k row n at g l p waiterWord k row g

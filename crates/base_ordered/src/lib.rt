@@ -5,6 +5,7 @@ ghost use Prim.Native.Nat.{_≤_, _<_};
 ghost use lib.Dec.{ltb};
 ghost use lib.ListN.{length, take};
 ghost use Rattle.semantics.specs.Words.{keep};
+ghost use Rattle.base_numbers.specs.Word as Word;
 ghost use Rattle.base_ordered.specs.Lines.{pad, Canon, inserted, removed, placeOf};
 ghost use Rattle.base_ordered.specs.Lines.{packed, kindOf, numberOf, amountOf, giverOf};
 use base_numbers::word;
@@ -74,26 +75,26 @@ pub fn count_returns(words: &[u64], len: usize) -> usize
 // ---- the word of an entry
 
 pub fn pack(kind: u64, number: u64, amount: u64, giver: u64) -> u64
-    requires { ⌜ (kind < 4) × ((number < 64) × ((amount < 1048576) × (giver < 2147483648))) ⌝ }
+    requires { ⌜ (kind < Word.KINDS) × ((number < Word.NUMBERS) × ((amount < Word.AMOUNTS) × (giver < Word.GIVERS))) ⌝ }
     ensures { λ r. ⌜ r ≡ packed kind number amount giver ⌝ }
 {
     kind + word::KINDS * (number + word::NUMBERS * (amount + word::AMOUNTS * giver))
 }
 
 pub fn kind_of(word: u64) -> u64
-    ensures { λ r. ⌜ (r ≡ kindOf word) × (r < 4) ⌝ }
+    ensures { λ r. ⌜ (r ≡ kindOf word) × (r < Word.KINDS) ⌝ }
 {
     word % word::KINDS
 }
 
 pub fn number_of(word: u64) -> u64
-    ensures { λ r. ⌜ (r ≡ numberOf word) × (r < 64) ⌝ }
+    ensures { λ r. ⌜ (r ≡ numberOf word) × (r < Word.NUMBERS) ⌝ }
 {
     word / word::KINDS % word::NUMBERS
 }
 
 pub fn amount_of(word: u64) -> u64
-    ensures { λ r. ⌜ (r ≡ amountOf word) × (r < 1048576) ⌝ }
+    ensures { λ r. ⌜ (r ≡ amountOf word) × (r < Word.AMOUNTS) ⌝ }
 {
     word / word::AMOUNT % word::AMOUNTS
 }

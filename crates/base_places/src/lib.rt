@@ -4,6 +4,7 @@ ghost use mathlib.Core.Bool.{true, false, not};
 ghost use mathlib.Core.List.{List};
 ghost use Prim.Native.Nat.{_≤_, _<_};
 ghost use lib.ListN.{length, set};
+ghost use Rattle.semantics.specs.Numbers as No;
 ghost use Rattle.semantics.specs.Words.{firstAt, keep};
 ghost use Rattle.semantics.specs.State.{Process, isFree};
 ghost use Rattle.base_places.specs.Places.{livingOf, Shows};
@@ -13,21 +14,21 @@ const EVERY: u64 = 18446744073709551615;
 
 // The lowest free place: 64 where none is.
 pub fn free_place(living: u64) -> usize
-    ensures { λ r. ⌜ ((ps : List Process) → Shows living ps → r ≡ firstAt isFree ps) × (r ≤ 64) ⌝ }
+    ensures { λ r. ⌜ ((ps : List Process) → Shows living ps → r ≡ firstAt isFree ps) × (r ≤ No.places) ⌝ }
 {
     u64::trailing_zeros(EVERY - living) as usize
 }
 
 // How many live.
 pub fn living_count(living: u64) -> u32
-    ensures { λ r. ⌜ ((ps : List Process) → Shows living ps → r ≡ length (keep (λ q. not (isFree q)) ps)) × (r ≤ 64) ⌝ }
+    ensures { λ r. ⌜ ((ps : List Process) → Shows living ps → r ≡ length (keep (λ q. not (isFree q)) ps)) × (r ≤ No.places) ⌝ }
 {
     u64::count_ones(living)
 }
 
 // A living process comes into place p.
 pub fn with_place(living: u64, p: usize) -> u64
-    requires { ⌜ p < 64 ⌝ }
+    requires { ⌜ p < No.places ⌝ }
     ensures { λ r. ⌜ ((ps : List Process) (q : Process) → Shows living ps → isFree q ≡ false → r ≡ livingOf (set ps p q)) ⌝ }
 {
     living | (1u64 << (p as u64))
@@ -35,7 +36,7 @@ pub fn with_place(living: u64, p: usize) -> u64
 
 // Place p is free from now on.
 pub fn without_place(living: u64, p: usize) -> u64
-    requires { ⌜ p < 64 ⌝ }
+    requires { ⌜ p < No.places ⌝ }
     ensures { λ r. ⌜ ((ps : List Process) (q : Process) → Shows living ps → isFree q ≡ true → r ≡ livingOf (set ps p q)) ⌝ }
 {
     living - (living & (1u64 << (p as u64)))

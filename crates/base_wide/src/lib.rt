@@ -2,16 +2,16 @@
 ghost use mathlib.Core.Path.{_≡_};
 ghost use Prim.Native.Nat.{_<_};
 
-pub fn wide_byte(x: u8) -> u32
-    ensures { λ r. ⌜ (r ≡ x) × (r < 256) ⌝ }
+pub fn wide_byte(byte: u8) -> u32
+    ensures { λ r. ⌜ (r ≡ byte) × (r < 256) ⌝ }
 {
-    x as u32
+    byte as u32
 }
 
-pub fn wide_short(x: u16) -> u32
-    ensures { λ r. ⌜ (r ≡ x) × (r < 65536) ⌝ }
+pub fn wide_short(short: u16) -> u32
+    ensures { λ r. ⌜ (r ≡ short) × (r < 65536) ⌝ }
 {
-    x as u32
+    short as u32
 }
 
 pub fn wide(x: u32) -> u64
@@ -21,10 +21,10 @@ pub fn wide(x: u32) -> u64
 }
 
 // As an index.
-pub fn short_index(x: u16) -> usize
-    ensures { λ r. ⌜ (r ≡ x) × (r < 65536) ⌝ }
+pub fn short_index(short: u16) -> usize
+    ensures { λ r. ⌜ (r ≡ short) × (r < 65536) ⌝ }
 {
-    x as usize
+    short as usize
 }
 
 pub fn index(x: u32) -> usize

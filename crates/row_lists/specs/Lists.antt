@@ -3,9 +3,11 @@ use Prim.Native.Nat.{ℕ, _≤_, _<_}
 use mathlib.Core.Path.{_≡_, sym, _∙_, ap}
 use mathlib.Core.List.{List, [], _∷_}
 use lib.ListN.{length, getD, set, drop}
+use Rattle.semantics.specs.Numbers as No
 use Rattle.semantics.specs.Numbers.{ofReturns}
 use Rattle.semantics.specs.State.{State, Event, Notice, Waiter, process, at-clock, with-events, with-blocked, with-waiting}
 use Rattle.semantics.specs.State.{enter, join}
+use Rattle.base_numbers.specs.Row as Row
 use Rattle.base_ordered.specs.Lines.{inserted, removed, eventKey, eventWord, dataOf}
 use Rattle.row_work.specs.Work.{workOf, Doing}
 use Rattle.row_process.specs.Process.{Shown, Lives}
@@ -27,7 +29,7 @@ Entered w key word x =
 
 -- or is put in at a place.
 abbrev pub Room : ℕ → State → Type 0
-Room at s = (at ≤ length (s .events)) × (length (s .events) < 128)
+Room at s = (at ≤ length (s .events)) × (length (s .events) < Row.EVENTS_MOST)
 
 pub record Putting (w : List ℕ) (at key word : ℕ) : Type 0 where
   pub event : Event
@@ -125,5 +127,5 @@ takenWaiting i s = with-waiting s (set (s .waiting) i (drop 1 (getD (s .waiting)
 
 pub record TakenWaiting (w : List ℕ) (i r : ℕ) (x : List ℕ) (d : Doing w (Waits i) (takenWaiting i)) : Type 0 where
   pub place-is : r ≡ d .given .first .place
-  pub place-low : r < 64
+  pub place-low : r < No.places
   pub done : x ≡ workOf (takenWaiting i (d .is))

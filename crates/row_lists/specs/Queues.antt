@@ -4,24 +4,26 @@ use mathlib.Core.Path.{_≡_}
 use mathlib.Core.List.{List, _++_}
 use lib.Dec.{leb}
 use lib.ListN.{length, getD, set, take, drop}
+use Rattle.semantics.specs.Numbers as No
 use Rattle.semantics.specs.Words.{insert}
 use Rattle.semantics.specs.State.{Waiter, higher}
 use Rattle.promises.specs.Fit.{I32}
+use Rattle.base_numbers.specs.Row as Row
 use Rattle.base_ordered.specs.Lines.{removed, placeOf, waiterKey}
 use Rattle.row_work.specs.Work.{waitersRow, WaitersSized}
 
--- The list ws has the row of 64 numbers from `from` on, and how many they are stands at `count`.
+-- The list ws has the row from `from` on, and how many they are stands at `count`.
 pub record Queue (w : List ℕ) (from count : ℕ) (ws : List Waiter) : Type 0 where
-  pub long : length w ≡ 10_696
-  pub row-in : from + 64 ≤ 10_696
-  pub count-in : count < 10_696
-  pub row-is : take 64 (drop from w) ≡ waitersRow ws
+  pub long : length w ≡ Row.WORDS
+  pub row-in : from + Row.WAITERS_MOST ≤ Row.WORDS
+  pub count-in : count < Row.WORDS
+  pub row-is : take Row.WAITERS_MOST (drop from w) ≡ waitersRow ws
   pub count-is : getD w count 0 ≡ length ws
   pub sized : WaitersSized ws
 
 -- The work with another list there.
 abbrev pub queued : (w : List ℕ) (from count : ℕ) → List Waiter → ℕ → List ℕ
-queued w from count ws n = set (take from w ++ (waitersRow ws ++ drop 64 (drop from w))) count n
+queued w from count ws n = set (take from w ++ (waitersRow ws ++ drop Row.WAITERS_MOST (drop from w))) count n
 
 -- How many are of x's priority or a higher one, where the higher stand first.
 abbrev pub before : Waiter → List Waiter → ℕ
@@ -42,9 +44,9 @@ pub record Sought (w : List ℕ) (from count key r : ℕ) (d : Seeking w from co
 pub record Joining (w : List ℕ) (from count key place : ℕ) : Type 0 where
   pub seeking : Seeking w from count key
   pub place-is : place ≡ seeking .who .place
-  pub place-low : place < 64
+  pub place-low : place < No.places
   pub ranked : I32 (seeking .who .priority)
-  pub room : length (seeking .line) < 64
+  pub room : length (seeking .line) < Row.WAITERS_MOST
 
 abbrev pub Joined : (w : List ℕ) (from count key place : ℕ) → List ℕ → Type 0
 Joined w from count key place x =

@@ -3,9 +3,11 @@ ghost use mathlib.Core.Path.{_≡_};
 ghost use mathlib.Core.List.{map};
 ghost use Prim.Native.Nat.{_≤_, _<_};
 ghost use lib.ListN.{length, getD};
+ghost use Rattle.semantics.specs.Numbers as No;
 ghost use Rattle.semantics.specs.Words.{keep};
 ghost use Rattle.semantics.specs.State.{returnsR, returnsB, wake};
 ghost use Rattle.semantics.specs.Step.{isReturn};
+ghost use Rattle.base_numbers.specs.Word as Word;
 ghost use Rattle.base_ordered.specs.Lines.{keyOf, waiterKey};
 ghost use Rattle.row_work.specs.Work.{Doing, Done};
 ghost use Rattle.row_process.specs.Process.{Lives, Shown};
@@ -46,7 +48,7 @@ fn enter(w: &mut [u64], key: u64, word: u64)
 
 // The key of a time and a rank, which is the code of a priority.
 fn key_of(time: u64, rank: u64) -> u64
-    requires { ⌜ (time ≤ 2000000000) × (rank < 4294967296) ⌝ }
+    requires { ⌜ (time ≤ No.latest) × (rank < Word.RANKS) ⌝ }
     ensures { λ r. ⌜ r ≡ keyOf time rank ⌝ }
 {
     time * word::TIME + (code::HIGHEST - rank)
@@ -166,8 +168,8 @@ fn leave_at(w: &mut [u64], from: usize, count: usize, k: usize)
 
 // The key by which the process in place p waits.
 fn waiter_key(w: &[u64], p: usize) -> u64
-    requires { ⌜ Shown (now w) (λ s. p < 64) ⌝ }
-    ensures { λ r. ⌜ ((v : Shown (now (w .entry)) (λ s. p < 64)) → r ≡ waiterKey (waiterOf (v .is) p)) ⌝ }
+    requires { ⌜ Shown (now w) (λ s. p < No.places) ⌝ }
+    ensures { λ r. ⌜ ((v : Shown (now (w .entry)) (λ s. p < No.places)) → r ≡ waiterKey (waiterOf (v .is) p)) ⌝ }
 {
     code::HIGHEST - row_work::word(w, p, process::PRIORITY)
 }
@@ -185,8 +187,8 @@ pub fn join_blocked(w: &mut [u64], p: usize)
 
 // How many of the blocked are of p's priority or a higher one.
 pub fn place_in_front(w: &[u64], p: usize) -> usize
-    requires { ⌜ Shown (now w) (λ s. p < 64) ⌝ }
-    ensures { λ r. ⌜ ((v : Shown (now (w .entry)) (λ s. p < 64)) →
+    requires { ⌜ Shown (now w) (λ s. p < No.places) ⌝ }
+    ensures { λ r. ⌜ ((v : Shown (now (w .entry)) (λ s. p < No.places)) →
         (r ≡ before (waiterOf (v .is) p) (v .is .blocked)) × (r ≤ length (v .is .blocked))) ⌝ }
 {
     let key = waiter_key(w, p);
@@ -197,7 +199,7 @@ pub fn place_in_front(w: &[u64], p: usize) -> usize
 pub fn blocked_at(w: &[u64], k: usize) -> usize
     requires { ⌜ Shown (now w) (IsBlocked k) ⌝ }
     ensures { λ r. ⌜ ((v : Shown (now (w .entry)) (IsBlocked k)) →
-        r ≡ getD (map (λ x. x .place) (v .is .blocked)) k 0) × (r < 64) ⌝ }
+        r ≡ getD (map (λ x. x .place) (v .is .blocked)) k 0) × (r < No.places) ⌝ }
 {
     (w[row::QUEUE + k] % word::PLACES) as usize
 }

@@ -4,8 +4,10 @@ use mathlib.Core.Path.{_≡_}
 use mathlib.Core.List.{List, [], _∷_}
 use mathlib.Core.Bool.{Bool, false}
 use lib.ListN.{length, getD}
+use Rattle.semantics.specs.Numbers as No
 use Rattle.semantics.specs.Words.{if_then_else_, isEmpty}
 use Rattle.semantics.specs.State.{State, Process, Frame, process, put, with-frames, onward}
+use Rattle.base_numbers.specs.Code as Code
 use Rattle.row_work.specs.Work.{workOf, Sized, Doing}
 
 -- A work that shows a state, of which P holds.
@@ -25,7 +27,7 @@ module _ {w : List ℕ} {P : State → Type 0} where
 
 -- WHAT A CHANGE NEEDS. Somebody lives in place p, whose innermost block is within the blocks around it;
 pub record Lives (p : ℕ) (s : State) : Type 0 where
-  pub in-places : p < 64
+  pub in-places : p < No.places
   pub innermost : Frame
   pub around : List Frame
   pub frames-are : process s p .frames ≡ innermost ∷ around
@@ -38,12 +40,12 @@ pub record Inner (p : ℕ) (s : State) : Type 0 where
 -- or c is the code of a number; and it has a local i;
 pub record Coded (p c : ℕ) (s : State) : Type 0 where
   pub lives : Lives p s
-  pub low : c < 4_294_967_296
+  pub low : c < Code.CODES
 
 pub record HasLocal (p i c : ℕ) (s : State) : Type 0 where
   pub lives : Lives p s
   pub there : i < length (process s p .locals)
-  pub low : c < 4_294_967_296
+  pub low : c < Code.CODES
 
 -- or there is a resource i; and it holds n of it.
 pub record Claims (p i : ℕ) (s : State) : Type 0 where

@@ -6,7 +6,10 @@ use mathlib.Core.List.{List, [], _∷_, _++_, append-assoc, map}
 use lib.ListN.{length, getD, set, replicate, length-map}
 use lib.Seq.{getD-at, set-at}
 use lib.IntN.{ℤ}
+use Rattle.semantics.specs.Numbers as No
 use Rattle.semantics.specs.State.{Process, Frame, with-frames, with-priority, with-locals, with-held}
+use Rattle.base_numbers.specs.Process as Process
+use Rattle.base_numbers.specs.Limit as Limit
 use Rattle.base_i32.specs.Code.{code}
 use Rattle.base_ordered.specs.Lines.{pad}
 use Rattle.row_work.specs.Laid.{laid, laid-at, laid-set}
@@ -15,34 +18,34 @@ use Rattle.row_work.specs.Shown.{pad-at, pad-set, set-map, stacked-length, proc
 
 -- THE PRIORITY, the locals, what is held.
 module _ (q : Process) (h : ProcessSized q) where
-  pub priority-set : (v : ℤ) → set (processRow q) 1 (code v) ≡ processRow (with-priority q v)
+  pub priority-set : (v : ℤ) → set (processRow q) Process.PRIORITY (code v) ≡ processRow (with-priority q v)
   unfolding processRow
   priority-set v = refl
 
   pub local-set : (i : ℕ) (v : ℤ) → i < length (q .locals)
-      → set (processRow q) (4 + i) (code v) ≡ processRow (with-locals q (set (q .locals) i v))
+      → set (processRow q) (Process.LOCALS + i) (code v) ≡ processRow (with-locals q (set (q .locals) i v))
   unfolding processRow
   local-set i v l =
       let a = h .locals-few in
       let b : length (map code (q .locals)) ≡ length (q .locals) = length-map (q .locals) code in
       laid-set (processParts q) processWidths (process-wide q h) 1 i (code v) (omega arith)
       ∙ ap (λ r. laid (set (processParts q) 1 r))
-      (pad-set 8 (map code (q .locals)) i (code v) (omega arith) ∙ ap (pad 8) (set-map code (q .locals) i v))
+      (pad-set No.locals (map code (q .locals)) i (code v) (omega arith) ∙ ap (pad No.locals) (set-map code (q .locals) i v))
 
-  pub held-row-at : (i : ℕ) → i < 32 → getD (processRow q) (12 + i) 0 ≡ getD (pad 32 (q .held)) i 0
+  pub held-row-at : (i : ℕ) → i < Limit.THINGS → getD (processRow q) (Process.HELD + i) 0 ≡ getD (pad Limit.THINGS (q .held)) i 0
   unfolding processRow
   held-row-at i l = laid-at (processParts q) processWidths (process-wide q h) 2 i l
 
-  pub held-at : (i : ℕ) → i < length (q .held) → getD (processRow q) (12 + i) 0 ≡ getD (q .held) i 0
-  held-at i l = held-row-at i (let a = h .held-few in omega arith) ∙ pad-at 32 (q .held) i l
+  pub held-at : (i : ℕ) → i < length (q .held) → getD (processRow q) (Process.HELD + i) 0 ≡ getD (q .held) i 0
+  held-at i l = held-row-at i (let a = h .held-few in omega arith) ∙ pad-at Limit.THINGS (q .held) i l
 
   pub held-set : (i n : ℕ) → i < length (q .held)
-      → set (processRow q) (12 + i) n ≡ processRow (with-held q (set (q .held) i n))
+      → set (processRow q) (Process.HELD + i) n ≡ processRow (with-held q (set (q .held) i n))
   unfolding processRow
   held-set i n l =
       let a = h .held-few in
       laid-set (processParts q) processWidths (process-wide q h) 2 i n (omega arith)
-      ∙ ap (λ r. laid (set (processParts q) 2 r)) (pad-set 32 (q .held) i n l)
+      ∙ ap (λ r. laid (set (processParts q) 2 r)) (pad-set Limit.THINGS (q .held) i n l)
 
 -- BLOCKS. The innermost stands behind those around it.
 module _ (f : Frame) (fs : List Frame) where
@@ -65,41 +68,42 @@ module _ (f : Frame) (fs : List Frame) where
       same = stacked-length (f ∷ fs) ∙ sym (stacked-length (g ∷ fs))
 
 module _ (q : Process) (h : ProcessSized q) (f : Frame) (fs : List Frame) (e : q .frames ≡ f ∷ fs) where
-  few : length fs < 8
+  few : length fs < Limit.DEPTH
   few = let a = h .frames-few in let b = ap length e in omega (arith, b)
 
-  pub top-at : getD (processRow q) (44 + length fs) 0 ≡ frameWord f
+  pub top-at : getD (processRow q) (Process.BLOCKS + length fs) 0 ≡ frameWord f
   unfolding processRow
   top-at =
       laid-at (processParts q) processWidths (process-wide q h) 3 (length fs) few
-      ∙ ap (λ l. getD (pad 8 (stacked l)) (length fs) 0) e
-      ∙ top-in f fs 8
+      ∙ ap (λ l. getD (pad Limit.DEPTH (stacked l)) (length fs) 0) e
+      ∙ top-in f fs Limit.DEPTH
 
-  pub top-set : (g : Frame) → set (processRow q) (44 + length fs) (frameWord g) ≡ processRow (with-frames q (g ∷ fs))
+  pub top-set : (g : Frame) → set (processRow q) (Process.BLOCKS + length fs) (frameWord g) ≡ processRow (with-frames q (g ∷ fs))
   unfolding processRow
   top-set g =
       laid-set (processParts q) processWidths (process-wide q h) 3 (length fs) (frameWord g) few
       ∙ ap (λ r. laid (set (processParts q) 3 r))
-      (ap (λ l. set (pad 8 (stacked l)) (length fs) (frameWord g)) e ∙ top-set-in f fs g 8)
-      ∙ ap (λ n. laid (set (set (processParts q) 3 (pad 8 (stacked (g ∷ fs)))) 0 (set (getD (processParts q) 0 []) 2 n)))
+      (ap (λ l. set (pad Limit.DEPTH (stacked l)) (length fs) (frameWord g)) e ∙ top-set-in f fs g Limit.DEPTH)
+      ∙ ap (λ n. laid (set (set (processParts q) 3 (pad Limit.DEPTH (stacked (g ∷ fs)))) 0
+      (set (getD (processParts q) 0 []) Process.DEPTH n)))
       (ap length e)
 
 -- A block of nothing, innermost, has the word 0, as no block has: how deep the blocks are is all that tells.
 abbrev pub blank : Frame
 blank = record { block = 0; at = 0; rounds = 0 }
 
-blank-in : (fs : List Frame) → length fs < 8 → pad 8 (stacked (blank ∷ fs)) ≡ pad 8 (stacked fs)
+blank-in : (fs : List Frame) → length fs < Limit.DEPTH → pad Limit.DEPTH (stacked (blank ∷ fs)) ≡ pad Limit.DEPTH (stacked fs)
 blank-in fs l =
     let n = stacked-length fs in
     let m = stacked-length (blank ∷ fs) in
-    let e : suc (8 - length (stacked (blank ∷ fs))) ≡ 8 - length (stacked fs) = omega arith in
-    stack-is blank fs 8 ∙ ap (λ k. stacked fs ++ replicate k 0) e
+    let e : suc (Limit.DEPTH - length (stacked (blank ∷ fs))) ≡ Limit.DEPTH - length (stacked fs) = omega arith in
+    stack-is blank fs Limit.DEPTH ∙ ap (λ k. stacked fs ++ replicate k 0) e
 
-module _ (q : Process) (fs : List Frame) (l : length fs < 8) where
-  pub depth-more : set (processRow (with-frames q fs)) 2 (suc (length fs)) ≡ processRow (with-frames q (blank ∷ fs))
+module _ (q : Process) (fs : List Frame) (l : length fs < Limit.DEPTH) where
+  pub depth-more : set (processRow (with-frames q fs)) Process.DEPTH (suc (length fs)) ≡ processRow (with-frames q (blank ∷ fs))
   unfolding processRow
   depth-more = ap (λ r. laid (set (processParts (with-frames q (blank ∷ fs))) 3 r)) (sym (blank-in fs l))
 
-  pub depth-less : set (processRow (with-frames q (blank ∷ fs))) 2 (length fs) ≡ processRow (with-frames q fs)
+  pub depth-less : set (processRow (with-frames q (blank ∷ fs))) Process.DEPTH (length fs) ≡ processRow (with-frames q fs)
   unfolding processRow
   depth-less = ap (λ r. laid (set (processParts (with-frames q fs)) 3 r)) (blank-in fs l)

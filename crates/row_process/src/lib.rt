@@ -5,8 +5,10 @@ ghost use mathlib.Core.List.{_∷_};
 ghost use Prim.Native.Nat.{_-_, _≤_, _<_};
 ghost use lib.Dec.{eqb};
 ghost use lib.ListN.{length, getD, set};
+ghost use Rattle.semantics.specs.Numbers as No;
 ghost use Rattle.semantics.specs.Words.{all, isEmpty, more, fewer};
 ghost use Rattle.semantics.specs.State.{Frame, process, with-priority, with-locals, with-held, with-frames, past, into};
+ghost use Rattle.base_numbers.specs.Limit as Limit;
 ghost use Rattle.base_i32.specs.Code.{valueOf};
 ghost use Rattle.row_work.specs.Work.{frameWord, workOf, Doing, Done};
 ghost use Rattle.row_process.specs.Process.{Shown, Lives, Inner, Coded, HasLocal, Claims, Holds};
@@ -19,16 +21,17 @@ use base_numbers::word;
 // ---- what is read
 
 pub fn number_of(w: &[u64], p: usize) -> u64
-    requires { ⌜ Shown (now w) (λ _. p < 64) ⌝ }
-    ensures { λ r. ⌜ ((v : Shown (now (w .entry)) (λ _. p < 64)) → r ≡ process (v .is) p .number) ⌝ }
+    requires { ⌜ Shown (now w) (λ _. p < No.places) ⌝ }
+    ensures { λ r. ⌜ ((v : Shown (now (w .entry)) (λ _. p < No.places)) → r ≡ process (v .is) p .number) ⌝ }
 {
     row_work::word(w, p, process::NUMBER)
 }
 
 // How many blocks it is in.
 pub fn depth_of(w: &[u64], p: usize) -> usize
-    requires { ⌜ Shown (now w) (λ _. p < 64) ⌝ }
-    ensures { λ r. ⌜ ((v : Shown (now (w .entry)) (λ _. p < 64)) → r ≡ length (process (v .is) p .frames)) × (r ≤ 8) ⌝ }
+    requires { ⌜ Shown (now w) (λ _. p < No.places) ⌝ }
+    ensures { λ r. ⌜ ((v : Shown (now (w .entry)) (λ _. p < No.places)) → r ≡ length (process (v .is) p .frames))
+        × (r ≤ Limit.DEPTH) ⌝ }
 {
     row_work::word(w, p, process::DEPTH) as usize
 }
@@ -66,9 +69,9 @@ pub fn rounds_at(w: &[u64], p: usize) -> u64
 
 // What it holds of resource i.
 pub fn held_of(w: &[u64], p: usize, i: usize) -> u64
-    requires { ⌜ Shown (now w) (λ s. (p < 64) × (i < length (process s p .held))) ⌝ }
-    ensures { λ r. ⌜ ((v : Shown (now (w .entry)) (λ s. (p < 64) × (i < length (process s p .held))))
-        → r ≡ getD (process (v .is) p .held) i 0) × (r ≤ 1000000) ⌝ }
+    requires { ⌜ Shown (now w) (λ s. (p < No.places) × (i < length (process s p .held))) ⌝ }
+    ensures { λ r. ⌜ ((v : Shown (now (w .entry)) (λ s. (p < No.places) × (i < length (process s p .held))))
+        → r ≡ getD (process (v .is) p .held) i 0) × (r ≤ Limit.AMOUNT) ⌝ }
 {
     row_work::word(w, p, process::HELD + i)
 }
@@ -87,8 +90,8 @@ fn all_zero(row: &[u64]) -> bool
 
 // It holds no resource and has no slave.
 pub fn holds_nothing(w: &[u64], p: usize) -> bool
-    requires { ⌜ Shown (now w) (λ _. p < 64) ⌝ }
-    ensures { λ r. ⌜ ((v : Shown (now (w .entry)) (λ _. p < 64))
+    requires { ⌜ Shown (now w) (λ _. p < No.places) ⌝ }
+    ensures { λ r. ⌜ ((v : Shown (now (w .entry)) (λ _. p < No.places))
         → r ≡ (all (λ n. eqb n 0) (process (v .is) p .held) && isEmpty (process (v .is) p .slaves))) ⌝ }
 {
     let first = row::FIRST_HELD + process::WORDS * p;

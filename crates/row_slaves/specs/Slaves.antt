@@ -8,6 +8,7 @@ use lib.Seq.{sets}
 use Rattle.semantics.specs.Words.{keep}
 use Rattle.semantics.specs.State.{State, Process, Slave, process, with-slaves}
 use Rattle.semantics.specs.Step.{freed, stay}
+use Rattle.base_numbers.specs.Word as Word
 use Rattle.base_ordered.specs.Lines.{pad}
 use Rattle.row_work.specs.Work.{slaveWord}
 use Rattle.row_process.specs.Process.{Lives}
@@ -36,7 +37,7 @@ letGo i n q = with-slaves q (stay i n (q .slaves))
 
 -- A ROW. The slave of a word; those from k to len.
 abbrev pub slaveOf : ℕ → Slave
-slaveOf x = record { of = x / 64; place = x % 64 }
+slaveOf x = record { of = x / Word.SYNC; place = x % Word.PLACES }
 
 abbrev pub slavesFrom : (k len : ℕ) → List ℕ → List Slave
 slavesFrom k len row = map slaveOf (drop k (take len row))

@@ -3,6 +3,7 @@ ghost use mathlib.Core.Path.{_≡_};
 ghost use Prim.Native.Nat.{_≤_, _<_};
 ghost use lib.ListN.{length, take};
 ghost use lib.Seq.{sets};
+ghost use Rattle.semantics.specs.Numbers as No;
 ghost use Rattle.semantics.specs.Model.{sync, get};
 ghost use Rattle.semantics.specs.State.{process};
 ghost use Rattle.semantics.specs.Claim.{takeItem};
@@ -36,8 +37,8 @@ fn count_of(row: &[u64], len: usize, i: u64) -> usize
 
 // How many slaves of sync i the process in place p has.
 pub fn owned(w: &[u64], p: usize, i: u64) -> usize
-    requires { ⌜ Shown (now w) (λ _. p < 64) ⌝ }
-    ensures { λ r. ⌜ ((v : Shown (now (w .entry)) (λ _. p < 64)) → r ≡ ownedOf i (process (v .is) p .slaves)) ⌝ }
+    requires { ⌜ Shown (now w) (λ _. p < No.places) ⌝ }
+    ensures { λ r. ⌜ ((v : Shown (now (w .entry)) (λ _. p < No.places)) → r ≡ ownedOf i (process (v .is) p .slaves)) ⌝ }
 {
     let many = row_work::word(w, p, process::SLAVES) as usize;
     let first = row::FIRST_OWNED + process::WORDS * p;
@@ -107,7 +108,7 @@ fn sort_out<'a>(row: &'a mut [u64], len: usize, i: u64, n: usize, places: &'a mu
 // The process in place p lets its first n slaves of sync i go: their places, in the order claimed.
 pub fn release<'a>(w: &'a mut [u64], p: usize, i: u64, n: usize, places: &'a mut [u64])
     requires { ⌜ Doing (now w) (Owns p i n) (changed p (letGo i n)) ⌝ }
-    requires { ⌜ 64 ≤ length (now places) ⌝ }
+    requires { ⌜ No.places ≤ length (now places) ⌝ }
     ensures { λ _. ⌜ Done (now (w .entry)) (Owns p i n) (changed p (letGo i n)) (now (w .exit)) ⌝ }
     ensures { λ _. ⌜ ((d : Doing (now (w .entry)) (Owns p i n) (changed p (letGo i n)))
         → now (places .exit) ≡ sets (now (places .entry)) 0 (freed i n (process (d .is) p .slaves))) ⌝ }

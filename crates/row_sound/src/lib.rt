@@ -2,10 +2,14 @@
 ghost use mathlib.Core.Path.{_≡_};
 ghost use Prim.Native.Nat.{_+_, _≤_, _<_};
 ghost use lib.ListN.{length, getD};
+ghost use Rattle.semantics.specs.Numbers as No;
 ghost use Rattle.semantics.specs.Bytes.{u16};
 ghost use Rattle.semantics.specs.State.{process};
 ghost use Rattle.semantics.specs.Claim.{standsIn};
 ghost use Rattle.semantics.specs.Sound.{entersAt, asksAt, namedThere, chained, allChained, blockedStand, soundIn};
+ghost use Rattle.base_numbers.specs.Word as Word;
+ghost use Rattle.base_numbers.specs.Limit as Limit;
+ghost use Rattle.base_numbers.specs.Map as Map;
 ghost use Rattle.row_sound.specs.Chain.{isBody, actionIn, Branching, branchEnters, Standing, Linking, linked};
 ghost use Rattle.row_sound.specs.Chain.{Viewed, Chained, Asking};
 ghost use Rattle.row_sound.specs.Handed.{Handed};
@@ -43,7 +47,7 @@ fn number_in(bytes: &[u8], at: usize) -> usize
 
 // Whether b is the body of a class.
 fn is_body(map: &[u32], classes: usize, b: usize) -> bool
-    requires { ⌜ (length (now map) ≡ 18754) × (classes ≤ 64) ⌝ }
+    requires { ⌜ (length (now map) ≡ Map.WORDS) × (classes ≤ Limit.CLASSES) ⌝ }
     ensures { λ r. ⌜ r ≡ isBody (now (map .entry)) classes b ⌝ }
 {
     let mut found = false;
@@ -57,7 +61,7 @@ fn is_body(map: &[u32], classes: usize, b: usize) -> bool
 
 // The number of the action at index `at` of block b; 1,024 where that is past its last.
 fn action_in(map: &[u32], b: usize, at: usize) -> usize
-    requires { ⌜ (length (now map) ≡ 18754) × ((b < 256) × (at < 65536)) ⌝ }
+    requires { ⌜ (length (now map) ≡ Map.WORDS) × ((b < Limit.BLOCKS) × (at < Word.ACTIONS)) ⌝ }
     ensures { λ r. ⌜ r ≡ actionIn (now (map .entry)) b at ⌝ }
 {
     let a = number_at(map, b) + at;
@@ -167,7 +171,7 @@ fn link<'a>(
 
 // Whether the blocks of the process in place p are chained, the outermost first.
 fn chained<'a>(bytes: &'a [u8], map: &'a [u32], w: &'a [u64], classes: usize, p: usize) -> bool
-    requires { ⌜ Viewed (now bytes) (now map) (now w) classes × (p < 64) ⌝ }
+    requires { ⌜ Viewed (now bytes) (now map) (now w) classes × (p < No.places) ⌝ }
     ensures { λ r. ⌜ ((v : Viewed (now (bytes .entry)) (now (map .entry)) (now (w .entry)) classes)
         → r ≡ chained (v .model) (process (v .is) p .frames)) ⌝ }
 {

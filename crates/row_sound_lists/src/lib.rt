@@ -1,8 +1,12 @@
 // The clauses of a sound run but those on blocks, tested on a row of numbers that shows a state: on places, lists and amounts.
 ghost use mathlib.Core.Path.{_≡_};
-ghost use Prim.Native.Nat.{_+_, _-_, _≤_, _<_};
+ghost use Prim.Native.Nat.{_+_, _-_, _*_, _≤_, _<_};
 ghost use lib.ListN.{length, getD};
+ghost use Rattle.semantics.specs.Numbers as No;
 ghost use Rattle.semantics.specs.Words.{if_then_else_};
+ghost use Rattle.base_numbers.specs.Row as Row;
+ghost use Rattle.base_numbers.specs.Word as Word;
+ghost use Rattle.base_numbers.specs.Limit as Limit;
 ghost use Rattle.row_sound_lists.specs.Tests.{each, oneIf, Bounded, Lined};
 ghost use Rattle.row_sound_lists.specs.Tests.{rises, tied, queueFits, waitingFits, returnFits, wordFits, eventFits, eventsFit};
 ghost use Rattle.row_sound_lists.specs.Tests.{slavesKnown, alike, vacantRow, livingRow, placeFits};
@@ -33,7 +37,7 @@ fn either(first: bool, a: u64, b: u64) -> u64
 
 // Whether n numbers from `from` on, each divided by `by`, do not fall.
 fn rising(w: &[u64], from: usize, n: usize, by: u64) -> bool
-    requires { ⌜ (from + n ≤ length (now w)) × ((n ≤ 128) × (0 < by)) ⌝ }
+    requires { ⌜ (from + n ≤ length (now w)) × ((n ≤ Row.EVENTS_MOST) × (0 < by)) ⌝ }
     ensures { λ r. ⌜ r ≡ each (n - 1) (rises (now (w .entry)) from by) ⌝ }
 {
     let mut ok = true;
@@ -47,7 +51,7 @@ fn rising(w: &[u64], from: usize, n: usize, by: u64) -> bool
 
 // Whether the priority in the word of one that waits is its own.
 fn waiter_tied(w: &[u64], word: u64) -> bool
-    requires { ⌜ length (now w) ≡ 10696 ⌝ }
+    requires { ⌜ length (now w) ≡ Row.WORDS ⌝ }
     ensures { λ r. ⌜ r ≡ tied (now (w .entry)) word ⌝ }
 {
     let own = row_work::word(w, (word % word::PLACES) as usize, process::PRIORITY);
@@ -55,7 +59,7 @@ fn waiter_tied(w: &[u64], word: u64) -> bool
 }
 
 fn waiters_tied(w: &[u64], from: usize, n: usize) -> bool
-    requires { ⌜ (length (now w) ≡ 10696) × ((from + n ≤ 10696) × (n ≤ 64)) ⌝ }
+    requires { ⌜ (length (now w) ≡ Row.WORDS) × ((from + n ≤ Row.WORDS) × (n ≤ Row.WAITERS_MOST)) ⌝ }
     ensures { λ r. ⌜ r ≡ each n (λ k. tied (now (w .entry)) (getD (now (w .entry)) (from + k) 0)) ⌝ }
 {
     let mut ok = true;
@@ -77,7 +81,7 @@ fn queue_fits(w: &[u64], from: usize, count: usize) -> bool
 }
 
 fn waiting_fits(w: &[u64], syncs: usize) -> bool
-    requires { ⌜ Bounded (now w) × (syncs ≤ 32) ⌝ }
+    requires { ⌜ Bounded (now w) × (syncs ≤ Limit.THINGS) ⌝ }
     ensures { λ r. ⌜ r ≡ waitingFits (now (w .entry)) syncs ⌝ }
 {
     let mut ok = true;
@@ -118,7 +122,7 @@ fn word_fits(last: u64, resources: u64, bins: u64, rank: u64, own: u64, word: u6
 }
 
 fn event_fits(w: &[u64], resources: u64, bins: u64, k: usize) -> bool
-    requires { ⌜ (length (now w) ≡ 10696) × (k < 128) ⌝ }
+    requires { ⌜ (length (now w) ≡ Row.WORDS) × (k < Row.EVENTS_MOST) ⌝ }
     ensures { λ r. ⌜ r ≡ eventFits (now (w .entry)) resources bins k ⌝ }
 {
     let key = w[row::KEYS + k];
@@ -136,7 +140,7 @@ fn event_fits(w: &[u64], resources: u64, bins: u64, k: usize) -> bool
 }
 
 fn each_event_fits(w: &[u64], resources: u64, bins: u64, n: usize) -> bool
-    requires { ⌜ (length (now w) ≡ 10696) × (n ≤ 128) ⌝ }
+    requires { ⌜ (length (now w) ≡ Row.WORDS) × (n ≤ Row.EVENTS_MOST) ⌝ }
     ensures { λ r. ⌜ r ≡ each n (eventFits (now (w .entry)) resources bins) ⌝ }
 {
     let mut ok = true;
@@ -159,7 +163,7 @@ fn events_fit(w: &[u64], resources: u64, bins: u64) -> bool
 // ---- places
 
 fn slaves_known(w: &[u64], syncs: u64, p: usize) -> bool
-    requires { ⌜ Bounded (now w) × (p < 64) ⌝ }
+    requires { ⌜ Bounded (now w) × (p < No.places) ⌝ }
     ensures { λ r. ⌜ r ≡ slavesKnown (now (w .entry)) syncs p ⌝ }
 {
     let n = row_work::word(w, p, process::SLAVES) as usize;
@@ -174,7 +178,7 @@ fn slaves_known(w: &[u64], syncs: u64, p: usize) -> bool
 
 // How many places have this number.
 fn alike(w: &[u64], number: u64) -> usize
-    requires { ⌜ length (now w) ≡ 10696 ⌝ }
+    requires { ⌜ length (now w) ≡ Row.WORDS ⌝ }
     ensures { λ r. ⌜ r ≡ alike (now (w .entry)) number ⌝ }
 {
     let mut found = 0;
@@ -187,7 +191,7 @@ fn alike(w: &[u64], number: u64) -> usize
 }
 
 fn vacant(w: &[u64], p: usize) -> bool
-    requires { ⌜ (length (now w) ≡ 10696) × (p < 64) ⌝ }
+    requires { ⌜ (length (now w) ≡ Row.WORDS) × (p < No.places) ⌝ }
     ensures { λ r. ⌜ r ≡ vacantRow (now (w .entry)) p ⌝ }
 {
     (row_work::word(w, p, process::NUMBER) == 0)
@@ -196,7 +200,7 @@ fn vacant(w: &[u64], p: usize) -> bool
 }
 
 fn living(w: &[u64], syncs: u64, p: usize) -> bool
-    requires { ⌜ Bounded (now w) × (p < 64) ⌝ }
+    requires { ⌜ Bounded (now w) × (p < No.places) ⌝ }
     ensures { λ r. ⌜ r ≡ livingRow (now (w .entry)) syncs p ⌝ }
 {
     let number = row_work::word(w, p, process::NUMBER);
@@ -206,7 +210,7 @@ fn living(w: &[u64], syncs: u64, p: usize) -> bool
 }
 
 fn place_fits(w: &[u64], syncs: u64, p: usize) -> bool
-    requires { ⌜ Bounded (now w) × (p < 64) ⌝ }
+    requires { ⌜ Bounded (now w) × (p < No.places) ⌝ }
     ensures { λ r. ⌜ r ≡ placeFits (now (w .entry)) syncs p ⌝ }
 {
     if row_work::word(w, p, process::DEPTH) == 0 {
@@ -217,7 +221,7 @@ fn place_fits(w: &[u64], syncs: u64, p: usize) -> bool
 
 fn places_fit(w: &[u64], syncs: u64) -> bool
     requires { ⌜ Bounded (now w) ⌝ }
-    ensures { λ r. ⌜ r ≡ each 64 (placeFits (now (w .entry)) syncs) ⌝ }
+    ensures { λ r. ⌜ r ≡ each No.places (placeFits (now (w .entry)) syncs) ⌝ }
 {
     let mut ok = true;
     let mut p = 0;
@@ -232,7 +236,7 @@ fn places_fit(w: &[u64], syncs: u64) -> bool
 
 fn in_events(w: &[u64], p: u64) -> usize
     requires { ⌜ Bounded (now w) ⌝ }
-    ensures { λ r. ⌜ (r ≡ inEvents (now (w .entry)) p) × (r ≤ 128) ⌝ }
+    ensures { λ r. ⌜ (r ≡ inEvents (now (w .entry)) p) × (r ≤ Row.EVENTS_MOST) ⌝ }
 {
     let n = w[row::EVENTS] as usize;
     let mut found = 0;
@@ -250,7 +254,7 @@ fn in_events(w: &[u64], p: u64) -> usize
 
 fn in_queue(w: &[u64], from: usize, count: usize, p: u64) -> usize
     requires { ⌜ Lined (now w) from count ⌝ }
-    ensures { λ r. ⌜ (r ≡ inQueue (now (w .entry)) from count p) × (r ≤ 64) ⌝ }
+    ensures { λ r. ⌜ (r ≡ inQueue (now (w .entry)) from count p) × (r ≤ Row.WAITERS_MOST) ⌝ }
 {
     let n = w[count] as usize;
     let mut found = 0;
@@ -263,8 +267,8 @@ fn in_queue(w: &[u64], from: usize, count: usize, p: u64) -> usize
 }
 
 fn in_waiting(w: &[u64], syncs: usize, p: u64) -> usize
-    requires { ⌜ Bounded (now w) × (syncs ≤ 32) ⌝ }
-    ensures { λ r. ⌜ (r ≡ inWaiting (now (w .entry)) syncs p) × (r ≤ 2048) ⌝ }
+    requires { ⌜ Bounded (now w) × (syncs ≤ Limit.THINGS) ⌝ }
+    ensures { λ r. ⌜ (r ≡ inWaiting (now (w .entry)) syncs p) × (r ≤ Row.WAITERS_ALL) ⌝ }
 {
     let mut found = 0;
     let mut i = 0;
@@ -276,8 +280,8 @@ fn in_waiting(w: &[u64], syncs: usize, p: u64) -> usize
 }
 
 fn in_slaves(w: &[u64], p: u64, q: usize) -> usize
-    requires { ⌜ Bounded (now w) × (q < 64) ⌝ }
-    ensures { λ r. ⌜ (r ≡ inSlaves (now (w .entry)) p q) × (r ≤ 64) ⌝ }
+    requires { ⌜ Bounded (now w) × (q < No.places) ⌝ }
+    ensures { λ r. ⌜ (r ≡ inSlaves (now (w .entry)) p q) × (r ≤ No.places) ⌝ }
 {
     let n = row_work::word(w, q, process::SLAVES) as usize;
     let mut found = 0;
@@ -291,7 +295,7 @@ fn in_slaves(w: &[u64], p: u64, q: usize) -> usize
 
 fn owned(w: &[u64], p: u64) -> usize
     requires { ⌜ Bounded (now w) ⌝ }
-    ensures { λ r. ⌜ (r ≡ owned (now (w .entry)) p) × (r ≤ 4096) ⌝ }
+    ensures { λ r. ⌜ (r ≡ owned (now (w .entry)) p) × (r ≤ No.places * No.places) ⌝ }
 {
     let mut found = 0;
     let mut q = 0;
@@ -304,7 +308,7 @@ fn owned(w: &[u64], p: u64) -> usize
 
 // Whether it is listed once where somebody lives there, and nowhere else.
 fn place_listed(w: &[u64], syncs: usize, p: usize) -> bool
-    requires { ⌜ Bounded (now w) × ((syncs ≤ 32) × (p < 64)) ⌝ }
+    requires { ⌜ Bounded (now w) × ((syncs ≤ Limit.THINGS) × (p < No.places)) ⌝ }
     ensures { λ r. ⌜ r ≡ placeListed (now (w .entry)) syncs p ⌝ }
 {
     let at = p as u64;
@@ -314,8 +318,8 @@ fn place_listed(w: &[u64], syncs: usize, p: usize) -> bool
 }
 
 fn in_one(w: &[u64], syncs: usize) -> bool
-    requires { ⌜ Bounded (now w) × (syncs ≤ 32) ⌝ }
-    ensures { λ r. ⌜ r ≡ each 64 (placeListed (now (w .entry)) syncs) ⌝ }
+    requires { ⌜ Bounded (now w) × (syncs ≤ Limit.THINGS) ⌝ }
+    ensures { λ r. ⌜ r ≡ each No.places (placeListed (now (w .entry)) syncs) ⌝ }
 {
     let mut ok = true;
     let mut p = 0;
@@ -329,8 +333,8 @@ fn in_one(w: &[u64], syncs: usize) -> bool
 // ---- amounts
 
 fn held_all(w: &[u64], i: usize) -> u64
-    requires { ⌜ Bounded (now w) × (i < 32) ⌝ }
-    ensures { λ r. ⌜ (r ≡ heldAll (now (w .entry)) i) × (r ≤ 64000000) ⌝ }
+    requires { ⌜ Bounded (now w) × (i < Limit.THINGS) ⌝ }
+    ensures { λ r. ⌜ (r ≡ heldAll (now (w .entry)) i) × (r ≤ No.places * Limit.AMOUNT) ⌝ }
 {
     let mut found = 0;
     let mut q = 0;
@@ -342,8 +346,8 @@ fn held_all(w: &[u64], i: usize) -> u64
 }
 
 fn returning_at(w: &[u64], i: u64, k: usize) -> u64
-    requires { ⌜ (length (now w) ≡ 10696) × (k < 128) ⌝ }
-    ensures { λ r. ⌜ (r ≡ returningAt (now (w .entry)) i k) × (r < 1048576) ⌝ }
+    requires { ⌜ (length (now w) ≡ Row.WORDS) × (k < Row.EVENTS_MOST) ⌝ }
+    ensures { λ r. ⌜ (r ≡ returningAt (now (w .entry)) i k) × (r < Word.AMOUNTS) ⌝ }
 {
     let word = w[row::NOTICES + k];
     let here = (base_ordered::kind_of(word) == notice::RESOURCE)
@@ -357,7 +361,7 @@ fn returning_at(w: &[u64], i: u64, k: usize) -> u64
 
 fn returning_all(w: &[u64], i: u64) -> u64
     requires { ⌜ Bounded (now w) ⌝ }
-    ensures { λ r. ⌜ (r ≡ returningAll (now (w .entry)) i) × (r ≤ 134217728) ⌝ }
+    ensures { λ r. ⌜ (r ≡ returningAll (now (w .entry)) i) × (r ≤ Row.EVENTS_MOST * Word.AMOUNTS) ⌝ }
 {
     let n = w[row::EVENTS] as usize;
     let mut found = 0;
@@ -370,14 +374,14 @@ fn returning_all(w: &[u64], i: u64) -> u64
 }
 
 fn amounts_add<'a>(w: &'a [u64], totals: &'a [u64], i: usize) -> bool
-    requires { ⌜ Bounded (now w) × ((i < 32) × (i < length (now totals))) ⌝ }
+    requires { ⌜ Bounded (now w) × ((i < Limit.THINGS) × (i < length (now totals))) ⌝ }
     ensures { λ r. ⌜ r ≡ amountsAdd (now (w .entry)) (now (totals .entry)) i ⌝ }
 {
     w[row::FREE + i] + held_all(w, i) + returning_all(w, i as u64) == totals[i]
 }
 
 fn adds_up<'a>(w: &'a [u64], totals: &'a [u64], resources: usize) -> bool
-    requires { ⌜ Bounded (now w) × ((resources ≤ 32) × (resources ≤ length (now totals))) ⌝ }
+    requires { ⌜ Bounded (now w) × ((resources ≤ Limit.THINGS) × (resources ≤ length (now totals))) ⌝ }
     ensures { λ r. ⌜ r ≡ each resources (amountsAdd (now (w .entry)) (now (totals .entry))) ⌝ }
 {
     let mut ok = true;

@@ -11,12 +11,13 @@ use Rattle.semantics.specs.Numbers as No
 use Rattle.semantics.specs.State.{Frame, Event}
 use Rattle.promises.specs.Laws.{AllOf, all-append, all-split, _&_}
 use Rattle.promises.specs.Says.{Says, says-le, says-true, says-for, _and_}
+use Rattle.base_numbers.specs.Most as Most
 use Rattle.base_i32.specs.Laws.{value-fits}
 use Rattle.base_ordered.specs.Lines.{pad, eventKey, waiterWord, dataOf}
 use Rattle.row_work.specs.Work.{frameWord, stacked, waitersRow, FrameSized, NoticeSized, EventSized, WaiterSized, WaitersSized}
 use Rattle.row_work.specs.Shown.{stacked-length}
 use Rattle.row_view.specs.View.{frameOf, noticeOf, eventOf, waiterOf, framesOf, eventsOf, waitersOf}
-use Rattle.row_view.specs.Fits.{frameFits, fits, fitsBelow, mostWaiter}
+use Rattle.row_view.specs.Fits.{frameFits, fits, fitsBelow}
 use Rattle.row_view.proofs.Words.{says-frame, says-waiter}
 use Rattle.row_view.proofs.Shown.{says-row, says-words, says-shown}
 
@@ -126,9 +127,9 @@ events-each (k ∷ ks) (d ∷ ds) e h =
 abbrev pub Listed : ℕ → List ℕ → Type 0
 Listed n row = (row ≡ waitersRow (waitersOf n row)) × ((length (waitersOf n row) ≡ n) × WaitersSized (waitersOf n row))
 
-pub says-waiters : (n : ℕ) (row : List ℕ) → length row ≡ 64 → Says (fitsBelow n mostWaiter row) (Listed n row)
+pub says-waiters : (n : ℕ) (row : List ℕ) → length row ≡ 64 → Says (fitsBelow n Most.WAITER row) (Listed n row)
 says-waiters n row l =
-    says-for (says-shown (λ x. leb x mostWaiter) waiterWord waiterOf WaiterSized says-waiter 64 n row l)
+    says-for (says-shown (λ x. leb x Most.WAITER) waiterWord waiterOf WaiterSized says-waiter 64 n row l)
     (λ h.
     let a = long (h .0) in
     h .1 .0 & a & record { few = omega (arith, h .0); each = h .1 .1 })

@@ -9,8 +9,9 @@ use lib.Dec.{eqb}
 use lib.ListN.{length, getD, take, drop, length-drop, drop-of-length-le}
 use lib.Seq.{drop-cons, length-take-le}
 use Rattle.semantics.specs.Words.{all}
+use Rattle.base_numbers.specs.Most as Most
 use Rattle.file_check_parts.proofs.Laws.{rest-of}
-use Rattle.row_view.specs.Fits.{isNone, fitsBelow, waitingFits, placeFits, processesFit, mostWaiter}
+use Rattle.row_view.specs.Fits.{isNone, fitsBelow, waitingFits, placeFits, processesFit}
 use Rattle.row_view.proofs.Walks.{and-assoc}
 
 -- PROCESSES. `left` rows are still to be tested, and their living ones are the binary digits of `digits`.
@@ -57,11 +58,11 @@ module _ (counts lists : List ℕ) where
   lists-start h = record { short = omega arith; room = omega arith; same = refl }
 
   module _ {ok : Bool} {i : ℕ} {rest : List ℕ} (p : Listing ok i rest) where
-    pub lists-turn : i < length counts → {b : Bool} → b ≡ fitsBelow (getD counts i 0) mostWaiter (take 64 rest)
+    pub lists-turn : i < length counts → {b : Bool} → b ≡ fitsBelow (getD counts i 0) Most.WAITER (take 64 rest)
         → Listing (ok && b) (i + 1) (take (length rest - 64) (drop 64 rest))
     unfolding waitingFits
     lists-turn h {b} e =
-        let mine : Bool = fitsBelow (getD counts i 0) mostWaiter (take 64 rest) in
+        let mine : Bool = fitsBelow (getD counts i 0) Most.WAITER (take 64 rest) in
         rw (rest-of 64 rest)
         (record {
           short = omega arith;

@@ -10,39 +10,41 @@ use Rattle.semantics.specs.Numbers as No
 use Rattle.promises.specs.Laws.{_&_}
 use Rattle.promises.specs.Fit.{I32}
 use Rattle.promises.specs.Says.{Says, says-le, says-lt, says-for, _and_}
+use Rattle.base_numbers.specs.Code as Code
+use Rattle.base_numbers.specs.Most as Most
 use Rattle.base_i32.specs.Code.{code, valueOf}
 use Rattle.base_i32.specs.Laws.{code-valueOf, code-fits, value-fits}
 use Rattle.base_ordered.specs.Lines.{eventKey, waiterWord, dataOf, packed, kindOf, numberOf, amountOf, giverOf}
 use Rattle.row_work.specs.Work.{frameWord, slaveWord, FrameSized, SlaveSized, WaiterSized, NoticeSized}
 use Rattle.row_view.specs.View.{frameOf, slaveOf, waiterOf, noticeOf, eventOf}
-use Rattle.row_view.specs.Fits.{frameFits, returnFits, noticeFits, mostWaiter, mostKey, mostSlave, mostCode}
+use Rattle.row_view.specs.Fits.{frameFits, returnFits, noticeFits}
 
 pub says-plain : (most x : ℕ) → Says (leb x most) ((x ≡ x) × (x ≤ most))
 says-plain most x = says-for says-le (λ h. (refl, h)) (λ h. h .1)
 
-pub says-code : (x : ℕ) → Says (leb x mostCode) ((code (valueOf x) ≡ x) × I32 (valueOf x))
+pub says-code : (x : ℕ) → Says (leb x Code.HIGHEST) ((code (valueOf x) ≡ x) × I32 (valueOf x))
 says-code x =
     record {
-      yes = λ e. let h = leb-true x mostCode e in (code-valueOf x, value-fits x (omega arith));
-      back = λ h. let a = code-fits (valueOf x) (h .1) in let b = h .0 in le-leb x mostCode (omega arith);
+      yes = λ e. let h = leb-true x Code.HIGHEST e in (code-valueOf x, value-fits x (omega arith));
+      back = λ h. let a = code-fits (valueOf x) (h .1) in let b = h .0 in le-leb x Code.HIGHEST (omega arith);
     }
 
-pub says-slave : (x : ℕ) → Says (leb x mostSlave) ((slaveWord (slaveOf x) ≡ x) × SlaveSized (slaveOf x))
+pub says-slave : (x : ℕ) → Says (leb x Most.SLAVE) ((slaveWord (slaveOf x) ≡ x) × SlaveSized (slaveOf x))
 says-slave x =
     record {
-      yes = λ e. let h = leb-true x mostSlave e in (omega arith, record { of-low = omega arith; place-low = omega arith });
-      back = λ h. let a = h .1 .of-low in le-leb x mostSlave (omega arith);
+      yes = λ e. let h = leb-true x Most.SLAVE e in (omega arith, record { of-low = omega arith; place-low = omega arith });
+      back = λ h. let a = h .1 .of-low in le-leb x Most.SLAVE (omega arith);
     }
 
-pub says-waiter : (x : ℕ) → Says (leb x mostWaiter) ((waiterWord (waiterOf x) ≡ x) × WaiterSized (waiterOf x))
+pub says-waiter : (x : ℕ) → Says (leb x Most.WAITER) ((waiterWord (waiterOf x) ≡ x) × WaiterSized (waiterOf x))
 says-waiter x =
     let c : code (valueOf (4_294_967_295 - x / 64)) ≡ 4_294_967_295 - x / 64 = code-valueOf (4_294_967_295 - x / 64) in
     let b = value-fits (4_294_967_295 - x / 64) (omega arith) in
     record {
       yes =
           λ e.
-          let h = leb-true x mostWaiter e in (rw c (omega arith), record { priority-ok = b; place-low = omega arith });
-      back = λ h. let a = rw c at (h .0) in le-leb x mostWaiter (omega arith);
+          let h = leb-true x Most.WAITER e in (rw c (omega arith), record { priority-ok = b; place-low = omega arith });
+      back = λ h. let a = rw c at (h .0) in le-leb x Most.WAITER (omega arith);
     }
 
 pub says-frame : (x : ℕ) → Says (frameFits x) ((frameWord (frameOf x) ≡ x) × FrameSized (frameOf x))
@@ -56,13 +58,13 @@ says-frame x =
 
 -- The key of an event: its time and its priority.
 pub says-key : (x : ℕ)
-    → Says (leb x mostKey) ((eventKey (eventOf x 0) ≡ x) × (x / 4_294_967_296 ≤ No.latest))
+    → Says (leb x Most.KEY) ((eventKey (eventOf x 0) ≡ x) × (x / 4_294_967_296 ≤ No.latest))
 says-key x =
     let c : code (valueOf (4_294_967_295 - x % 4_294_967_296)) ≡ 4_294_967_295 - x % 4_294_967_296 =
     code-valueOf (4_294_967_295 - x % 4_294_967_296) in
     record {
-      yes = λ e. let h = leb-true x mostKey e in (rw c (omega arith), omega arith);
-      back = λ h. let a = h .1 in le-leb x mostKey (omega arith);
+      yes = λ e. let h = leb-true x Most.KEY e in (rw c (omega arith), omega arith);
+      back = λ h. let a = h .1 in le-leb x Most.KEY (omega arith);
     }
 
 -- What an event does. A word of kind k from 1 to 2 is made again of its parts.

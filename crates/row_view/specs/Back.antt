@@ -16,6 +16,11 @@ use Rattle.semantics.specs.State.{State, Process, Frame, Slave, Waiter, Event, 
 use Rattle.semantics.specs.State.{Floor, empty, heldBy}
 use Rattle.promises.specs.Laws.{AllOf}
 use Rattle.promises.specs.Fit.{I32}
+use Rattle.base_numbers.specs.Row as Row
+use Rattle.base_numbers.specs.Process as Process
+use Rattle.base_numbers.specs.Word as Word
+use Rattle.base_numbers.specs.Limit as Limit
+use Rattle.base_numbers.specs.Code as Code
 use Rattle.base_i32.specs.Code.{code, valueOf}
 use Rattle.base_i32.specs.Laws.{valueOf-code, code-fits}
 use Rattle.base_ordered.specs.Order.{number-packed, amount-packed, giver-packed}
@@ -35,30 +40,30 @@ front-back k n xs e = ap (λ i. take i (pad k xs)) e ∙ take-append-seam xs _
 -- WORDS.
 frame-back : (f : Frame) → FrameSized f → frameOf (frameWord f) ≡ f
 frame-back f h =
-    let a : frameWord f % 65_536 ≡ f .block = omega arith in
-    let n : frameWord f / 65_536 ≡ f .at + 65_536 * f .rounds = omega arith in
-    let b : frameWord f / 65_536 % 65_536 ≡ f .at = rw n (omega arith) in
-    let c : frameWord f / 4_294_967_296 ≡ f .rounds = omega arith in
+    let a : frameWord f % Word.BLOCKS ≡ f .block = omega arith in
+    let n : frameWord f / Word.ACTION ≡ f .at + Word.ACTIONS * f .rounds = omega arith in
+    let b : frameWord f / Word.ACTION % Word.ACTIONS ≡ f .at = rw n (omega arith) in
+    let c : frameWord f / Word.ROUND ≡ f .rounds = omega arith in
     λ t. record { block = a t; at = b t; rounds = c t }
 
 slave-back : (x : Slave) → SlaveSized x → slaveOf (slaveWord x) ≡ x
 slave-back x h =
-    let a : slaveWord x / 64 ≡ x .of = omega arith in
-    let b : slaveWord x % 64 ≡ x .place = omega arith in
+    let a : slaveWord x / Word.SYNC ≡ x .of = omega arith in
+    let b : slaveWord x % Word.PLACES ≡ x .place = omega arith in
     λ t. record { of = a t; place = b t }
 
-rank-back : (v : ℤ) (n : ℕ) → I32 v → n ≡ 4_294_967_295 - code v → valueOf (4_294_967_295 - n) ≡ v
+rank-back : (v : ℤ) (n : ℕ) → I32 v → n ≡ Code.HIGHEST - code v → valueOf (Code.HIGHEST - n) ≡ v
 rank-back v n h e =
-    let a : 4_294_967_295 - n ≡ code v = omega (arith, code-fits v h) in ap valueOf a ∙ valueOf-code v h
+    let a : Code.HIGHEST - n ≡ code v = omega (arith, code-fits v h) in ap valueOf a ∙ valueOf-code v h
 
 waiter-back : (w : Waiter) → WaiterSized w → waiterOf (waiterWord w) ≡ w
 waiter-back w h =
-    let a : waiterWord w / 64 ≡ 4_294_967_295 - code (w .priority) = omega arith in
-    let b : waiterWord w % 64 ≡ w .place = omega arith in
-    let c = rank-back (w .priority) (waiterWord w / 64) (h .priority-ok) a in
+    let a : waiterWord w / Word.KEY ≡ Code.HIGHEST - code (w .priority) = omega arith in
+    let b : waiterWord w % Word.PLACES ≡ w .place = omega arith in
+    let c = rank-back (w .priority) (waiterWord w / Word.KEY) (h .priority-ok) a in
     λ t. record { priority = c t; place = b t }
 
-returned : (k i n g : ℕ) (f : ℕ → ℕ → ℕ → Notice) → k < 4 → i < 32 → n ≤ 1_000_000
+returned : (k i n g : ℕ) (f : ℕ → ℕ → ℕ → Notice) → k < Word.KINDS → i < Limit.THINGS → n ≤ Limit.AMOUNT
     → f (numberOf (packed k i n g)) (amountOf (packed k i n g)) (giverOf (packed k i n g)) ≡ f i n g
 returned k i n g f l h m =
     let a = number-packed k i n g l (omega arith) (omega arith) in
@@ -80,9 +85,9 @@ notice-back (returnsB i n g) h =
 event-back : (e : Event) → EventSized e → eventOf (eventKey e) (dataOf (e .notice)) ≡ e
 event-back e h =
     let l = code-fits (e .priority) (h .priority-ok) in
-    let a : eventKey e / 4_294_967_296 ≡ e .time = omega arith in
-    let b : eventKey e % 4_294_967_296 ≡ 4_294_967_295 - code (e .priority) = omega arith in
-    let c = rank-back (e .priority) (eventKey e % 4_294_967_296) (h .priority-ok) b in
+    let a : eventKey e / Word.TIME ≡ e .time = omega arith in
+    let b : eventKey e % Word.RANKS ≡ Code.HIGHEST - code (e .priority) = omega arith in
+    let c = rank-back (e .priority) (eventKey e % Word.RANKS) (h .priority-ok) b in
     let d = notice-back (e .notice) (h .notice-ok) in
     λ t. record { time = a t; priority = c t; notice = d t }
 
@@ -121,18 +126,19 @@ events-back [] h = refl
 events-back (e ∷ es) h = ap₂ _∷_ (event-back e (h .0)) (events-back es (h .1))
 
 -- .. in a row of keys and a row of words.
-event-rows-back : (es : List Event) (keys words : List ℕ) → AllOf EventSized es → keys ≡ pad 128 (map eventKey es)
-    → words ≡ pad 128 (map (λ e. dataOf (e .notice)) es) → eventsOf (take (length es) keys) (take (length es) words) ≡ es
+event-rows-back : (es : List Event) (keys words : List ℕ) → AllOf EventSized es → keys ≡ pad Row.EVENTS_MOST (map eventKey es)
+    → words ≡ pad Row.EVENTS_MOST (map (λ e. dataOf (e .notice)) es)
+    → eventsOf (take (length es) keys) (take (length es) words) ≡ es
 event-rows-back es keys words h k d =
     let a : take (length es) keys ≡ map eventKey es =
-    ap (take (length es)) k ∙ front-back 128 (length es) (map eventKey es) (sym (length-map es eventKey)) in
+    ap (take (length es)) k ∙ front-back Row.EVENTS_MOST (length es) (map eventKey es) (sym (length-map es eventKey)) in
     let b : take (length es) words ≡ map (λ e. dataOf (e .notice)) es =
     ap (take (length es)) d
-    ∙ front-back 128 (length es) (map (λ e. dataOf (e .notice)) es) (sym (length-map es (λ e. dataOf (e .notice)))) in
+    ∙ front-back Row.EVENTS_MOST (length es) (map (λ e. dataOf (e .notice)) es) (sym (length-map es (λ e. dataOf (e .notice)))) in
     ap₂ eventsOf a b ∙ events-back es h
 
 waiters-back : (n : ℕ) (ws : List Waiter) → WaitersSized ws → n ≡ length ws → waitersOf n (waitersRow ws) ≡ ws
-waiters-back n ws h e = row-back waiterWord waiterOf WaiterSized waiter-back 64 n ws (h .each) e
+waiters-back n ws h e = row-back waiterWord waiterOf WaiterSized waiter-back Row.WAITERS_MOST n ws (h .each) e
 
 -- Rows one behind the other, and zs behind them.
 waiting-back : (wss : List (List Waiter)) (zs : List ℕ) → AllOf WaitersSized wss
@@ -140,10 +146,10 @@ waiting-back : (wss : List (List Waiter)) (zs : List ℕ) → AllOf WaitersSized
 unfolding waitingOf
 waiting-back [] zs h = refl
 waiting-back (ws ∷ wss) zs h =
-    let l : length (waitersRow ws) ≡ 64 = row-length 64 waiterWord ws (h .0 .few) in
+    let l : length (waitersRow ws) ≡ Row.WAITERS_MOST = row-length Row.WAITERS_MOST waiterWord ws (h .0 .few) in
     let b : List ℕ = collect waitersRow wss ++ zs in
     let a : (waitersRow ws ++ collect waitersRow wss) ++ zs ≡ waitersRow ws ++ b = append-assoc (waitersRow ws) _ zs in
-    rw (a, take-at (waitersRow ws) b 64 l, drop-at (waitersRow ws) b 64 l)
+    rw (a, take-at (waitersRow ws) b Row.WAITERS_MOST l, drop-at (waitersRow ws) b Row.WAITERS_MOST l)
     (ap₂ _∷_ (waiters-back (length ws) ws (h .0) refl) (waiting-back wss zs (h .1)))
 
 -- A PROCESS that is empty where it is in no block, and else has 8 locals and a holding for each resource.
@@ -157,18 +163,22 @@ module _ (r : ℕ) where
   process-back q h f =
       let d : ℕ = length (q .frames) in
       let part = laid-part (processParts q) processWidths (process-wide q h) in
-      let locals-are : cut 4 8 (processRow q) ≡ pad 8 (map code (q .locals)) = part 1 (omega arith) in
-      let held-are : cut 12 32 (processRow q) ≡ pad 32 (q .held) = part 2 (omega arith) in
-      let frames-are : cut 44 8 (processRow q) ≡ pad 8 (stacked (q .frames)) = part 3 (omega arith) in
-      let slaves-are : cut 52 76 (processRow q) ≡ pad 76 (map slaveWord (q .slaves)) = part 4 (omega arith) in
+      let locals-are : cut Process.LOCALS No.locals (processRow q) ≡ pad No.locals (map code (q .locals)) =
+      part 1 (omega arith) in
+      let held-are : cut Process.HELD Limit.THINGS (processRow q) ≡ pad Limit.THINGS (q .held) = part 2 (omega arith) in
+      let frames-are : cut Process.BLOCKS Limit.DEPTH (processRow q) ≡ pad Limit.DEPTH (stacked (q .frames)) =
+      part 3 (omega arith) in
+      let slaves-are : cut Process.OWNED Process.OWNED_MOST (processRow q)
+      ≡ pad Process.OWNED_MOST (map slaveWord (q .slaves)) = part 4 (omega arith) in
       let a = valueOf-code (q .priority) (h .priority-ok) in
       let b =
       ap (λ row. map valueOf (take (seated d No.locals) row)) locals-are
       ∙ row-back code valueOf I32 valueOf-code 8 (seated d No.locals) (q .locals) (h .locals-ok) (sym (f .locals-many)) in
-      let c = ap (take (seated d r)) held-are ∙ front-back 32 (seated d r) (q .held) (sym (f .held-many)) in
+      let c = ap (take (seated d r)) held-are ∙ front-back Limit.THINGS (seated d r) (q .held) (sym (f .held-many)) in
       let e =
       ap (λ row. map slaveOf (take (length (q .slaves)) row)) slaves-are
-      ∙ row-back slaveWord slaveOf SlaveSized slave-back 76 (length (q .slaves)) (q .slaves) (h .slaves-ok) refl in
+      ∙ row-back slaveWord slaveOf SlaveSized slave-back Process.OWNED_MOST (length (q .slaves)) (q .slaves) (h .slaves-ok)
+      refl in
       let g =
       ap (λ row. framesOf (take d row)) frames-are
       ∙ ap framesOf (front-back 8 d (stacked (q .frames)) (sym (stacked-length (q .frames))))
@@ -182,7 +192,7 @@ module _ (r : ℕ) where
   processes-back (q ∷ qs) h f =
       let l = process-long q (h .0) in
       let b : List ℕ = collect processRow qs in
-      rw (take-at (processRow q) b 128 l, drop-at (processRow q) b 128 l)
+      rw (take-at (processRow q) b Process.WORDS l, drop-at (processRow q) b Process.WORDS l)
       (ap₂ _∷_ (process-back q (h .0) (f .0)) (processes-back qs (h .1) (f .1)))
 
 -- THE STATE has the model's lengths.
@@ -199,24 +209,26 @@ view-back m s h f =
     let part = laid-part (workParts s) workWidths (work-wide s h) in
     let r : ℕ = length (m .totals) in
     let row : ℕ → ℕ → List ℕ = λ i n. cut i n (workOf s) in
-    let free-are : row 8 32 ≡ pad 32 (s .free) = part 1 (omega arith) in
-    let bins-are : row 40 32 ≡ pad 32 (s .bins) = part 2 (omega arith) in
-    let globals-are : row 72 32 ≡ pad 32 (map code (s .globals)) = part 3 (omega arith) in
-    let counts-are : row 104 32 ≡ pad 32 (map length (s .waiting)) = part 4 (omega arith) in
-    let blocked-are : row 136 64 ≡ waitersRow (s .blocked) = part 5 (omega arith) in
-    let keys-are : row 200 128 ≡ pad 128 (map eventKey (s .events)) = part 6 (omega arith) in
-    let words-are : row 328 128 ≡ pad 128 (map (λ e. dataOf (e .notice)) (s .events)) = part 7 (omega arith) in
-    let lists-are : row 456 2_048 ≡ pad 2_048 (collect waitersRow (s .waiting)) = part 8 (omega arith) in
-    let places-are : row 2_504 8_192 ≡ collect processRow (s .processes) = part 9 (omega arith) in
+    let free-are : row Row.FREE Limit.THINGS ≡ pad Limit.THINGS (s .free) = part 1 (omega arith) in
+    let bins-are : row Row.BINS Limit.THINGS ≡ pad Limit.THINGS (s .bins) = part 2 (omega arith) in
+    let globals-are : row Row.GLOBALS Limit.THINGS ≡ pad Limit.THINGS (map code (s .globals)) = part 3 (omega arith) in
+    let counts-are : row Row.WAITS Limit.THINGS ≡ pad Limit.THINGS (map length (s .waiting)) = part 4 (omega arith) in
+    let blocked-are : row Row.QUEUE Row.WAITERS_MOST ≡ waitersRow (s .blocked) = part 5 (omega arith) in
+    let keys-are : row Row.KEYS Row.EVENTS_MOST ≡ pad Row.EVENTS_MOST (map eventKey (s .events)) = part 6 (omega arith) in
+    let words-are : row Row.NOTICES Row.EVENTS_MOST ≡ pad Row.EVENTS_MOST (map (λ e. dataOf (e .notice)) (s .events)) =
+    part 7 (omega arith) in
+    let lists-are : row Row.WAITING Row.WAITERS_ALL ≡ pad Row.WAITERS_ALL (collect waitersRow (s .waiting)) =
+    part 8 (omega arith) in
+    let places-are : row Row.PROCESSES Row.PROCESSES_ALL ≡ collect processRow (s .processes) = part 9 (omega arith) in
     let a =
     ap (λ x. map valueOf (take (length (m .vars)) x)) globals-are
-    ∙ row-back code valueOf I32 valueOf-code 32 (length (m .vars)) (s .globals) (h .globals-ok) (sym (f .vars-many)) in
-    let b = ap (take r) free-are ∙ front-back 32 r (s .free) (sym (f .frees-many)) in
-    let c = ap (take (length (m .amounts))) bins-are ∙ front-back 32 _ (s .bins) (sym (f .bins-many)) in
+    ∙ row-back code valueOf I32 valueOf-code Limit.THINGS (length (m .vars)) (s .globals) (h .globals-ok) (sym (f .vars-many)) in
+    let b = ap (take r) free-are ∙ front-back Limit.THINGS r (s .free) (sym (f .frees-many)) in
+    let c = ap (take (length (m .amounts))) bins-are ∙ front-back Limit.THINGS _ (s .bins) (sym (f .bins-many)) in
     let d =
     ap₂ (λ x y. waitingOf (take (m .syncs) x) y) counts-are lists-are
-    ∙ ap (λ x. waitingOf x (pad 2_048 (collect waitersRow (s .waiting))))
-    (front-back 32 (m .syncs) (map length (s .waiting)) (sym (f .syncs-many) ∙ sym (length-map (s .waiting) length)))
+    ∙ ap (λ x. waitingOf x (pad Row.WAITERS_ALL (collect waitersRow (s .waiting))))
+    (front-back Limit.THINGS (m .syncs) (map length (s .waiting)) (sym (f .syncs-many) ∙ sym (length-map (s .waiting) length)))
     ∙ waiting-back (s .waiting) _ (h .waiting-ok) in
     let e = event-rows-back (s .events) _ _ (h .events-ok) keys-are words-are in
     let k =

@@ -12,6 +12,11 @@ use Rattle.semantics.specs.Decode.{refused, accepted, decode}
 use Rattle.semantics.specs.State.{State, Process, Frame, Slave, Waiter, Event, Notice, wakes, returnsR, returnsB}
 use Rattle.semantics.specs.State.{Floor, empty, heldBy}
 use Rattle.semantics.specs.Sound.{soundIn}
+use Rattle.base_numbers.specs.Row as Row
+use Rattle.base_numbers.specs.Process as Process
+use Rattle.base_numbers.specs.Word as Word
+use Rattle.base_numbers.specs.Limit as Limit
+use Rattle.base_numbers.specs.Code as Code
 use Rattle.base_i32.specs.Code.{valueOf}
 use Rattle.base_ordered.specs.Lines.{kindOf, numberOf, amountOf, giverOf}
 use Rattle.row_work.specs.Work.{workOf}
@@ -22,13 +27,13 @@ cut from n w = take n (drop from w)
 
 -- WORDS. What each shows, as `Work` packs it.
 abbrev pub frameOf : ℕ → Frame
-frameOf x = record { block = x % 65_536; at = x / 65_536 % 65_536; rounds = x / 4_294_967_296 }
+frameOf x = record { block = x % Word.BLOCKS; at = x / Word.ACTION % Word.ACTIONS; rounds = x / Word.ROUND }
 
 abbrev pub slaveOf : ℕ → Slave
-slaveOf x = record { of = x / 64; place = x % 64 }
+slaveOf x = record { of = x / Word.SYNC; place = x % Word.PLACES }
 
 abbrev pub waiterOf : ℕ → Waiter
-waiterOf x = record { priority = valueOf (4_294_967_295 - x / 64); place = x % 64 }
+waiterOf x = record { priority = valueOf (Code.HIGHEST - x / Word.KEY); place = x % Word.PLACES }
 
 abbrev pub noticeOf : ℕ → Notice
 noticeOf x =
@@ -39,8 +44,8 @@ noticeOf x =
 abbrev pub eventOf : ℕ → ℕ → Event
 eventOf key word =
     record {
-      time = key / 4_294_967_296;
-      priority = valueOf (4_294_967_295 - key % 4_294_967_296);
+      time = key / Word.TIME;
+      priority = valueOf (Code.HIGHEST - key % Word.RANKS);
       notice = noticeOf word;
     }
 
@@ -60,12 +65,12 @@ eventsOf (k ∷ ks) (d ∷ ds) = eventOf k d ∷ eventsOf ks ds
 abbrev pub waitersOf : ℕ → List ℕ → List Waiter
 waitersOf n row = map waiterOf (take n row)
 
--- A waiting list for each count, in rows of 64.
+-- A waiting list for each count, in rows of one width.
 unfoldable pub waitingOf : List ℕ → List ℕ → List (List Waiter)
 waitingOf [] row = []
-waitingOf (n ∷ ns) row = waitersOf n (take 64 row) ∷ waitingOf ns (drop 64 row)
+waitingOf (n ∷ ns) row = waitersOf n (take Row.WAITERS_MOST row) ∷ waitingOf ns (drop Row.WAITERS_MOST row)
 
--- A PROCESS, of its row of 128. One that is in d blocks has n of something: nothing, where it is in none.
+-- A PROCESS, of its row. One that is in d blocks has n of something: nothing, where it is in none.
 abbrev pub seated : ℕ → ℕ → ℕ
 seated zero n = 0
 seated (suc d) n = n
@@ -74,18 +79,19 @@ unfoldable pub processOf : ℕ → List ℕ → Process
 unfolding framesOf
 processOf resources row =
     record {
-      number = getD row 0 0;
-      priority = valueOf (getD row 1 0);
-      locals = map valueOf (take (seated (getD row 2 0) No.locals) (cut 4 8 row));
-      held = take (seated (getD row 2 0) resources) (cut 12 32 row);
-      slaves = map slaveOf (take (getD row 3 0) (cut 52 76 row));
-      frames = framesOf (take (getD row 2 0) (cut 44 8 row));
+      number = getD row Process.NUMBER 0;
+      priority = valueOf (getD row Process.PRIORITY 0);
+      locals = map valueOf (take (seated (getD row Process.DEPTH 0) No.locals) (cut Process.LOCALS No.locals row));
+      held = take (seated (getD row Process.DEPTH 0) resources) (cut Process.HELD Limit.THINGS row);
+      slaves = map slaveOf (take (getD row Process.SLAVES 0) (cut Process.OWNED Process.OWNED_MOST row));
+      frames = framesOf (take (getD row Process.DEPTH 0) (cut Process.BLOCKS Limit.DEPTH row));
     }
 
 unfoldable pub processesOf : ℕ → ℕ → List ℕ → List Process
 unfolding processOf
 processesOf resources zero row = []
-processesOf resources (suc n) row = processOf resources (take 128 row) ∷ processesOf resources n (drop 128 row)
+processesOf resources (suc n) row =
+    processOf resources (take Process.WORDS row) ∷ processesOf resources n (drop Process.WORDS row)
 
 -- THE STATE that the work w shows, for a model with so many resources, bins, syncs and variables.
 module _ (resources bins syncs variables : ℕ) where
@@ -93,17 +99,19 @@ module _ (resources bins syncs variables : ℕ) where
   unfolding eventsOf waitingOf processesOf
   viewBy w =
       record {
-        clock = getD w 0 0;
-        closed = eqb (getD w 1 0) 1;
-        last = getD w 2 0;
-        globals = map valueOf (take variables (cut 72 32 w));
-        free = take resources (cut 8 32 w);
-        bins = take bins (cut 40 32 w);
-        waiting = waitingOf (take syncs (cut 104 32 w)) (cut 456 2_048 w);
-        floor = floorOf (getD w 3 0);
-        events = eventsOf (take (getD w 5 0) (cut 200 128 w)) (take (getD w 5 0) (cut 328 128 w));
-        blocked = waitersOf (getD w 6 0) (cut 136 64 w);
-        processes = processesOf resources No.places (cut 2_504 8_192 w);
+        clock = getD w Row.CLOCK 0;
+        closed = eqb (getD w Row.CLOSED 0) 1;
+        last = getD w Row.LAST 0;
+        globals = map valueOf (take variables (cut Row.GLOBALS Limit.THINGS w));
+        free = take resources (cut Row.FREE Limit.THINGS w);
+        bins = take bins (cut Row.BINS Limit.THINGS w);
+        waiting = waitingOf (take syncs (cut Row.WAITS Limit.THINGS w)) (cut Row.WAITING Row.WAITERS_ALL w);
+        floor = floorOf (getD w Row.FLOOR 0);
+        events =
+            eventsOf (take (getD w Row.EVENTS 0) (cut Row.KEYS Row.EVENTS_MOST w))
+            (take (getD w Row.EVENTS 0) (cut Row.NOTICES Row.EVENTS_MOST w));
+        blocked = waitersOf (getD w Row.BLOCKED 0) (cut Row.QUEUE Row.WAITERS_MOST w);
+        processes = processesOf resources No.places (cut Row.PROCESSES Row.PROCESSES_ALL w);
       }
 
 abbrev pub viewIn : Model → List ℕ → State

@@ -3,8 +3,12 @@ ghost use mathlib.Core.Path.{_≡_};
 ghost use mathlib.Core.Bool.{true, false};
 ghost use Prim.Native.Nat.{_*_, _≤_};
 ghost use lib.ListN.{length};
+ghost use Rattle.semantics.specs.Numbers as No;
 ghost use Rattle.semantics.specs.Words.{all};
 ghost use Rattle.semantics.specs.Model.{Model};
+ghost use Rattle.base_numbers.specs.Row as Row;
+ghost use Rattle.base_numbers.specs.Process as Process;
+ghost use Rattle.base_numbers.specs.Limit as Limit;
 ghost use Rattle.row_view.specs.View.{seated as seatedOf};
 ghost use Rattle.row_view.specs.Fits.{Counted, Showing, Few, frameFits, returnFits, noticeFits, passes, fits};
 ghost use Rattle.row_view.specs.Fits.{waitingFits, processFits, placeFits, processesFit, headFits, thingsFit, listsFit};
@@ -101,7 +105,7 @@ fn seated(d: u64, n: u64) -> u64
 
 // Whether a row of 128 is that of a process.
 fn process_fits(row: &[u64], resources: u64) -> bool
-    requires { ⌜ length (now row) ≡ 128 ⌝ }
+    requires { ⌜ length (now row) ≡ Process.WORDS ⌝ }
     ensures { λ r. ⌜ r ≡ processFits resources (now (row .entry)) ⌝ }
 {
     let d = row[process::DEPTH];
@@ -130,7 +134,7 @@ fn process_fits(row: &[u64], resources: u64) -> bool
 
 // Whether it is, and `digit` is 1 if the process lives, and else 0.
 fn place_fits(row: &[u64], resources: u64, digit: u64) -> bool
-    requires { ⌜ length (now row) ≡ 128 ⌝ }
+    requires { ⌜ length (now row) ≡ Process.WORDS ⌝ }
     ensures { λ r. ⌜ r ≡ placeFits resources (now (row .entry)) digit ⌝ }
 {
     let lives = seated(row[process::DEPTH], 1);
@@ -139,8 +143,8 @@ fn place_fits(row: &[u64], resources: u64, digit: u64) -> bool
 
 // Whether the rows are those of 64 processes of which those live that `living` says.
 fn processes_fit(rows: &[u64], resources: u64, living: u64) -> bool
-    requires { ⌜ length (now rows) ≡ 8192 ⌝ }
-    ensures { λ r. ⌜ r ≡ processesFit resources 64 (now (rows .entry)) living ⌝ }
+    requires { ⌜ length (now rows) ≡ Row.PROCESSES_ALL ⌝ }
+    ensures { λ r. ⌜ r ≡ processesFit resources No.places (now (rows .entry)) living ⌝ }
 {
     let mut ok = true;
     let mut digits = living;
@@ -159,7 +163,7 @@ fn processes_fit(rows: &[u64], resources: u64, living: u64) -> bool
 
 // Whether there is a waiting list of 64 words for each of the counts, and nothing behind them.
 fn waiting_fits<'a>(counts: &'a [u64], lists: &'a [u64]) -> bool
-    requires { ⌜ 64 * length (now counts) ≤ length (now lists) ⌝ }
+    requires { ⌜ Row.WAITERS_MOST * length (now counts) ≤ length (now lists) ⌝ }
     ensures { λ r. ⌜ r ≡ waitingFits (now (counts .entry)) (now (lists .entry)) ⌝ }
 {
     let mut ok = true;
@@ -182,7 +186,7 @@ fn waiting_fits<'a>(counts: &'a [u64], lists: &'a [u64]) -> bool
 
 // The clock, whether the run is closed, the last number given, who has the floor, and the word that is not used.
 fn head_fits(w: &[u64]) -> bool
-    requires { ⌜ length (now w) ≡ 10696 ⌝ }
+    requires { ⌜ length (now w) ≡ Row.WORDS ⌝ }
     ensures { λ r. ⌜ r ≡ headFits (now (w .entry)) ⌝ }
 {
     (w[row::CLOCK] <= limit::LATEST)
@@ -193,7 +197,7 @@ fn head_fits(w: &[u64]) -> bool
 
 // What is free, the bins, the variables, and how many wait for each sync.
 fn things_fit(w: &[u64], resources: u64, bins: u64, syncs: u64, variables: u64) -> bool
-    requires { ⌜ length (now w) ≡ 10696 ⌝ }
+    requires { ⌜ length (now w) ≡ Row.WORDS ⌝ }
     ensures { λ r. ⌜ r ≡ thingsFit resources bins syncs variables (now (w .entry)) ⌝ }
 {
     let free = row_fits(
@@ -217,7 +221,7 @@ fn things_fit(w: &[u64], resources: u64, bins: u64, syncs: u64, variables: u64) 
 
 // The blocked list, the event list and the waiting lists.
 fn lists_fit(w: &[u64], syncs: u64) -> bool
-    requires { ⌜ (length (now w) ≡ 10696) × (syncs ≤ 32) ⌝ }
+    requires { ⌜ (length (now w) ≡ Row.WORDS) × (syncs ≤ Limit.THINGS) ⌝ }
     ensures { λ r. ⌜ r ≡ listsFit syncs (now (w .entry)) ⌝ }
 {
     let blocked = row_fits(

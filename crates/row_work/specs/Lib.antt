@@ -10,3 +10,4 @@ pub mod Waiting
 pub mod Places
 pub mod Sized
 pub mod Same
+pub mod Tied

@@ -5,8 +5,11 @@ use mathlib.Core.Path.{_≡_, refl, sym, _∙_, ap}
 use mathlib.Core.List.{List, [], _∷_, _++_, append-assoc}
 use lib.ListN.{length, getD, set, take, drop, length-drop}
 use lib.Seq.{take-append-le, drop-append-le, take-append-add, drop-append-add}
+use Rattle.semantics.specs.Numbers as No
 use Rattle.semantics.specs.Words.{sum}
 use Rattle.semantics.specs.State.{State, Process, nobody, process, put, with-last}
+use Rattle.base_numbers.specs.Row as Row
+use Rattle.base_numbers.specs.Process as Process
 use Rattle.base_places.specs.Places.{livingOf}
 use Rattle.row_work.specs.Laid.{laid, Wide, even-part, even-replaced}
 use Rattle.row_work.specs.Work.{processRow, workParts, workWidths, workOf, Sized}
@@ -61,31 +64,33 @@ laid-inside-replaced (x ∷ xs) (n ∷ ws) h (suc k) o m ys i l =
 
 -- THE LAST NUMBER GIVEN.
 module _ (s : State) where
-  pub last-at : getD (workOf s) 2 0 ≡ s .last
+  pub last-at : getD (workOf s) Row.LAST 0 ≡ s .last
   unfolding workOf laid
   last-at = refl
 
-  pub last-set : (n : ℕ) → set (workOf s) 2 n ≡ workOf (with-last s n)
+  pub last-set : (n : ℕ) → set (workOf s) Row.LAST n ≡ workOf (with-last s n)
   unfolding workOf laid
   last-set n = refl
 
 -- THE ROW OF PLACE p, and another with what lives then.
-module _ (s : State) (h : Sized s) (p : ℕ) (in-places : p < 64) where
-  pub place-part : take 128 (drop (2_504 + 128 * p) (workOf s)) ≡ processRow (process s p)
+module _ (s : State) (h : Sized s) (p : ℕ) (in-places : p < No.places) where
+  pub place-part : take Process.WORDS (drop (Row.PROCESSES + Process.WORDS * p) (workOf s)) ≡ processRow (process s p)
   unfolding workOf
   place-part =
       let a = h .places-64 in
-      laid-inside (workParts s) workWidths (work-wide s h) 9 (128 * p) 128 (omega arith) (omega arith)
-      ∙ even-part processRow 128 (s .processes) (processes-even s h) p nobody (omega arith)
+      laid-inside (workParts s) workWidths (work-wide s h) 9 (Process.WORDS * p) Process.WORDS (omega arith) (omega arith)
+      ∙ even-part processRow Process.WORDS (s .processes) (processes-even s h) p nobody (omega arith)
 
   pub place-replaced : (q : Process) (n : ℕ) → n ≡ livingOf (set (s .processes) p q)
-      → set (replaced (workOf s) (2_504 + 128 * p) 128 (processRow q)) 4 n ≡ workOf (put p q s)
+      → set (replaced (workOf s) (Row.PROCESSES + Process.WORDS * p) Process.WORDS (processRow q)) Row.LIVING n
+      ≡ workOf (put p q s)
   unfolding workOf laid
   place-replaced q n e =
       let a = h .places-64 in
       let rows : List (List ℕ) = workParts s in
-      ap (λ r. set r 4 n)
-      (laid-inside-replaced rows workWidths (work-wide s h) 9 (128 * p) 128 (processRow q) (omega arith) (omega arith))
-      ∙ ap (λ r. set (laid (set rows 9 r)) 4 n)
-      (even-replaced processRow 128 (s .processes) (processes-even s h) p q (omega arith))
-      ∙ ap (λ r. set (workOf (put p q s)) 4 r) e
+      ap (λ r. set r Row.LIVING n)
+      (laid-inside-replaced rows workWidths (work-wide s h) 9 (Process.WORDS * p) Process.WORDS (processRow q)
+      (omega arith) (omega arith))
+      ∙ ap (λ r. set (laid (set rows 9 r)) Row.LIVING n)
+      (even-replaced processRow Process.WORDS (s .processes) (processes-even s h) p q (omega arith))
+      ∙ ap (λ r. set (workOf (put p q s)) Row.LIVING r) e

@@ -9,6 +9,7 @@ use lib.Dec.{eqb, leb}
 use borrow.Author.Tests.{eqb-true, leb-true}
 use lib.ListN.{length, getD, getElem?, take, drop}
 use lib.IntN.{ℤ}
+use Rattle.semantics.specs.Numbers as No
 use Rattle.semantics.specs.Words.{any}
 use Rattle.semantics.specs.Model.{Model, block, Action, HOLD, PRIO, TRACE, SET, LSET, DO, PUTR, PUTB, PUTS, BECOME, REQ}
 use Rattle.semantics.specs.Model.{TRY, WHILE, START, CLOSE}
@@ -28,6 +29,9 @@ use Rattle.promises.specs.Keep.{al-none, alive-in, free-or-fine}
 use Rattle.promises.specs.Moves.{hand-in, proc-at}
 use Rattle.promises.specs.Nests.{chain-depth, eight-blocks}
 use Rattle.promises.specs.Capacity.{lists-fit}
+use Rattle.base_numbers.specs.Row as Row
+use Rattle.base_numbers.specs.Word as Word
+use Rattle.base_numbers.specs.Limit as Limit
 use Rattle.row_work.specs.Work.{FrameSized, SlaveSized, ProcessSized, WaiterSized, WaitersSized, NoticeSized, EventSized}
 use Rattle.row_work.specs.Work.{FloorSized, Sized}
 
@@ -67,7 +71,7 @@ roundsOf (START c t h) = 0
 roundsOf CLOSE = 0
 
 abbrev pub FewRounds : Action → Type 0
-FewRounds a = roundsOf a < 65_536
+FewRounds a = roundsOf a < Word.ROUNDS
 
 abbrev pub Rounds : Model → Type 0
 Rounds m = (b : ℕ) → AllOf FewRounds (block m b)
@@ -108,17 +112,17 @@ vacant-sized q e v =
 
 module _ (m : Model) (f : Fit m) (n : Nested m) (r : Rounds m) where
   -- BLOCKS that a process is in: each was named, with its rounds, by the action where the one around it stands.
-  block-short : (b : ℕ) → length (block m b) ≤ 1_024
+  block-short : (b : ℕ) → length (block m b) ≤ Limit.ACTIONS
   block-short b =
-      all-get (λ x. (k : ℕ) → length x ≤ 1_024) (m .blocks) b []
-      (over-parts (λ k. length) (λ k. 1_024) (m .blocks) (λ k. f .few-actions)) (λ k. omega arith) 0
+      all-get (λ x. (k : ℕ) → length x ≤ Limit.ACTIONS) (m .blocks) b []
+      (over-parts (λ k. length) (λ k. Limit.ACTIONS) (m .blocks) (λ k. f .few-actions)) (λ k. omega arith) 0
 
-  named-rounds : (x : Frame) (xs : List Frame) → namedThere m x xs ≡ true → x .rounds < 65_536
+  named-rounds : (x : Frame) (xs : List Frame) → namedThere m x xs ≡ true → x .rounds < Word.ROUNDS
   named-rounds x [] c = let e = eqb-true (x .rounds) 1 (and-true (any (eqb (x .block)) (m .classes)) _ c .1) in omega arith
   named-rounds x (g ∷ gs) c = go (getElem? (block m (g .block)) (g .at)) refl c
     where
       go : (o : Option Action) → getElem? (block m (g .block)) (g .at) ≡ o → entersAt o (x .block) (x .rounds) ≡ true
-          → x .rounds < 65_536
+          → x .rounds < Word.ROUNDS
       go none e t = no-way t
       go (some a) e t =
           let u = all-at FewRounds (block m (g .block)) (g .at) a (r (g .block)) e in
@@ -145,7 +149,7 @@ module _ (m : Model) (f : Fit m) (n : Nested m) (r : Rounds m) where
     abbrev lives : ℕ → ℕ
     lives k = al (getD (s .processes) k nobody .frames)
 
-    listed-low : (p : ℕ) → once p p ≤ lives p → p < 64
+    listed-low : (p : ℕ) → once p p ≤ lives p → p < No.places
     listed-low p l =
         let a = alive-in (s .processes) p (let b = once-self p in omega arith) in let c = h .places-64 in omega arith
 
@@ -154,7 +158,7 @@ module _ (m : Model) (f : Fit m) (n : Nested m) (r : Rounds m) where
         free-or-fine _ (proc-at h p) (λ d v. rw (v .no-priority) (omega arith)) (λ d g. g .prio-high)
 
     -- LISTS OF WAITERS.
-    waiters-sized : (ws : List Waiter) → length ws ≤ 64 → AllOf (Tied (s .processes)) ws
+    waiters-sized : (ws : List Waiter) → length ws ≤ Row.WAITERS_MOST → AllOf (Tied (s .processes)) ws
         → ((k : ℕ) → waits k ws ≤ lives k) → WaitersSized ws
     waiters-sized ws l t c =
         record {
@@ -169,7 +173,7 @@ module _ (m : Model) (f : Fit m) (n : Nested m) (r : Rounds m) where
 
     waiting-sized : AllOf WaitersSized (s .waiting)
     waiting-sized =
-        let few = over-parts (λ k. length) (λ k. 64) (s .waiting) (λ k. lists-fit m s h .waiting-fit) in
+        let few = over-parts (λ k. length) (λ k. Row.WAITERS_MOST) (s .waiting) (λ k. lists-fit m s h .waiting-fit) in
         let listed = over-parts waits lives (s .waiting) (λ k. let a = h .in-one k in omega arith) in
         all-map _ WaitersSized (λ ws b. waiters-sized ws (b .1 .1 0) (b .0) (b .1 .0)) (s .waiting)
         (all-both _ _ (s .waiting) (h .waiting-tied) (all-both _ _ (s .waiting) listed few))
@@ -194,8 +198,8 @@ module _ (m : Model) (f : Fit m) (n : Nested m) (r : Rounds m) where
         (over-parts (λ k e. noticed k (e .notice)) lives (s .events) (λ k. let a = h .in-one k in omega arith)))
 
     -- PROCESSES.
-    total-low : (i : ℕ) → getD (m .totals) i 0 ≤ 1_000_000
-    total-low i = all-get (λ t. t ≤ 1_000_000) (m .totals) i 0 (f .totals-fit) (omega arith)
+    total-low : (i : ℕ) → getD (m .totals) i 0 ≤ Limit.AMOUNT
+    total-low i = all-get (λ t. t ≤ Limit.AMOUNT) (m .totals) i 0 (f .totals-fit) (omega arith)
 
     slaves-sized : (xs : List Slave) → AllOf (λ x. x .of < m .syncs) xs → ((k : ℕ) → slaved k xs ≤ lives k)
         → AllOf SlaveSized xs
@@ -207,7 +211,7 @@ module _ (m : Model) (f : Fit m) (n : Nested m) (r : Rounds m) where
         record { of-low = omega (arith, f .few-syncs); place-low = listed-low p (b .1 p) })
         xs (all-both _ _ xs o (over-parts (λ k x. once k (x .place)) lives xs c))
 
-    process-sized : (q : Process) → ProcOk m (s .last) q → length (q .slaves) ≤ 64
+    process-sized : (q : Process) → ProcOk m (s .last) q → length (q .slaves) ≤ No.places
         → ((k : ℕ) → slaved k (q .slaves) ≤ lives k) → ((i : ℕ) → getD (q .held) i 0 ≤ getD (m .totals) i 0)
         → ProcessSized q
     process-sized q o few c low =
@@ -221,7 +225,7 @@ module _ (m : Model) (f : Fit m) (n : Nested m) (r : Rounds m) where
               locals-few = omega (arith, g .locals-many);
               locals-ok = g .locals-ok;
               held-few = omega (arith, g .held-many, f .few-totals);
-              held-low = all-indices (λ t. t ≤ 1_000_000) 0 (q .held) (λ i. let a = low i in omega (arith, total-low i));
+              held-low = all-indices (λ t. t ≤ Limit.AMOUNT) 0 (q .held) (λ i. let a = low i in omega (arith, total-low i));
               frames-few = eight-blocks m n (q .frames) (g .frames-ok);
               frames-ok = frames-sized (q .frames) (g .frames-ok);
               slaves-few = few;
@@ -231,7 +235,7 @@ module _ (m : Model) (f : Fit m) (n : Nested m) (r : Rounds m) where
     processes-sized : AllOf ProcessSized (s .processes)
     processes-sized =
         let ps : List Process = s .processes in
-        let few = over-parts (λ k q. length (q .slaves)) (λ k. 64) ps (λ k. lists-fit m s h .slaves-fit) in
+        let few = over-parts (λ k q. length (q .slaves)) (λ k. No.places) ps (λ k. lists-fit m s h .slaves-fit) in
         let listed = over-parts (λ k q. slaved k (q .slaves)) lives ps (λ k. let a = h .in-one k in omega arith) in
         let low =
         over-parts (λ i q. getD (q .held) i 0) (λ i. getD (m .totals) i 0) ps (λ i. let a = h .adds-up i in omega arith) in
@@ -239,7 +243,7 @@ module _ (m : Model) (f : Fit m) (n : Nested m) (r : Rounds m) where
         (all-both _ _ ps (h .procs-ok) (all-both _ _ ps few (all-both _ _ ps listed low)))
 
     -- THE STATE, whatever is in hand.
-    free-low : (i : ℕ) → getD (s .free) i 0 ≤ 1_000_000
+    free-low : (i : ℕ) → getD (s .free) i 0 ≤ Limit.AMOUNT
     free-low i = let a = h .adds-up i in let b = total-low i in omega arith
 
     pub held-sized : FloorSized (s .floor) → Sized s
@@ -250,7 +254,7 @@ module _ (m : Model) (f : Fit m) (n : Nested m) (r : Rounds m) where
           last-low = h .last-ok;
           floor-ok = o;
           free-few = omega (arith, h .frees-many, f .few-totals);
-          free-low = all-indices (λ t. t ≤ 1_000_000) 0 (s .free) free-low;
+          free-low = all-indices (λ t. t ≤ Limit.AMOUNT) 0 (s .free) free-low;
           bins-few = omega (arith, h .bins-many, f .few-amounts);
           bins-low = h .bins-ok;
           globals-few = omega (arith, h .vars-many, f .few-vars);
