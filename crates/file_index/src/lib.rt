@@ -1,5 +1,7 @@
 // What the rest of the engine reads an accepted model file by: where its blocks, classes and actions stand, which blocks each
 // action names, whether it may loop, the branches of each REQ, TRY and WHILE, and how many things it declares.
+use base_numbers::kind;
+use base_numbers::limit;
 ghost use mathlib.Core.Path.{_≡_};
 ghost use mathlib.Core.List.{[], _∷_};
 ghost use Prim.Native.Nat.{_+_, _≤_, _<_};
@@ -19,29 +21,29 @@ pub struct Index {
     pub blocks: usize,
     pub actions: usize,
     pub classes: usize,
-    pub first: [u16; 257],
-    pub place: [u16; 1024],
-    pub body: [u16; 64],
+    pub first: [u16; limit::BLOCKS + 1],
+    pub place: [u16; limit::ACTIONS],
+    pub body: [u16; limit::CLASSES],
 }
 
 // Of action a: its own weight; how many times it weighs what it names; the blocks that it names, which are
 // `goes[from[a] .. from[a + 1]]`. What is not used is 0.
 pub struct Graph {
-    pub own: [u16; 1024],
-    pub times: [u16; 1024],
-    pub from: [u16; 1025],
-    pub goes: [u16; 4096],
+    pub own: [u16; limit::ACTIONS],
+    pub times: [u16; limit::ACTIONS],
+    pub from: [u16; limit::ACTIONS + 1],
+    pub goes: [u16; limit::BRANCHES],
 }
 
 // `from[a]` branches stand before action a, and `from[actions]` is how many there are. The claim of branch n stands at byte
 // `claim[n]`; bit i of `resources[n]`, of `bins[n]` and of `syncs[n]` is set where it names resource, bin or sync i. What is
 // not used is 0.
 pub struct Branches {
-    pub from: [u16; 1025],
-    pub claim: [u16; 4096],
-    pub resources: [u32; 4096],
-    pub bins: [u32; 4096],
-    pub syncs: [u32; 4096],
+    pub from: [u16; limit::ACTIONS + 1],
+    pub claim: [u16; limit::BRANCHES],
+    pub resources: [u32; limit::BRANCHES],
+    pub bins: [u32; limit::BRANCHES],
+    pub syncs: [u32; limit::BRANCHES],
 }
 
 // How many resources, bins, syncs and variables a model has.
@@ -52,8 +54,13 @@ pub struct Counts {
     pub variables: usize,
 }
 
-// The own weights of the kinds 16 to 30.
-const OWN: [u16; 15] = [1, 1, 1, 1, 1, 2, 2, 1, 1, 1, 1, 1, 1, 1, 1];
+// How many kinds of actions there are, and the bits of a row of names.
+const ACTS: usize = 15;
+
+const BITS: u32 = 32;
+
+// The own weights of the kinds of actions, from HOLD on.
+const OWN: [u16; ACTS] = [1, 1, 1, 1, 1, 2, 2, 1, 1, 1, 1, 1, 1, 1, 1];
 
 // ---- numbers of a record
 
@@ -65,11 +72,11 @@ fn pair_at(s: &[u8], at: usize) -> u16
 }
 
 // The body block of a class; 0 of a number that no class has.
-fn body_of(body: [u16; 64], class: u16) -> u16
+fn body_of(body: [u16; limit::CLASSES], class: u16) -> u16
     ensures { λ r. ⌜ r ≡ getD body class 0 ⌝ }
 {
     let c = class as usize;
-    if c < 64 {
+    if c < limit::CLASSES {
         return body[c];
     }
     0
@@ -94,7 +101,11 @@ fn class_body(kind: u32, bs: &[u8]) -> u16
     requires { ⌜ (kind ≡ 5 → 2 ≤ length (now bs)) ⌝ }
     ensures { λ r. ⌜ r ≡ (if eqb kind 5 then u16 (now (bs .entry)) 0 else 0) ⌝ }
 {
-    if kind == 5 { pair_at(bs, 0) } else { 0 }
+    if kind == kind::CLASS {
+        pair_at(bs, 0)
+    } else {
+        0
+    }
 }
 
 // The index of a file that the first pass accepts.
@@ -102,9 +113,9 @@ pub fn index_of(s: &[u8]) -> Index
     requires { ⌜ Readable (now s) ⌝ }
     ensures { λ r. ⌜ r ≡ indexOf (recordsFrom 0 (now (s .entry))) ⌝ }
 {
-    let mut first = [0u16; 257];
-    let mut place = [0u16; 1024];
-    let mut body = [0u16; 64];
+    let mut first = [0u16; limit::BLOCKS + 1];
+    let mut place = [0u16; limit::ACTIONS];
+    let mut body = [0u16; limit::CLASSES];
     let mut blocks = 0;
     let mut actions = 0;
     let mut classes = 0;
@@ -114,9 +125,9 @@ pub fn index_of(s: &[u8]) -> Index
         let kind = x.kind;
         let end = file_reader::next(s, at);
         let block = class_body(kind, &s[at + 4..end]);
-        blocks = noted(kind == 6, actions as u16, blocks, &mut first);
-        classes = noted(kind == 5, block, classes, &mut body);
-        actions = noted(16 <= kind, at as u16, actions, &mut place);
+        blocks = noted(kind == kind::BLOCK, actions as u16, blocks, &mut first);
+        classes = noted(kind == kind::CLASS, block, classes, &mut body);
+        actions = noted(kind::HOLD <= kind, at as u16, actions, &mut place);
         at = end;
     }
     first[blocks] = actions as u16;
@@ -136,9 +147,9 @@ pub fn index_of(s: &[u8]) -> Index
 fn own_weight(kind: u32) -> u16
     ensures { λ r. ⌜ r ≡ (if leb 16 kind then ownIn kind else 0) ⌝ }
 {
-    if 16 <= kind {
-        let k = (kind - 16) as usize;
-        if k < 15 {
+    if kind::HOLD <= kind {
+        let k = (kind - kind::HOLD) as usize;
+        if k < ACTS {
             return OWN[k];
         }
     }
@@ -151,9 +162,9 @@ fn times_of(kind: u32, bs: &[u8]) -> u16
     ensures { λ r. ⌜ r ≡ timesIn kind (now (bs .entry)) ⌝ }
 {
     match kind {
-        20 => pair_at(bs, 0),
-        26 => 1,
-        28 => 1,
+        kind::DO => pair_at(bs, 0),
+        kind::TRY => 1,
+        kind::START => 1,
         _ => 0,
     }
 }
@@ -176,29 +187,36 @@ fn branches_named(bs: &[u8], n: usize, out: &mut [u16]) -> usize
 }
 
 // The blocks that an action names, written at n of `out`; and where the next is written.
-fn named(start: bool, body: [u16; 64], kind: u32, bs: &[u8], n: usize, out: &mut [u16]) -> usize
+fn named(
+    start: bool,
+    body: [u16; limit::CLASSES],
+    kind: u32,
+    bs: &[u8],
+    n: usize,
+    out: &mut [u16],
+) -> usize
     requires { ⌜ Judged kind (now bs) ⌝ }
     requires { ⌜ n + length (goesIn start body kind (now bs)) ≤ length (now out) ⌝ }
     ensures { λ r. ⌜ Wrote n (goesIn start body kind (now (bs .entry))) (now (out .entry)) r (now (out .exit)) ⌝ }
 {
     match kind {
-        20 => noted(true, pair_at(bs, 2), n, out),
-        27 => noted(true, pair_at(bs, 0), n, out),
-        26 => branches_named(bs, n, out),
-        28 => noted(start, body_of(body, pair_at(bs, 0)), n, out),
+        kind::DO => noted(true, pair_at(bs, 2), n, out),
+        kind::WHILE => noted(true, pair_at(bs, 0), n, out),
+        kind::TRY => branches_named(bs, n, out),
+        kind::START => noted(start, body_of(body, pair_at(bs, 0)), n, out),
         _ => n,
     }
 }
 
 // The graph of a file that the first pass accepts, where `body` has the classes' body blocks; a START names one if `start`.
-pub fn graph_of(s: &[u8], start: bool, body: [u16; 64]) -> Graph
+pub fn graph_of(s: &[u8], start: bool, body: [u16; limit::CLASSES]) -> Graph
     requires { ⌜ Readable (now s) ⌝ }
     ensures { λ r. ⌜ r ≡ graphOf start body (recordsFrom 0 (now (s .entry))) ⌝ }
 {
-    let mut own = [0u16; 1024];
-    let mut times = [0u16; 1024];
-    let mut from = [0u16; 1025];
-    let mut goes = [0u16; 4096];
+    let mut own = [0u16; limit::ACTIONS];
+    let mut times = [0u16; limit::ACTIONS];
+    let mut from = [0u16; limit::ACTIONS + 1];
+    let mut goes = [0u16; limit::BRANCHES];
     let mut actions = 0;
     let mut ends = 0;
     let mut at = file_reader::first(s);
@@ -207,9 +225,9 @@ pub fn graph_of(s: &[u8], start: bool, body: [u16; 64]) -> Graph
         let kind = x.kind;
         let end = file_reader::next(s, at);
         let bs = &s[at + 4..end];
-        noted(16 <= kind, own_weight(kind), actions, &mut own);
-        noted(16 <= kind, times_of(kind, bs), actions, &mut times);
-        actions = noted(16 <= kind, ends as u16, actions, &mut from);
+        noted(kind::HOLD <= kind, own_weight(kind), actions, &mut own);
+        noted(kind::HOLD <= kind, times_of(kind, bs), actions, &mut times);
+        actions = noted(kind::HOLD <= kind, ends as u16, actions, &mut from);
         ends = named(start, body, kind, bs, ends, &mut goes);
         at = end;
     }
@@ -230,7 +248,7 @@ fn bit(j: u32, s: &[u8]) -> u32
     ensures { λ r. ⌜ r ≡ bitOf j (now (s .entry)) ⌝ }
 {
     let number = file_fields::u16_at(s, 2);
-    if (file_fields::u8_at(s, 0) == j) & (number < 32) {
+    if (file_fields::u8_at(s, 0) == j) & (number < BITS) {
         return 1u32 << number;
     }
     0
@@ -324,9 +342,9 @@ fn branches_noted(
         (rows (now (claim .exit)) (now (resources .exit)) (now (bins .exit)) (now (syncs .exit))) ⌝ }
 {
     match kind {
-        25 => branch_noted(at as u16, bs, n, claim, resources, bins, syncs),
-        26 => try_noted(at, bs, n, claim, resources, bins, syncs),
-        27 => branch_noted((at + 2) as u16, &bs[2..], n, claim, resources, bins, syncs),
+        kind::REQ => branch_noted(at as u16, bs, n, claim, resources, bins, syncs),
+        kind::TRY => try_noted(at, bs, n, claim, resources, bins, syncs),
+        kind::WHILE => branch_noted((at + 2) as u16, &bs[2..], n, claim, resources, bins, syncs),
         _ => n,
     }
 }
@@ -336,11 +354,11 @@ pub fn branches_of(s: &[u8]) -> Branches
     requires { ⌜ Readable (now s) ⌝ }
     ensures { λ r. ⌜ r ≡ branchesOf (recordsFrom 0 (now (s .entry))) ⌝ }
 {
-    let mut from = [0u16; 1025];
-    let mut claim = [0u16; 4096];
-    let mut resources = [0u32; 4096];
-    let mut bins = [0u32; 4096];
-    let mut syncs = [0u32; 4096];
+    let mut from = [0u16; limit::ACTIONS + 1];
+    let mut claim = [0u16; limit::BRANCHES];
+    let mut resources = [0u32; limit::BRANCHES];
+    let mut bins = [0u32; limit::BRANCHES];
+    let mut syncs = [0u32; limit::BRANCHES];
     let mut actions = 0;
     let mut ends = 0;
     let mut at = file_reader::first(s);
@@ -350,7 +368,7 @@ pub fn branches_of(s: &[u8]) -> Branches
         let end = file_reader::next(s, at);
         let start = at + 4;
         let bs = &s[start..end];
-        actions = noted(16 <= kind, ends as u16, actions, &mut from);
+        actions = noted(kind::HOLD <= kind, ends as u16, actions, &mut from);
         ends = branches_noted(
             kind,
             start,
@@ -376,13 +394,13 @@ pub fn branches_of(s: &[u8]) -> Branches
 // ---- loops
 
 // Whether an action may loop, where `own` BLOCKs stand before it.
-fn may_loop(body: [u16; 64], own: u32, kind: u32, bs: &[u8]) -> bool
+fn may_loop(body: [u16; limit::CLASSES], own: u32, kind: u32, bs: &[u8]) -> bool
     requires { ⌜ (kind ≡ 28 → 2 ≤ length (now bs)) ⌝ }
     ensures { λ r. ⌜ r ≡ loopsAt body own kind (now (bs .entry)) ⌝ }
 {
     match kind {
-        27 => true,
-        28 => (body_of(body, pair_at(bs, 0)) as u32) < own,
+        kind::WHILE => true,
+        kind::START => (body_of(body, pair_at(bs, 0)) as u32) < own,
         _ => false,
     }
 }
@@ -392,11 +410,11 @@ fn opened(own: u32, kind: u32) -> u32
     requires { ⌜ own < 65536 ⌝ }
     ensures { λ r. ⌜ r ≡ opened own kind ⌝ }
 {
-    if kind == 6 { own + 1 } else { own }
+    if kind == kind::BLOCK { own + 1 } else { own }
 }
 
 // Whether there is a WHILE, or a START whose class's body block isn't greater than the START's own block.
-pub fn loops(s: &[u8], body: [u16; 64]) -> bool
+pub fn loops(s: &[u8], body: [u16; limit::CLASSES]) -> bool
     requires { ⌜ Readable (now s) ⌝ }
     ensures { λ r. ⌜ r ≡ loopsIn body (recordsFrom 0 (now (s .entry))) ⌝ }
 {
@@ -437,10 +455,10 @@ pub fn counts_of(s: &[u8]) -> Counts
     while at < s.len() {
         let x = file_reader::read(s, at);
         let kind = x.kind;
-        resources = tally(resources, kind == 1);
-        bins = tally(bins, kind == 2);
-        syncs = tally(syncs, kind == 3);
-        variables = tally(variables, kind == 4);
+        resources = tally(resources, kind == kind::RES);
+        bins = tally(bins, kind == kind::BIN);
+        syncs = tally(syncs, kind == kind::SYNC);
+        variables = tally(variables, kind == kind::VAR);
         at = file_reader::next(s, at);
     }
     Counts {
