@@ -77,8 +77,8 @@ CHANGES = [
     # ---- faults and answers
     ('LIMIT before IDLE', 'run_limit', 'answer: halted(w),', 'answer: if steps == limit { Answer::Limit } else { halted(w) },'),
     ('IDLE before CLOSED', 'run_limit',
-     'if w[1] != 0 {\n        return Answer::Closed;',
-     'if (w[1] != 0) & !((w[3] == 0) & (w[5] == 0)) {\n        return Answer::Closed;'),
+     'if w[row::CLOSED] != 0 {\n        return Answer::Closed;',
+     'if (w[row::CLOSED] != 0) & !((w[row::FLOOR] == 0) & (w[row::EVENTS] == 0)) {\n        return Answer::Closed;'),
     ('a fault keeps the clock', 'act_step', 'put_back(w, clock, key, word)', 'put_back(w, key / 4294967296, key, word)'),
     ('a fault keeps the floor', 'act_step', 'set_floor(w, 0);', ''),
     ('27 before 24', 'act_puts_start', 'if !has_shares(body, w, p) {', 'if can_begin(w) & !has_shares(body, w, p) {'),
@@ -113,13 +113,8 @@ CHANGES = [
 
 # Must-fail edits that the prover refuses and no call of a C function can show, and why.
 UNSEEN = {
-    'run_row/refused_at_place_0_tested': 'the desk does not call it',
     'base_places/flipped': 'whoever comes finds the place free',
     'row_sound_lists/nobody_listed': 'a place without a block has number 0, by another clause',
-    'row_struct/packed_bins_from_the_free': 'the desk does not pack a state',
-    'row_struct/packed_floor_as_last': 'the desk does not pack a state',
-    'row_struct/unpacked_blocked_as_events': 'the desk does not unpack a state',
-    'row_struct/unpacked_variables_as_bins': 'the desk does not unpack a state',
     'file_weight/block_weight_capped_lower': 'a class weighs one more than its body, and so is OVER all the same',
 }
 

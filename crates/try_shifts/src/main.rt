@@ -4,18 +4,13 @@
 // writes: so calls end by LIMIT and by 30. After each of them its lines are printed, the journal is empty again and the run goes
 // on. A call that makes no step is the last: if it answers 30, an empty journal has no room for the next step. The model of
 // `stdin` takes 50 calls: fault 30 is answered thirty times, LIMIT nineteen times, and then IDLE.
+use base_numbers::answer::LIMIT;
+use base_numbers::fault::JOURNAL;
 use file_bound::Bounded;
 use row_struct::State;
-use run_limit::Answer;
 ghost use Prim.Native.Nat.{_*_, _/_, _≤_};
 ghost use mathlib.Core.Path.{_≡_};
 ghost use lib.ListN.{length};
-
-// The number of the answer LIMIT.
-const LIMIT: u32 = 2;
-
-// The fault that a step's lines don't fit.
-const JOURNAL: u32 = 30;
 
 // What a call told, how many bytes its lines have as text, and the run that it left.
 struct Shift {
@@ -23,16 +18,6 @@ struct Shift {
     steps: u32,
     bytes: usize,
     run: State,
-}
-
-// The answer's number, as `plan_text::ending` takes it.
-fn number_of(answer: Answer) -> u32 {
-    match answer {
-        Answer::Closed => 0,
-        Answer::Idle => 1,
-        Answer::Limit => LIMIT,
-        Answer::Fault(number) => number,
-    }
 }
 
 // The bound in one word, as `plan_text::ending` takes it.
@@ -81,7 +66,7 @@ fn one_shift<'a>(
 {
     let moved = run_lent::moved_on(s, run, limit, journal);
     let answer = moved.answer;
-    let number = number_of(answer);
+    let number = run_limit::number_of(answer);
     let bytes = plan_text::lines(journal, moved.lines, out);
     let left = moved.state;
     Shift {
