@@ -1,3 +1,4 @@
 pub mod Asking
 pub mod Items
 pub mod Laid
+pub mod Choices
