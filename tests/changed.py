@@ -60,8 +60,10 @@ CHANGES = [
      'if !covered(map, from, to, x) {\n            return false;\n        }',
      'if covered(map, from, to, x) {\n            return true;\n        }'),
     ('a barred TRY takes its second branch', 'row_grant',
-     'if barred(map, w, a, k) {\n        return many;',
-     'if barred(map, w, a, k) {\n        return if many > 1 { 1 } else { many };'),
+     'if barred(map, w, a, k) {',
+     'if barred(map, w, a, k) {\n'
+     '            if file_map::number_at(map, 1346 + a) - file_map::number_at(map, 1345 + a) > 1 {\n'
+     '                return Choice::Goes(1);\n            }'),
     # ---- actions
     ('PRIO without its floor', 'act_alone', 'base_i32::greater(LOWEST, value.code)', 'value.code'),
     ('a DO has one round more', 'act_alone', 'row_process::into(w, p, n, b);', 'row_process::into(w, p, n + 1, b);'),

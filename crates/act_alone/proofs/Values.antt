@@ -17,11 +17,12 @@ use Rattle.semantics.specs.Value.{eval}
 use Rattle.promises.specs.Fit.{ExprFit, ActFit}
 use Rattle.promises.specs.Sound.{al, Fine}
 use Rattle.promises.specs.Moves.{proc-at}
-use Rattle.base_i32.specs.Code.{code, valueOf, valueIn, outcomeOf}
+use Rattle.base_i32.specs.Code.{code, valueOf, valueIn, outcomeOf, Ranged}
+use Rattle.base_i32.specs.Laws.{told}
 use Rattle.base_i32.specs.declared.Value.{Value}
 use Rattle.base_ordered.specs.Lines.{pad}
-use Rattle.act_value.specs.Parts.{evalIn, eval-parts}
-use Rattle.act_value.specs.Reading.{Readable, answered}
+use Rattle.act_value.specs.Parts.{evalIn, eval-parts, evalIn-ranged}
+use Rattle.act_value.specs.Reading.{Readable}
 use Rattle.file_actions.specs.Bodies.{expression-fits}
 use Rattle.row_work.specs.Codes.{globals-part, locals-part}
 use Rattle.act_alone.specs.Alone.{Valued, Told}
@@ -70,12 +71,24 @@ module _ {body w : List ℕ} {p : ℕ} (v : Valued body w p) where
         }
 
     pub valued : (r : Value) → r ≡ valueIn (evalIn (s .globals) (q .locals) t (expressionIn body))
-        → outcomeOf r ≡ eval s q (v .expression)
+        → r ≡ valueIn (eval s q (v .expression))
     valued r e =
-        answered readable r e
-        ∙ ap (λ k. evalIn (s .globals) (q .locals) k (expressionIn body)) clock
-        ∙ ap (evalIn (s .globals) (q .locals) (s .clock)) (v .reads .1 .1)
-        ∙ sym (eval-parts s q (v .expression))
+        e
+        ∙ ap (λ k. valueIn (evalIn (s .globals) (q .locals) k (expressionIn body))) clock
+        ∙ ap (λ x. valueIn (evalIn (s .globals) (q .locals) (s .clock) x)) (v .reads .1 .1)
+        ∙ ap valueIn (sym (eval-parts s q (v .expression)))
+
+  -- Such an answer tells the outcome that the definitions have.
+  pub tells : {r : Value}
+      → ((d : Valued body w p) → r ≡ valueIn (eval (d .running .is) (process (d .running .is) p) (d .expression)))
+      → outcomeOf r ≡ eval s q (v .expression)
+  tells answer =
+      ap outcomeOf (answer v) ∙ told (eval s q (v .expression)) (rw (eval-parts s q (v .expression)) has-range)
+    where
+      has-range : Ranged (evalIn (s .globals) (q .locals) (s .clock) (v .expression))
+      has-range =
+          evalIn-ranged (v .running .model) (s .globals) (q .locals) (s .clock) (v .running .sound .globals-ok)
+          (has-fine .locals-ok) (v .running .sound .clock-ok) (v .expression) (v .expression-fits)
 
 -- The expression of the action where the process on the floor stands is such a one, and fits as the action does.
 abbrev pub to-value : {body w : List ℕ} {p : ℕ} {x : Expr → Action} (v : Told body w p x)

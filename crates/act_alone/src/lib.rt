@@ -4,7 +4,7 @@ ghost use Rattle.semantics.specs.Model.{HOLD, PRIO, TRACE, LSET, DO, PUTR, PUTB
 ghost use Rattle.semantics.specs.State.{process, now-closed};
 ghost use Rattle.semantics.specs.Value.{eval};
 ghost use Rattle.semantics.specs.Step.{hold, prio, setLocal, doTimes, putr, putb, trace, close};
-ghost use Rattle.base_i32.specs.Code.{outcomeOf};
+ghost use Rattle.base_i32.specs.Code.{valueIn};
 ghost use Rattle.row_work.specs.Work.{Doing, Done};
 ghost use Rattle.row_lists.specs.Lists.{Any};
 ghost use Rattle.act_floor.specs.Acting.{Roomy, Stepped};
@@ -24,7 +24,7 @@ const LOWEST: u32 = 2147473648;
 pub fn value_in<'a>(body: &'a [u8], w: &'a [u64], p: usize) -> Value
     requires { ⌜ Valued (now body) (now w) p ⌝ }
     ensures { λ r. ⌜ ((v : Valued (now (body .entry)) (now (w .entry)) p)
-        → outcomeOf r ≡ eval (v .running .is) (process (v .running .is) p) (v .expression)) ⌝ }
+        → r ≡ valueIn (eval (v .running .is) (process (v .running .is) p) (v .expression))) ⌝ }
 {
     let clock = act_floor::clock_of(w) as u32;
     let from = 2508 + 128 * p;

@@ -1,17 +1,17 @@
 -- Which branch is taken, by its number in the action and in the map. Assumes nothing.
-use Prim.Native.Nat.{ℕ, zero, suc, _+_, _-_, _≤_, _<_}
+use Prim.Native.Nat.{ℕ, _+_, _≤_, _<_}
 use native.Mathlib.Omega.{arith}
 use mathlib.Core.Path.{_≡_, refl, sym, subst, _∙_, ap}
 use mathlib.Core.List.{List, [], _∷_, map}
 use mathlib.Core.Bool.{Bool, true, false}
-use mathlib.Core.Option.{none, some}
-use lib.ListN.{length, getD, take, getElem?}
+use lib.ListN.{length, getD, take}
 use lib.IntN.{pos}
 use Rattle.semantics.specs.Model.{Branch, Action}
 use Rattle.semantics.specs.State.{State}
-use Rattle.semantics.specs.Claim.{met, Offer, pass, enterBlock, offers, waits, goes, choice, grant}
+use Rattle.semantics.specs.Claim.{met, Offer, enterBlock, offers, choice, grant}
 use Rattle.semantics.specs.Walk.{line}
-use Rattle.promises.specs.Laws.{AllOf}
+use Rattle.semantics.specs.Step.{inFront}
+use Rattle.promises.specs.Laws.{AllOf, some-in}
 use Rattle.promises.specs.Takes.{chosen}
 use Rattle.base_i32.specs.Code.{code, valueOf}
 use Rattle.base_i32.specs.Laws.{valueOf-code}
@@ -23,29 +23,14 @@ use Rattle.row_process.specs.Process.{Shown}
 use Rattle.row_lists.specs.Lists.{waiterOf}
 use Rattle.row_lists.specs.Queues.{before}
 use Rattle.row_lists.specs.Front.{in-front}
-use Rattle.row_claim.specs.Asking.{choiceOf}
+use Rattle.row_claim.specs.Choices.{choiceIn, says-waits, Takes, takes}
+use Rattle.row_claim.specs.declared.Choice.{Choice as Answer}
+use Rattle.row_claim.specs.declared.Choice.the-variants.{Waits, Goes}
 use Rattle.row_grant.specs.Grant.{intoBlock, Granting, Facing}
 use Rattle.act_floor.specs.Onward.{hand, is-sized, in-hand, action-fits}
-use Rattle.act_req_try_while.specs.Asks.{Asked, model, state, who, taken, Requests, passes, enters, Requesting, Looping, Branching}
-use Rattle.act_req_try_while.specs.Asks.{Comes, Branched}
+use Rattle.act_req_try_while.specs.Asks.{Asked, model, state, who, taken, Requests, passes, enters, Requesting}
+use Rattle.act_req_try_while.specs.Asks.{Looping, Branching, Comes, Branched}
 use Rattle.act_req_try_while.proofs.Floor.{here, shown}
-
--- OFFERS. The n-th of them, if there are as many; else none is chosen.
-abbrev noOffer : Offer
-noOffer = record { claim = []; andThen = pass }
-
-abbrev pub offerOf : List Offer → ℕ → Offer
-offerOf os n = getD os n noOffer
-
-pub offer-there : (os : List Offer) (n : ℕ) → n < length os → getElem? os n ≡ some (offerOf os n)
-offer-there [] n h = absurd (omega arith)
-offer-there (o ∷ os) zero h = refl
-offer-there (o ∷ os) (suc n) h = offer-there os n (omega arith)
-
-none-there : (os : List Offer) (n : ℕ) → length os ≤ n → getElem? os n ≡ none
-none-there [] n h = refl
-none-there (o ∷ os) zero h = absurd (omega arith)
-none-there (o ∷ os) (suc n) h = none-there os n (omega arith)
 
 -- Each branch of a TRY has a block, and so has that of a WHILE, but not that of a REQ.
 try-enters : (bs : List Branch)
@@ -87,14 +72,7 @@ module _ {bs row w : List ℕ} {p a : ℕ} {x : Action} (v : Asked bs row w p a 
   pub map-long : length row ≡ 18_754
   map-long = v .acting .running .mapped .long
 
-  -- Its branches stand from `first` on, before those of the next.
-  pub many-are : (first next : ℕ) → first ≡ getD row (1_345 + a) 0 → next ≡ getD row (1_346 + a) 0 → next ≡ first + length os
-  many-are first next f g =
-      let e : 1_346 + a ≡ 1_345 + (a + 1) = omega arith in
-      let t = ap (λ i. getD row i 0) e ∙ offers-there .to-is in
-      omega (arith, t)
-
-  -- k of the blocked are in front, and n is the branch that none of these keeps it from.
+  -- k of the blocked are in front, and r is the branch that none of these keeps it from.
   module _ (k : ℕ)
       (front : (d : Shown w (λ t. p < 64))
       → (k ≡ before (waiterOf (d .is) p) (d .is .blocked)) × (k ≤ length (d .is .blocked))) where
@@ -122,71 +100,66 @@ module _ {bs row w : List ℕ} {p a : ℕ} {x : Action} (v : Asked bs row w p a 
           asked-fit = action-fits (here v);
         }
 
-    module _ (n : ℕ)
+    module _ {r : Answer}
         (told : (d : Facing bs row w a k)
-        → (choice (d .model) (d .is) (take k (d .is .blocked)) (offers (d .asked)) ≡ choiceOf n (offers (d .asked)))
-        × (n ≤ length (offers (d .asked)))) where
-      pub few-branches : n ≤ 4_096
-      few-branches = let t = offers-there .from-few in let u = told facing .1 in omega arith
-
-      taken-is : taken v ≡ choiceOf n os
+        → r ≡ choiceIn (choice (d .model) (d .is) (take k (d .is .blocked)) (offers (d .asked)))) where
+      taken-is : r ≡ choiceIn (taken v)
       taken-is =
           let o = v .acting .running .sound .blocked-ordered in
           let e = ap (λ j. take j (s .blocked)) (in-front-of-it .0) ∙ in-front s p (is-sized (here v)) o in
-          ap (λ ws. choice (model v) s ws os) (sym e) ∙ told facing .0
+          told facing ∙ ap (λ ws. choiceIn (choice (model v) s ws os)) e
 
-      module _ (first next : ℕ) (f : first ≡ getD row (1_345 + a) 0) (g : next ≡ getD row (1_346 + a) 0) where
-        pub none-taken : next - first ≤ n → (at : ℕ) (out : List ℕ) → Branched (taken v) false p s w w at out out
-        none-taken h at out =
-            let l : length os ≤ n = let m = many-are first next f g in omega arith in
-            let e : choiceOf n os ≡ waits = ap (λ r. elim r [ none ↦ waits | some o ↦ goes n o ]) (none-there os n l) in
-            record { comes = subst (λ c. Comes c false p s w w at out out) (sym (taken-is ∙ e)) (refl, (refl, refl)) }
+      pub none-taken : r ≡ Waits → (at : ℕ) (out : List ℕ) → Branched (taken v) false p s w w at out out
+      none-taken h at out =
+          let e = says-waits (taken v) (sym h ∙ taken-is) in
+          record { comes = subst (λ c. Comes c false p s w w at out out) (sym e) (refl, (refl, refl)) }
 
-        module _ (h : n < next - first) where
-          abbrev pub offer : Offer
-          offer = offerOf os n
+      module _ {n : ℕ} (h : r ≡ Goes n) where
+        pub found : Takes (model v) s (inFront (model v) s p (who v)) os n
+        found = takes (model v) s (inFront (model v) s p (who v)) os (sym h ∙ taken-is)
 
-          pub is-there : getElem? os n ≡ some offer
-          is-there = offer-there os n (let m = many-are first next f g in omega arith)
+        abbrev pub offer : Offer
+        offer = found .offer
 
-          goes-so : taken v ≡ goes n offer
-          goes-so = taken-is ∙ ap (λ r. elim r [ none ↦ waits | some o ↦ goes n o ]) is-there
+        pub few-branches : getD row (1_345 + a) 0 + n ≤ 4_096
+        few-branches = omega (arith, offers-there .from-few, some-in os n offer (found .there))
 
-          value-is : valueOf (2_147_483_648 + n) ≡ pos n
-          unfolding code
-          value-is = let t = few-branches in valueOf-code (pos n) (omega arith)
+        value-is : valueOf (2_147_483_648 + n) ≡ pos n
+        unfolding code
+        value-is = let t = few-branches in valueOf-code (pos n) (omega arith)
 
-          pub one-taken : {w₁ : List ℕ} → w₁ ≡ workOf (grant p offer s) → (at : ℕ) (out : List ℕ) {out₁ : List ℕ}
-              → out₁ ≡ wroteAt at (line s (who v .number) 4 (valueOf (2_147_483_648 + n)) ∷ []) out
-              → Branched (taken v) true p s w w₁ at out out₁
-          one-taken {w₁} e at out {out₁} t =
-              let u = t ∙ ap (λ z. wroteAt at (line s (who v .number) 4 z ∷ []) out) value-is in
-              record { comes = subst (λ c. Comes c true p s w w₁ at out out₁) (sym goes-so) (refl, (e, u)) }
+        pub one-taken : {w₁ : List ℕ} → w₁ ≡ workOf (grant p offer s) → (at : ℕ) (out : List ℕ) {out₁ : List ℕ}
+            → out₁ ≡ wroteAt at (line s (who v .number) 4 (valueOf (2_147_483_648 + n)) ∷ []) out
+            → Branched (taken v) true p s w w₁ at out out₁
+        one-taken {w₁} e at out {out₁} t =
+            let u = t ∙ ap (λ z. wroteAt at (line s (who v .number) 4 z ∷ []) out) value-is in
+            record { comes = subst (λ c. Comes c true p s w w₁ at out out₁) (sym (found .chosen)) (refl, (e, u)) }
 
-          -- It is granted.
-          module _ (b : Bool) (all : AllOf (λ o. b ≡ intoBlock (o .andThen)) os) where
-            pub met-and : (b ≡ intoBlock (offer .andThen)) × (met s (offer .claim) ≡ true)
-            met-and = chosen (λ o. b ≡ intoBlock (o .andThen)) s n offer (model v) _ os all goes-so
+        -- It is granted.
+        module _ {first : ℕ} (f : first ≡ getD row (1_345 + a) 0) (b : Bool)
+            (all : AllOf (λ o. b ≡ intoBlock (o .andThen)) os) where
+          pub met-and : (b ≡ intoBlock (offer .andThen)) × (met s (offer .claim) ≡ true)
+          met-and = chosen (λ o. b ≡ intoBlock (o .andThen)) s n offer (model v) _ os all (found .chosen)
 
-            abbrev pub granting : Granting bs row w p (first + n) b
-            granting =
-                record {
-                  model = model v;
-                  fits = v .acting .running .fits;
-                  nested = v .acting .running .nested;
-                  few-rounds = v .acting .running .few-rounds;
-                  is = s;
-                  shows = v .acting .running .shows;
-                  in-hand = hand (here v);
-                  holds = v .acting .running .sound;
-                  one = in-hand (here v);
-                  floor-ok = is-sized (here v) .floor-ok;
-                  stands-at = x;
-                  stands = v .acting .stands;
-                  offer = offer;
-                  which = n;
-                  offered = is-there;
-                  offer-at = rw f (offers-there .each n offer is-there);
-                  met = met-and .1;
-                  enters-is = met-and .0;
-                }
+          abbrev pub granting : Granting bs row w p (first + n) b
+          granting =
+              record {
+                model = model v;
+                fits = v .acting .running .fits;
+                nested = v .acting .running .nested;
+                few-rounds = v .acting .running .few-rounds;
+                is = s;
+                shows = v .acting .running .shows;
+                in-hand = hand (here v);
+                holds = v .acting .running .sound;
+                one = in-hand (here v);
+                floor-ok = is-sized (here v) .floor-ok;
+                stands-at = x;
+                stands = v .acting .stands;
+                offer = offer;
+                which = n;
+                offered = found .there;
+                offer-at = rw f (offers-there .each n offer (found .there));
+                met = met-and .1;
+                enters-is = met-and .0;
+              }

@@ -4,6 +4,7 @@ ghost use Rattle.semantics.specs.Step.{request, while};
 ghost use Rattle.act_floor.specs.Acting.{Roomy, Stepped};
 ghost use Rattle.act_req_try_while.specs.Asks.{Requesting, Looping, Branching, Branched, state, made, taken};
 use act_floor::Went;
+use row_claim::Choice;
 
 // The code of 0.
 const ZERO: u32 = 2147483648;
@@ -26,13 +27,12 @@ fn take_branch<'a>(
         at (now (out .entry)) (now (out .exit))) ⌝ }
 {
     let ahead = row_lists::place_in_front(w, p);
-    let n = row_grant::choice(s, map, w, a, ahead);
-    let first = file_map::number_at(map, 1345 + a);
-    let many = file_map::number_at(map, 1346 + a) - first;
-    if many <= n {
+    let chosen = row_grant::choice(s, map, w, a, ahead);
+    let Choice::Goes(n) = chosen else {
         return false;
-    }
+    };
     act_floor::note(w, p, out, at, 4, ZERO + n as u32);
+    let first = file_map::number_at(map, 1345 + a);
     row_grant::grant(s, map, w, p, first + n, enters);
     true
 }

@@ -1,7 +1,7 @@
 -- What the value of an expression is read from, and what has been read of it: its nodes in prefix order, against the pile.
 -- Assumes nothing.
 use Prim.Native.Nat.{ℕ, _+_, _-_, _≤_, _<_}
-use mathlib.Core.Path.{_≡_, _∙_, ap}
+use mathlib.Core.Path.{_≡_}
 use mathlib.Core.List.{List, [], _∷_, _++_, map}
 use mathlib.Core.Bool.{Bool, true}
 use mathlib.Core.Option.{Option, none, some}
@@ -15,10 +15,8 @@ use Rattle.semantics.specs.Record.{nodes, pile, theTree, expression, sized, val
 use Rattle.semantics.specs.Value.{inRange}
 use Rattle.promises.specs.Laws.{AllOf}
 use Rattle.promises.specs.Fit.{I32, ExprFit}
-use Rattle.base_i32.specs.Code.{code, valueIn, outcomeOf, smaller, larger}
-use Rattle.base_i32.specs.Laws.{told}
-use Rattle.base_i32.specs.declared.Value.{Value}
-use Rattle.act_value.specs.Parts.{evalIn, evalIn-ranged}
+use Rattle.base_i32.specs.Code.{code, valueIn, smaller, larger}
+use Rattle.act_value.specs.Parts.{evalIn}
 use Rattle.act_value.specs.declared.Node.{Node}
 use Rattle.act_value.specs.declared.Tree.{Tree}
 
@@ -83,11 +81,3 @@ pub record Read (gs ls : List ℤ) (t : ℕ) (ns : List (List ℕ)) (k : ℕ) (r
   pub onward : k < r .next
   pub inside : r .next ≤ length ns
   pub rest : pile (drop (r .next) ns) ≡ theRest (pile (drop k ns))
-
--- What a caller learns from the answer r of `evaluate`: the outcome that the definitions have.
-pub answered : {bs globals locals : List ℕ} {t : ℕ} (w : Readable bs globals locals t) (r : Value) →
-    r ≡ valueIn (evalIn (w .gs) (w .ls) t (expressionIn bs)) → outcomeOf r ≡ evalIn (w .gs) (w .ls) t (expressionIn bs)
-answered {bs} {t = t} w r e =
-    ap outcomeOf e
-    ∙ told _
-    (evalIn-ranged (w .model) (w .gs) (w .ls) t (w .globals-ok) (w .locals-ok) (w .clock-ok) (expressionIn bs) (w .fits))

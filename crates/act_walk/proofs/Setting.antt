@@ -13,7 +13,7 @@ use Rattle.semantics.specs.Value.{eval}
 use Rattle.semantics.specs.Walk.{walk}
 use Rattle.semantics.specs.Step.{setGlobal}
 use Rattle.promises.specs.Moves.{global-is}
-use Rattle.base_i32.specs.Code.{code, valueOf, outcomeOf}
+use Rattle.base_i32.specs.Code.{code, valueOf, valueIn, outcomeOf}
 use Rattle.base_i32.specs.Laws.{code-valueOf, value-fits}
 use Rattle.base_i32.specs.declared.Value.{Value}
 use Rattle.row_work.specs.Work.{workOf, Done}
@@ -23,6 +23,7 @@ use Rattle.act_floor.specs.Acting.{Stepped}
 use Rattle.act_floor.specs.Running.{On, on}
 use Rattle.act_floor.specs.Onward.{m, s, q, hand, is-sized, lives, action-fits, after-it, passes, after-sized, passing}
 use Rattle.act_alone.specs.Alone.{Valued}
+use Rattle.act_alone.proofs.Values.{tells}
 use Rattle.act_walk.specs.Walking.{Walking, Walked, Setting}
 
 module _ {body bs row w : List ℕ} {p i : ℕ} (v : Setting body bs row w p i) where
@@ -49,10 +50,11 @@ module _ {body bs row w : List ℕ} {p i : ℕ} (v : Setting body bs row w p i) 
   passed-long told = ap length (told (passing here)) ∙ work-long (after-it here) (after-sized here)
 
   module _ (r : Value)
-      (told : (d : Valued body w p) → outcomeOf r ≡ eval (d .running .is) (process (d .running .is) p) (d .expression)) where
+      (answer : (d : Valued body w p)
+      → r ≡ valueIn (eval (d .running .is) (process (d .running .is) p) (d .expression))) where
     is-told : outcomeOf r ≡ eval (s here) (q here) (v .expression)
     unfolding valued
-    is-told = told valued
+    is-told = tells valued answer
 
     -- IT HAS NO VALUE,
     pub no-value : (at : ℕ) (out : List ℕ) → r .ok ≡ false

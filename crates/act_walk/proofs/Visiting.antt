@@ -1,17 +1,17 @@
 -- The blocked one at k is visited: the action where it stands, in the map, and what comes of its choice. Assumes nothing.
-use Prim.Native.Nat.{ℕ, zero, suc, _+_, _≤_, _<_}
+use Prim.Native.Nat.{ℕ, _+_, _<_}
 use native.Mathlib.Omega.{arith}
 use mathlib.Core.Path.{_≡_, refl, sym, subst, _∙_, ap}
 use mathlib.Core.List.{List, [], _∷_}
 use mathlib.Core.Bool.{Bool}
-use mathlib.Core.Option.{none, some}
-use lib.ListN.{length, getD, getElem?, take}
+use lib.ListN.{getD, getElem?, take}
 use lib.IntN.{pos}
 use Rattle.semantics.specs.Numbers as No
 use Rattle.semantics.specs.Model.{Model}
 use Rattle.semantics.specs.State.{State, process}
-use Rattle.semantics.specs.Claim.{Offer, offers, asks, Choice, waits, goes, choice}
+use Rattle.semantics.specs.Claim.{Offer, offers, asks, goes, choice}
 use Rattle.semantics.specs.Walk.{line}
+use Rattle.promises.specs.Laws.{some-in}
 use Rattle.promises.specs.Parts.{fit-at}
 use Rattle.base_journal.specs.Wrote.{wroteAt}
 use Rattle.row_work.specs.Work.{workOf}
@@ -19,24 +19,14 @@ use Rattle.file_map.specs.Map.{OfferAt, OffersAt}
 use Rattle.row_process.specs.Process.{Shown, Lives}
 use Rattle.row_process.specs.Put.{process-sized}
 use Rattle.row_lists.specs.Lists.{Any, IsBlocked}
-use Rattle.row_claim.specs.Asking.{choiceOf}
+use Rattle.row_claim.specs.Choices.{choiceIn, says-waits, Takes, takes}
+use Rattle.row_claim.specs.declared.Choice.{Choice as Answer}
+use Rattle.row_claim.specs.declared.Choice.the-variants.{Waits, Goes}
 use Rattle.row_grant.specs.Grant.{Facing}
 use Rattle.row_grant.specs.Standing.{numberIn, asks-are, offers-there, number-low, placeAt}
 use Rattle.act_walk.specs.Walking.{Visiting, chooses, went, Visited, Going, AtAction, enteredBy}
 use Rattle.act_walk.proofs.Reading.{offer-enters}
 use Rattle.act_walk.proofs.Going.{is-sized, shown, stands, stands-at}
-
--- AN OFFER by its number: there is none, or it is taken.
-none-waits : (n i : ℕ) (os : List Offer) → length os ≤ i
-    → _≡_ {A = Choice} (elim (getElem? os i) [ none ↦ waits | some o ↦ goes n o ]) waits
-none-waits n i [] l = refl
-none-waits n zero (o ∷ os) l = absurd (omega arith)
-none-waits n (suc i) (o ∷ os) l = none-waits n i os (omega arith)
-
-some-there : (i : ℕ) (os : List Offer) → i < length os → (o : Offer) × (getElem? os i ≡ some o)
-some-there i [] l = absurd (omega arith)
-some-there zero (o ∷ os) l = (o, refl)
-some-there (suc i) (o ∷ os) l = some-there i os (omega arith)
 
 module _ {bs row w : List ℕ} {k : ℕ} (v : Visiting bs row w k) where
   abbrev m : Model
@@ -110,40 +100,36 @@ module _ {bs row w : List ℕ} {k : ℕ} (v : Visiting bs row w k) where
                 (v .walking .mapped .acts-at (t .lives .innermost .block) (t .lives .innermost .at) (t .action) (t .acts));
           }
 
-      -- ITS BRANCHES are those from the first on; what was chosen has a number among them.
-      module _ (first behind which : ℕ) (f : first ≡ getD row (1_345 + a) 0) (b : behind ≡ getD row (1_346 + a) 0)
+      -- THE ANSWER says what it chooses: to wait,
+      module _ {r : Answer}
           (told₂ : (d : Facing bs row w a k)
-          → (choice (d .model) (d .is) (take k (d .is .blocked)) (offers (d .asked)) ≡ choiceOf which (offers (d .asked)))
-          × (which ≤ length (offers (d .asked)))) where
+          → r ≡ choiceIn (choice (d .model) (d .is) (take k (d .is .blocked)) (offers (d .asked)))) where
         abbrev os : List Offer
         os = offers (stands v p e .action)
 
-        behind-is : behind ≡ first + length os
-        behind-is = b ∙ ap (λ j. getD row j 0) (omega arith) ∙ offers-at .to-is ∙ ap (λ n. n + length os) (sym f)
+        chooses-is : chooses m s k ≡ choice m s (take k (s .blocked)) os
+        chooses-is = ap (choice m s (take k (s .blocked))) (ap (asks m s) (sym e) ∙ asks-are (stands v p e))
 
-        pub branch-few : first + which ≤ 4_096
+        pub stayed : (at : ℕ) (out : List ℕ) → r ≡ Waits → Visited s k (chooses m s k) 0 w w at out out
         unfolding facing
-        branch-few = omega (arith, f, offers-at .from-few, told₂ facing .1)
+        stayed at out h =
+            subst (λ c. Visited s k c 0 w w at out out) (sym (chooses-is ∙ says-waits _ (sym h ∙ told₂ facing)))
+            (refl, (refl, refl))
 
-        chooses-is : chooses m s k ≡ choiceOf which os
-        unfolding facing
-        chooses-is =
-            ap (choice m s (take k (s .blocked))) (ap (asks m s) (sym e) ∙ asks-are (stands v p e)) ∙ told₂ facing .0
+        -- or to go.
+        module _ {which : ℕ} (h : r ≡ Goes which) where
+          taken : Takes m s (take k (s .blocked)) os which
+          unfolding facing
+          taken = takes m s (take k (s .blocked)) os (sym h ∙ told₂ facing)
 
-        pub stayed : (at : ℕ) (out : List ℕ) → behind ≤ first + which → Visited s k (chooses m s k) 0 w w at out out
-        stayed at out l =
-            subst (λ c. Visited s k c 0 w w at out out)
-            (sym (chooses-is ∙ none-waits which which os (omega (arith, behind-is)))) (refl, (refl, refl))
+          pub branch-few : getD row (1_345 + a) 0 + which < 4_096
+          branch-few = omega (arith, offers-at .from-few, some-in os which (taken .offer) (taken .there))
 
-        -- It goes.
-        module _ (l : first + which < behind) where
-          taken : (o : Offer) × (getElem? os which ≡ some o)
-          taken = some-there which os (omega (arith, behind-is))
+          goes-there : chooses m s k ≡ goes which (taken .offer)
+          goes-there = chooses-is ∙ taken .chosen
 
-          goes-there : chooses m s k ≡ goes which (taken .0)
-          goes-there = chooses-is ∙ rw (taken .1, choiceOf) refl
-
-          module _ (enters : Bool) (told₃ : (d : AtAction bs row a) → enters ≡ enteredBy (d .action)) where
+          module _ {first : ℕ} (f : first ≡ getD row (1_345 + a) 0) (enters : Bool)
+              (told₃ : (d : AtAction bs row a) → enters ≡ enteredBy (d .action)) where
             pub going : Going bs row w k p (first + which) enters
             unfolding at-action
             going =
@@ -151,13 +137,13 @@ module _ {bs row w : List ℕ} {k : ℕ} (v : Visiting bs row w k) where
                   visiting = v;
                   place-is = e;
                   which = which;
-                  offer = taken .0;
+                  offer = taken .offer;
                   chosen = goes-there;
-                  offered = ap (λ l. getElem? l which) (asks-are (stands v p e)) ∙ taken .1;
+                  offered = ap (λ l. getElem? l which) (asks-are (stands v p e)) ∙ taken .there;
                   offer-at =
-                      subst (λ j. OfferAt bs row (j + which) (taken .0)) (sym f)
-                      (offers-at .each which (taken .0) (taken .1));
-                  enters-is = told₃ at-action ∙ offer-enters (stands v p e .action) which (taken .0) (taken .1);
+                      subst (λ j. OfferAt bs row (j + which) (taken .offer)) (sym f)
+                      (offers-at .each which (taken .offer) (taken .there));
+                  enters-is = told₃ at-action ∙ offer-enters (stands v p e .action) which (taken .offer) (taken .there);
                 }
 
             pub gone : (at : ℕ) (out out′ w′ : List ℕ) (n : ℕ) → ((d : Shown w (λ _. p < 64)) → n ≡ process (d .is) p .number)

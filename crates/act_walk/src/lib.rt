@@ -16,6 +16,7 @@ ghost use Rattle.act_floor.specs.Acting.{Acting, Roomy, Stepped};
 ghost use Rattle.act_walk.specs.Walking.{Walking, Returning, Walked, Visiting, chooses, went, Visited, Going};
 ghost use Rattle.act_walk.specs.Walking.{AtAction, enteredBy, Setting};
 use act_floor::Went;
+use row_claim::Choice;
 
 // ---- what is read
 
@@ -121,14 +122,13 @@ fn visit<'a>(
 {
     let place = row_lists::blocked_at(w, k);
     let action = row_grant::action_at(map, w, place);
-    let first = file_map::number_at(map, 1345 + action);
-    let behind = file_map::number_at(map, 1346 + action);
-    let which = row_grant::choice(s, map, w, action, k);
-    if behind <= first + which {
+    let chosen = row_grant::choice(s, map, w, action, k);
+    let Choice::Goes(which) = chosen else {
         return 0;
-    }
+    };
     let number = row_process::number_of(w, place);
     note(w, out, at, 4, number, which);
+    let first = file_map::number_at(map, 1345 + action);
     let enters = enters_at(s, map, action);
     release(s, map, w, k, place, first + which, enters);
     1

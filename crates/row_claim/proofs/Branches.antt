@@ -8,9 +8,11 @@ use mathlib.Core.Bool.{Bool, true, false}
 use mathlib.Core.Option.{none, some}
 use lib.ListN.{length, getD, drop, getElem?}
 use Rattle.semantics.specs.State.{State}
-use Rattle.semantics.specs.Claim.{Offer, waits, goes, met, firstMet}
+use Rattle.semantics.specs.Claim.{Offer, goes, met, firstMet}
 use Rattle.promises.specs.Laws.{all-at, drop-some, drop-none}
-use Rattle.row_claim.specs.Asking.{ClaimAt, Meeting, Asking, choiceOf}
+use Rattle.row_claim.specs.Asking.{ClaimAt, Meeting, Asking}
+use Rattle.row_claim.specs.Choices.{choiceIn}
+use Rattle.row_claim.specs.declared.Choice.the-variants.{Waits, Goes}
 
 -- What stands at index k of a list; behind its end nothing does.
 record There {A : Type 0} (xs : List A) (k : ℕ) : Type 0 where
@@ -37,13 +39,6 @@ module _ (s : State) (k : ℕ) (o : Offer) (os : List Offer) where
   unfolding firstMet
   first-waits e = rw (add-one k, e, firstMet)
 
--- The choice that k stands for.
-chosen : (os : List Offer) (k : ℕ) (o : Offer) → getElem? os k ≡ some o → choiceOf k os ≡ goes k o
-chosen os k o e = rw (e, choiceOf)
-
-not-chosen : (os : List Offer) (k : ℕ) → getElem? os k ≡ none → choiceOf k os ≡ waits
-not-chosen os k e = rw (e, choiceOf)
-
 module _ (bs map w : List ℕ) (a : ℕ) (v : Asking bs map w a) where
   -- The first that is met is the first from branch k on.
   abbrev pub FirstFrom : ℕ → Type 0
@@ -60,23 +55,16 @@ module _ (bs map w : List ℕ) (a : ℕ) (v : Asking bs map w a) where
     pub few-are : to ≤ 4_096
     few-are = let m = many-are in let f = v .asks-at .from-few in omega (arith, f)
 
-    pub none-met : (k : ℕ) → k ≤ to - from → to - from ≤ k → FirstFrom k
-        → (firstMet (v .is) 0 (v .asks) ≡ choiceOf (to - from) (v .asks)) × (to - from ≤ length (v .asks))
+    pub none-met : (k : ℕ) → to - from ≤ k → FirstFrom k → Waits ≡ choiceIn (firstMet (v .is) 0 (v .asks))
     unfolding firstMet
-    none-met k l g f =
+    none-met k g f =
         let m = many-are in
         let e : getElem? (v .asks) k ≡ none = nothing-there (v .asks) k (omega arith) in
-        let j : k ≡ to - from = omega arith in (
-          f
-              ∙ ap (firstMet (v .is) k) (drop-none (v .asks) k e)
-              ∙ sym (not-chosen (v .asks) k e)
-              ∙ ap (λ i. choiceOf i (v .asks)) j,
-          omega arith,
-        )
+        ap choiceIn (sym (f ∙ ap (firstMet (v .is) k) (drop-none (v .asks) k e)))
 
     -- Branch k.
     module _ (k : ℕ) (h : k < to - from) where
-      pub in-asks : k < length (v .asks)
+      in-asks : k < length (v .asks)
       in-asks = let m = many-are in omega arith
 
       offer : Offer
@@ -115,12 +103,12 @@ module _ (bs map w : List ℕ) (a : ℕ) (v : Asking bs map w a) where
           unfolding its-claim
           answered = told its-claim
 
-          pub is-first : r ≡ true → firstMet (v .is) 0 (v .asks) ≡ choiceOf k (v .asks)
+          pub is-first : r ≡ true → Goes k ≡ choiceIn (firstMet (v .is) 0 (v .asks))
           is-first e =
-              f
+              ap choiceIn
+              (sym (f
               ∙ ap (firstMet (v .is) k) onward
-              ∙ first-goes (v .is) k offer (drop (k + 1) (v .asks)) (sym answered ∙ e)
-              ∙ sym (chosen (v .asks) k offer offer-is)
+              ∙ first-goes (v .is) k offer (drop (k + 1) (v .asks)) (sym answered ∙ e)))
 
           pub is-behind : r ≡ false → FirstFrom (k + 1)
           is-behind e =

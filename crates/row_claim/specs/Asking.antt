@@ -3,14 +3,13 @@ use Prim.Native.Nat.{ℕ, _+_, _*_, _≤_, _<_}
 use mathlib.Core.Path.{_≡_}
 use mathlib.Core.List.{List}
 use mathlib.Core.Bool.{true}
-use mathlib.Core.Option.{none, some}
-use lib.ListN.{length, drop, getElem?}
+use lib.ListN.{length, drop}
 use Rattle.semantics.specs.Words.{all}
 use Rattle.semantics.specs.Model.{Claim, Model}
 use Rattle.semantics.specs.Bytes.{u16}
 use Rattle.semantics.specs.Record.{item, partValid, partsOf, claimIn}
 use Rattle.semantics.specs.State.{State}
-use Rattle.semantics.specs.Claim.{Offer, Choice, waits, goes}
+use Rattle.semantics.specs.Claim.{Offer}
 use Rattle.promises.specs.Laws.{AllOf}
 use Rattle.promises.specs.Fit.{ItemFit}
 use Rattle.row_work.specs.Work.{workOf, Sized}
@@ -53,7 +52,3 @@ pub record Asking (bs map w : List ℕ) (a : ℕ) : Type 0 where
   pub asks : List Offer
   pub asks-at : OffersAt bs map a asks
   pub asks-fit : AllOf (λ o. AllOf (ItemFit model) (o .claim)) asks
-
--- The choice that a number stands for: the offer of that number, or to wait where there is none.
-abbrev pub choiceOf : ℕ → List Offer → Choice
-choiceOf k os = elim (getElem? os k) [ none ↦ waits | some o ↦ goes k o ]

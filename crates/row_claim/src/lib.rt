@@ -5,8 +5,15 @@ ghost use lib.ListN.{length, getD};
 ghost use Rattle.semantics.specs.Record.{relationOf, itemOf};
 ghost use Rattle.semantics.specs.Claim.{holds, itemMet, met, firstMet};
 ghost use Rattle.base_i32.specs.Code.{valueOf};
-ghost use Rattle.row_claim.specs.Asking.{Meeting, Asking, choiceOf};
+ghost use Rattle.row_claim.specs.Asking.{Meeting, Asking};
+ghost use Rattle.row_claim.specs.Choices.{choiceIn};
 ghost use Rattle.row_claim.specs.Items.{rowOf, MeetingItem};
+
+// Which branch of an action is taken: none, or that of this number, from 0.
+pub enum Choice {
+    Waits,
+    Goes(usize),
+}
 
 fn wide(x: u32) -> u64
     ensures { λ r. ⌜ r ≡ x ⌝ }
@@ -89,11 +96,11 @@ fn met<'a>(s: &'a [u8], at: usize, w: &'a [u64]) -> bool
 
 // ---- the branches of an action
 
-// The first branch of action a whose claim is met, from 0; as many as there are where none is.
-pub fn first_met<'a>(s: &'a [u8], map: &'a [u32], w: &'a [u64], a: usize) -> usize
+// The first branch of action a whose claim is met.
+pub fn first_met<'a>(s: &'a [u8], map: &'a [u32], w: &'a [u64], a: usize) -> Choice
     requires { ⌜ Asking (now s) (now map) (now w) a ⌝ }
-    ensures { λ r. ⌜ ((v : Asking (now (s .entry)) (now (map .entry)) (now (w .entry)) a) →
-        (firstMet (v .is) 0 (v .asks) ≡ choiceOf r (v .asks)) × (r ≤ length (v .asks))) ⌝ }
+    ensures { λ r. ⌜ ((v : Asking (now (s .entry)) (now (map .entry)) (now (w .entry)) a)
+        → r ≡ choiceIn (firstMet (v .is) 0 (v .asks))) ⌝ }
 {
     let from = file_map::number_at(map, 1345 + a);
     let many = file_map::number_at(map, 1346 + a) - from;
@@ -101,9 +108,9 @@ pub fn first_met<'a>(s: &'a [u8], map: &'a [u32], w: &'a [u64], a: usize) -> usi
     while k < many {
         let at = file_map::number_at(map, 2370 + (from + k));
         if met(s, at, w) {
-            return k;
+            return Choice::Goes(k);
         }
         k += 1;
     }
-    many
+    Choice::Waits
 }

@@ -1,15 +1,14 @@
 -- An action held against the blocked: whether one of them bars it, and which branch is taken. Assumes nothing.
-use Prim.Native.Nat.{ℕ, zero, suc, _+_, _-_, _≤_, _<_}
+use Prim.Native.Nat.{ℕ, zero, suc, _+_, _≤_, _<_}
 use native.Mathlib.Numerals.{add-one}
 use native.Mathlib.Omega.{arith}
 use mathlib.Core.Path.{_≡_, refl, sym, subst, _∙_, ap}
 use mathlib.Core.List.{List, [], _∷_}
 use mathlib.Core.Bool.{Bool, true, false, _||_}
-use mathlib.Core.Option.{none}
-use lib.ListN.{length, getD, take, drop, getElem?}
+use lib.ListN.{length, getD, take, drop}
 use Rattle.semantics.specs.Words.{any}
 use Rattle.semantics.specs.State.{Waiter}
-use Rattle.semantics.specs.Claim.{Offer, offers, bars, asks, barred, Choice, waits, firstMet, choice}
+use Rattle.semantics.specs.Claim.{offers, bars, asks, barred, Choice, waits, firstMet, choice}
 use Rattle.promises.specs.Laws.{AllOf, all-map}
 use Rattle.promises.specs.Fit.{ItemFit}
 use Rattle.promises.specs.Takes.{OfferOk, offers-ok}
@@ -18,8 +17,10 @@ use Rattle.row_work.specs.Sized.{held-sized}
 use Rattle.row_process.specs.Process.{Shown, Lives}
 use Rattle.row_lists.specs.Lists.{IsBlocked}
 use Rattle.file_bars.specs.Barring.{Barring}
-use Rattle.row_claim.specs.Asking.{Asking, choiceOf}
-use Rattle.row_claim.proofs.Branches.{many-are as all-branches}
+use Rattle.row_claim.specs.Asking.{Asking}
+use Rattle.row_claim.specs.Choices.{choiceIn}
+use Rattle.row_claim.specs.declared.Choice.{Choice as Answer}
+use Rattle.row_claim.specs.declared.Choice.the-variants.{Waits}
 use Rattle.row_grant.specs.Grant.{Facing, Faced}
 use Rattle.row_grant.specs.Standing.{Standing, numberIn, asks-are, offers-there, number-low, placeAt, blocked-standing}
 
@@ -38,14 +39,6 @@ module _ (g : ℕ → Bool) where
   none-behind zero ws = refl
   none-behind (suc k) [] = refl
   none-behind (suc k) (w ∷ ws) = none-behind k ws
-
--- Behind all offers there is none to take.
-behind-waits : (os : List Offer) → choiceOf (length os) os ≡ waits
-behind-waits os = rw (behind os, choiceOf)
-  where
-    behind : (xs : List Offer) → getElem? xs (length xs) ≡ none
-    behind [] = refl
-    behind (x ∷ xs) = behind xs
 
 module _ {bs row w : List ℕ} {a k : ℕ} (v : Facing bs row w a k) where
   pub is-sized : Sized (v .is)
@@ -173,54 +166,37 @@ module _ {bs row w : List ℕ} {a k : ℕ} (v : Facing bs row w a k) where
             (offers (v .asked)) (offers-ok (v .model) (v .asked) (v .asked-fit));
       }
 
-  abbrev pub Chooses : ℕ → Type 0
-  Chooses r =
-      (choice (v .model) (v .is) (take k (v .is .blocked)) (offers (v .asked)) ≡ choiceOf r (offers (v .asked)))
-      × (r ≤ length (offers (v .asked)))
+  abbrev chosen : Choice
+  chosen = choice (v .model) (v .is) (take k (v .is .blocked)) (offers (v .asked))
 
   abbrev first : Choice
   first = firstMet (v .is) 0 (offers (v .asked))
 
-  free-chooses : is-barred ≡ false → choice (v .model) (v .is) (take k (v .is .blocked)) (offers (v .asked)) ≡ first
+  free-chooses : is-barred ≡ false → chosen ≡ first
   unfolding choice
   free-chooses e = rw (e, choice)
 
-  barred-waits : is-barred ≡ true → choice (v .model) (v .is) (take k (v .is .blocked)) (offers (v .asked)) ≡ waits
+  barred-waits : is-barred ≡ true → chosen ≡ waits
   unfolding choice
   barred-waits e = rw (e, choice)
 
-  -- As many branches as there are stand for waiting: one is barred,
-  module _ (from to : ℕ) (p : from ≡ getD row (1_345 + a) 0) (q : to ≡ getD row (1_346 + a) 0) where
-    pub many-are : to ≡ from + length (offers (v .asked))
-    unfolding asking
-    many-are = all-branches bs row w a asking from to p q
+  -- One is barred,
+  pub barred-taken : true ≡ is-barred → Waits ≡ choiceIn chosen
+  barred-taken e = ap choiceIn (sym (barred-waits (sym e)))
 
-    many-wait : choiceOf (to - from) (offers (v .asked)) ≡ waits
-    many-wait =
-        let e : to - from ≡ length (offers (v .asked)) = omega (arith, many-are) in
-        ap (λ n. choiceOf n (offers (v .asked))) e ∙ behind-waits (offers (v .asked))
-
-    pub barred-taken : true ≡ is-barred → Chooses (to - from)
-    barred-taken e = (barred-waits (sym e) ∙ sym many-wait, omega (arith, many-are))
-
-  module _ (r : ℕ)
-      (told : (d : Asking bs row w a) → (firstMet (d .is) 0 (d .asks) ≡ choiceOf r (d .asks)) × (r ≤ length (d .asks))) where
-    first-is : (first ≡ choiceOf r (offers (v .asked))) × (r ≤ length (offers (v .asked)))
+  -- or takes the first that is met;
+  module _ {r : Answer} (told : (d : Asking bs row w a) → r ≡ choiceIn (firstMet (d .is) 0 (d .asks))) where
+    first-is : r ≡ choiceIn first
     unfolding asking
     first-is = told asking
 
-    -- or none is met, barred or not.
-    module _ (from to : ℕ) (p : from ≡ getD row (1_345 + a) 0) (q : to ≡ getD row (1_346 + a) 0) where
-      pub none-taken : to - from ≤ r → Chooses (to - from)
-      none-taken h = by is-barred refl
-        where
-          by : (t : Bool) → is-barred ≡ t → Chooses (to - from)
-          by true e = barred-taken from to p q (sym e)
-          by false e =
-              let m = many-are from to p q in
-              let s : r ≡ to - from = omega (arith, m, first-is .1) in
-              (free-chooses e ∙ first-is .0 ∙ ap (λ n. choiceOf n (offers (v .asked))) s, omega (arith, m))
+    pub first-taken : false ≡ is-barred → r ≡ choiceIn chosen
+    first-taken e = first-is ∙ ap choiceIn (sym (free-chooses (sym e)))
 
-    -- Else the first that is met is taken.
-    pub first-taken : false ≡ is-barred → Chooses r
-    first-taken e = (free-chooses (sym e) ∙ first-is .0, first-is .1)
+    -- where none is, it waits, barred or not.
+    pub none-taken : r ≡ Waits → r ≡ choiceIn chosen
+    none-taken h = by is-barred refl
+      where
+        by : (t : Bool) → is-barred ≡ t → r ≡ choiceIn chosen
+        by true e = h ∙ barred-taken (sym e)
+        by false e = first-taken (sym e)

@@ -9,10 +9,11 @@ ghost use Rattle.semantics.specs.State.{with-bins};
 ghost use Rattle.semantics.specs.Claim.{takeItem, takeAll, grant, offers, bars, asks, barred, choice};
 ghost use Rattle.row_work.specs.Work.{workOf, Doing, Done};
 ghost use Rattle.row_process.specs.Process.{Shown, Lives};
-ghost use Rattle.row_claim.specs.Asking.{choiceOf};
+ghost use Rattle.row_claim.specs.Choices.{choiceIn};
 ghost use Rattle.row_grant.specs.Grant.{Takes, InBin, Taking, Granting, Facing, Faced};
 ghost use Rattle.row_grant.specs.Wants.{wantedBy};
 ghost use Rattle.row_grant.specs.Standing.{placeAt};
+use row_claim::Choice;
 
 fn wide(x: u32) -> u64
     ensures { λ r. ⌜ r ≡ x ⌝ }
@@ -156,20 +157,20 @@ fn barred<'a>(map: &'a [u32], w: &'a [u64], a: usize, k: usize) -> bool
 
 // ---- which branch
 
-// The first branch of action a that is met, if none of the first k of the blocked bars it; else as many as there are.
-pub fn choice<'a>(s: &'a [u8], map: &'a [u32], w: &'a [u64], a: usize, k: usize) -> usize
+// The first branch of action a that is met, if none of the first k of the blocked bars it.
+pub fn choice<'a>(s: &'a [u8], map: &'a [u32], w: &'a [u64], a: usize, k: usize) -> Choice
     requires { ⌜ Facing (now s) (now map) (now w) a k ⌝ }
     ensures { λ r. ⌜ ((v : Facing (now (s .entry)) (now (map .entry)) (now (w .entry)) a k)
-        → (choice (v .model) (v .is) (take k (v .is .blocked)) (offers (v .asked)) ≡ choiceOf r (offers (v .asked)))
-        × (r ≤ length (offers (v .asked)))) ⌝ }
+        → r ≡ choiceIn (choice (v .model) (v .is) (take k (v .is .blocked)) (offers (v .asked)))) ⌝ }
 {
     let first = row_claim::first_met(s, map, w, a);
-    let many = file_map::number_at(map, 1346 + a) - file_map::number_at(map, 1345 + a);
-    if many <= first {
-        return many;
+    match first {
+        Choice::Waits => first,
+        Choice::Goes(_) => {
+            if barred(map, w, a, k) {
+                return Choice::Waits;
+            }
+            first
+        }
     }
-    if barred(map, w, a, k) {
-        return many;
-    }
-    first
 }

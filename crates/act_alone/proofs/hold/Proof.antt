@@ -3,7 +3,7 @@ use borrow.Author.Needs.{needs}
 use native.Mathlib.Omega.{arith}
 use borrow.Author.Tests.{not-true, not-false}
 use Rattle.act_floor.specs.Onward.{shown, passing}
-use Rattle.act_alone.proofs.Values.{to-value}
+use Rattle.act_alone.proofs.Values.{to-value, tells}
 use Rattle.act_alone.proofs.Between.{leaving, waking}
 use Rattle.act_alone.proofs.Steps.{hold-faults, hold-is-back, hold-is-late, held}
 use Rattle.act_alone.proofs.hold.Statement.{statement}
@@ -19,7 +19,7 @@ returns : tie.Need-returns
 returns c = λ v.
     let at-value-in = c .before .before in
     let r = at-value-in .value-in in
-    hold-faults v (r .result) (r .ensures (to-value v (λ f. f))) (not-true _ (c .if1 .taken))
+    hold-faults v (r .result) (tells (to-value v (λ f. f)) (r .ensures)) (not-true _ (c .if1 .taken))
 
 same-length-2 : tie.Need-same-length-2
 same-length-2 c = search needs
@@ -29,7 +29,7 @@ returns-2 c = λ v.
     let else1 = c .before .before in
     let at-value-in = else1 .before .before in
     let r = at-value-in .value-in in
-    hold-is-back v (r .result) (r .ensures (to-value v (λ f. f))) (not-false _ (else1 .if1 .left)) (c .if2 .taken)
+    hold-is-back v (r .result) (tells (to-value v (λ f. f)) (r .ensures)) (not-false _ (else1 .if1 .left)) (c .if2 .taken)
 
 clock-of-requires : tie.Need-clock-of-requires
 clock-of-requires c κs =
@@ -52,7 +52,7 @@ returns-3 c = λ v.
     let at-value-in = else1 .before .before in
     let r = at-value-in .value-in in
     let e = at-clock-of .clock-of .ensures .0 (shown (v .on) tt) in
-    hold-is-late v (r .result) (r .ensures (to-value v (λ f. f))) (not-false _ (else1 .if1 .left)) (else2 .if2 .left) _
+    hold-is-late v (r .result) (tells (to-value v (λ f. f)) (r .ensures)) (not-false _ (else1 .if1 .left)) (else2 .if2 .left) _
     (omega (arith, e)) (c .if3 .taken)
 
 past-requires : tie.Need-past-requires
@@ -96,7 +96,7 @@ returns-4 c = λ v.
     let r = at-value-in .value-in in
     let e = at-clock-of .clock-of .ensures .0 (shown (v .on) tt) in
     let f = at-leave-floor .leave-floor .ensures (leaving (v .on) (at-past .past .ensures (passing (v .on)))) in
-    held v (r .result) (r .ensures (to-value v (λ f. f))) (not-false _ (else1 .if1 .left)) (else2 .if2 .left) _
+    held v (r .result) (tells (to-value v (λ f. f)) (r .ensures)) (not-false _ (else1 .if1 .left)) (else2 .if2 .left) _
     (omega (arith, e)) (else3 .if3 .left)
     (at-wake .wake .ensures (waking (v .on) f _ (omega (arith, e)) (else3 .if3 .left)))
 

@@ -5,7 +5,7 @@ use mathlib.Core.Path.{_∙_}
 use Prim.Native.Nat.{_<_}
 use borrow.Author.Tests.{not-true, not-false}
 use Rattle.act_floor.specs.Onward.{passing}
-use Rattle.act_alone.proofs.Values.{to-value}
+use Rattle.act_alone.proofs.Values.{to-value, tells}
 use Rattle.act_alone.proofs.Between.{raising, raised-is}
 use Rattle.act_alone.proofs.Steps.{prio-faults, prioritized}
 use Rattle.act_alone.proofs.prio.Statement.{statement}
@@ -21,7 +21,7 @@ returns : tie.Need-returns
 returns c = λ v.
     let at-value-in = c .before .before in
     let r = at-value-in .value-in in
-    prio-faults v (r .result) (r .ensures (to-value v (λ f. f))) (not-true _ (c .if1 .taken))
+    prio-faults v (r .result) (tells (to-value v (λ f. f)) (r .ensures)) (not-true _ (c .if1 .taken))
 
 greater-requires : tie.Need-greater-requires
 greater-requires c κs = search needs
@@ -57,7 +57,7 @@ returns-2 c = λ v.
     let l : r .result .code < 4294967296 = omega (arith, at-struct-known .struct-known) in
     let g = at-greater .greater .ensures in
     let d = raising (v .on) (r .result .code) _ l g (at-past .past .ensures (passing (v .on))) in
-    prioritized v (r .result) (r .ensures (to-value v (λ f. f))) (not-false _ (else1 .if1 .left))
+    prioritized v (r .result) (tells (to-value v (λ f. f)) (r .ensures)) (not-false _ (else1 .if1 .left))
     (at-set-priority .set-priority .ensures d ∙ raised-is (v .on) (r .result .code) _ l g)
 
 pub prio-spec : {M : Type 1} → statement M

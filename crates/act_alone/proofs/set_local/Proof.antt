@@ -3,7 +3,7 @@ use borrow.Author.Needs.{needs}
 use mathlib.Core.Path.{_∙_}
 use borrow.Author.Tests.{not-true, not-false}
 use Rattle.act_floor.specs.Onward.{passing}
-use Rattle.act_alone.proofs.Values.{to-value}
+use Rattle.act_alone.proofs.Values.{to-value, tells}
 use Rattle.act_alone.proofs.Between.{storing, stored-is}
 use Rattle.act_alone.proofs.Steps.{local-faults, local-set}
 use Rattle.act_alone.proofs.set_local.Statement.{statement}
@@ -19,7 +19,7 @@ returns : tie.Need-returns
 returns c = λ v.
     let at-value-in = c .before .before in
     let r = at-value-in .value-in in
-    local-faults v (r .result) (r .ensures (to-value v (λ f. f .1))) (not-true _ (c .if1 .taken)) _
+    local-faults v (r .result) (tells (to-value v (λ f. f .1)) (r .ensures)) (not-true _ (c .if1 .taken)) _
 
 past-requires : tie.Need-past-requires
 past-requires c κs = passing (c .before .before .before .before .before .before .before .pre .on)
@@ -46,7 +46,7 @@ returns-2 c = λ v.
     let at-value-in = else1 .before .before in
     let r = at-value-in .value-in in
     let d = storing (v .on) (r .result .code) (search needs) (at-past .past .ensures (passing (v .on))) in
-    local-set v (r .result) (r .ensures (to-value v (λ f. f .1))) (not-false _ (else1 .if1 .left)) _
+    local-set v (r .result) (tells (to-value v (λ f. f .1)) (r .ensures)) (not-false _ (else1 .if1 .left)) _
     (at-set-local .set-local .ensures d ∙ stored-is (v .on) (r .result .code) (search needs))
 
 pub set-local-spec : {M : Type 1} → statement M

@@ -3,7 +3,7 @@ use borrow.Author.Needs.{needs}
 use native.Mathlib.Omega.{arith}
 use borrow.Author.Tests.{not-true, not-false}
 use Rattle.act_floor.specs.Onward.{shown, low, passing}
-use Rattle.act_alone.proofs.Values.{to-value}
+use Rattle.act_alone.proofs.Values.{to-value, tells}
 use Rattle.act_alone.proofs.Steps.{trace-faults, traced}
 use Rattle.act_alone.proofs.trace.Statement.{statement}
 use Rattle.act_alone.proofs.trace.Tie as tie
@@ -18,7 +18,7 @@ returns : tie.Need-returns
 returns c = λ v.
     let at-value-in = c .before .before in
     let r = at-value-in .value-in in
-    trace-faults v (r .result) (r .ensures (to-value v (λ f. f))) (not-true _ (c .if1 .taken)) _ _
+    trace-faults v (r .result) (tells (to-value v (λ f. f)) (r .ensures)) (not-true _ (c .if1 .taken)) _ _
 
 note-requires : tie.Need-note-requires
 note-requires c κs =
@@ -44,7 +44,7 @@ returns-2 c = λ v.
     let else1 = at-note .before .before .before in
     let at-value-in = else1 .before .before in
     let r = at-value-in .value-in in
-    traced v (r .result) (r .ensures (to-value v (λ f. f))) (not-false _ (else1 .if1 .left))
+    traced v (r .result) (tells (to-value v (λ f. f)) (r .ensures)) (not-false _ (else1 .if1 .left))
     (at-past .past .ensures (passing (v .on))) _ _ (at-note .note .ensures (shown (v .on) (low (v .on))))
 
 pub trace-spec : {M : Type 1} → statement M

@@ -8,126 +8,121 @@ use Rattle.act_walk.proofs.visit.Statement.{statement}
 use Rattle.act_walk.proofs.visit.Tie as tie
 
 blocked-at-requires : tie.Need-blocked-at-requires
-blocked-at-requires c κs = listed (c .before .before .before .before .before .pre .0)
+blocked-at-requires c κs =
+    let start = c .before .before .before .before .before in
+    listed (start .pre .0)
 
 action-at-requires : tie.Need-action-at-requires
-action-at-requires c κs = let v = c .before .before .before .before .before .before .before .pre .0 in
-    (its-place v _ (place-is v _ (c .before .blocked-at .ensures .0)), v .walking .mapped .long)
-
-add-number-at : tie.Need-add-number-at
-add-number-at c = let v = c .before .before .before .before .before .before .before .before .pre .0 in
-    omega (arith, action-low v _ (place-is v _ (c .before .before .blocked-at .ensures .0)) _ (c .action-at .ensures))
-
-number-at-requires : tie.Need-number-at-requires
-number-at-requires c κs = let v = c .before .before .before .before .before .before .before .before .pre .0 in
-    omega (
-      arith,
-      v .walking .mapped .long,
-      action-low v _ (place-is v _ (c .before .before .blocked-at .ensures .0)) _
-          (c .action-at .ensures),
-    )
-
-add-number-at-2 : tie.Need-add-number-at-2
-add-number-at-2 c = let v = c .before .before .before .before .before .before .before .before .before .pre .0 in
-    omega (
-      arith,
-      action-low v _ (place-is v _ (c .before .before .before .blocked-at .ensures .0)) _
-          (c .before .action-at .ensures),
-    )
-
-number-at-requires-2 : tie.Need-number-at-requires-2
-number-at-requires-2 c κs = let v = c .before .before .before .before .before .before .before .before .before .pre .0 in
-    omega (
-      arith,
-      v .walking .mapped .long,
-      action-low v _
-          (place-is v _ (c .before .before .before .blocked-at .ensures .0)) _ (c .before .action-at .ensures),
-    )
+action-at-requires c κs =
+    let at-blocked-at = c .before in
+    let start = at-blocked-at .before .before .before .before .before .before in
+    let v = start .pre .0 in
+    (its-place v _ (place-is v _ (at-blocked-at .blocked-at .ensures .0)), v .walking .mapped .long)
 
 choice-requires : tie.Need-choice-requires
 choice-requires c κs =
-    let v = c .before .before .before .before .before .before .before .before .before .before .before .pre .0 in
-    facing v _ (place-is v _ (c .before .before .before .before .before .blocked-at .ensures .0)) _
-    (c .before .before .before .action-at .ensures)
+    let at-action-at = c .before in
+    let at-blocked-at = at-action-at .before .before in
+    let start = at-blocked-at .before .before .before .before .before .before in
+    let v = start .pre .0 in
+    facing v _ (place-is v _ (at-blocked-at .blocked-at .ensures .0)) _ (at-action-at .action-at .ensures)
 
-add-if1 : tie.Need-add-if1
-add-if1 c =
-    let v = c .before .before .before .before .before .before .before .before .before .before .before .before .pre .0 in
-    omega (
-      arith,
-      branch-few v _ (place-is v _ (c .before .before .before .before .before .before .blocked-at .ensures .0)) _
-          (c .before .before .before .before .action-at .ensures)
-          _ _ _ (c .before .before .before .number-at .ensures) (c .before .before .number-at2 .ensures) (c .choice .ensures),
-    )
+enum-known-chosen : tie.Need-enum-known-chosen
+enum-known-chosen c = search needs
+
+enum-told : tie.Need-enum-told
+enum-told c = search needs
 
 same-length : tie.Need-same-length
 same-length c = search needs
 
 returns : tie.Need-returns
-returns c = (
-  (λ v. stayed v _ (place-is v _ (c .before .before .before .before .before .before .before .blocked-at .ensures .0)) _
-      (c .before .before .before .before .before .action-at .ensures)
-      _ _ _ (c .before .before .before .before .number-at .ensures) (c .before .before .before .number-at2 .ensures)
-      (c .before .choice .ensures)
-      _ _ (c .if1 .taken)),
-  omega arith,
-)
+returns c =
+    let at-choice = c .before .before in
+    let at-action-at = at-choice .before .before in
+    let at-blocked-at = at-action-at .before .before in (
+      λ v.
+          stayed v _ (place-is v _ (at-blocked-at .blocked-at .ensures .0)) _ (at-action-at .action-at .ensures)
+          (at-choice .choice .ensures) _ _ (c .enum-told .given .1),
+      omega arith,
+    )
 
 number-of-requires : tie.Need-number-of-requires
 number-of-requires c κs =
-    let v = c .before .before .before .before .before .before .before .before .before .before .before .before .before
-    .before .pre .0 in
-    shown (v .walking) (place-low v _
-    (place-is v _ (c .before .before .before .before .before .before .before .before .blocked-at .ensures .0)))
+    let at-blocked-at = c .before .before .before .before .before .before .before .before in
+    let start = at-blocked-at .before .before .before .before .before .before in
+    let v = start .pre .0 in
+    shown (v .walking) (place-low v _ (place-is v _ (at-blocked-at .blocked-at .ensures .0)))
 
 note-requires : tie.Need-note-requires
 note-requires c κs =
-    let v = c .before .before .before .before .before .before .before .before .before .before .before .before .before
-    .before .before .before .before .pre .0 in
-    let e = place-is v _ (c .before .before .before .before .before .before .before .before .before .before .before
-    .blocked-at .ensures .0) in
-    let f = branch-few v _ e _
-    (c .before .before .before .before .before .before .before .before .before .action-at .ensures) _ _ _
-    (c .before .before .before .before .before .before .before .before .number-at .ensures)
-    (c .before .before .before .before .before .before .before .number-at2 .ensures)
-    (c .before .before .before .before .before .choice .ensures) in (
-      (
-        shown (v .walking) tt,
-        (
-          c .before .before .before .before .before .before .before .before .before .before .before .before .before .before
-              .before .before .before .pre .1,
-          omega arith,
-        ),
-      ),
-      (number-fits v _ e _ (c .before .before .number-of .ensures), omega (arith, f)),
-    )
+    let at-number-of = c .before .before in
+    let at-chosen = at-number-of .before .before .before in
+    let at-choice = at-chosen .before .before in
+    let at-action-at = at-choice .before .before in
+    let at-blocked-at = at-action-at .before .before in
+    let start = at-blocked-at .before .before .before .before .before .before in
+    let v = start .pre .0 in
+    let e = place-is v _ (at-blocked-at .blocked-at .ensures .0) in
+    let f =
+    branch-few v _ e _ (at-action-at .action-at .ensures) (at-choice .choice .ensures) (at-chosen .chosen .given .1) in
+    let fits = number-fits v _ e _ (at-number-of .number-of .ensures) in
+    ((shown (v .walking) tt, (start .pre .1, omega arith)), (fits, omega (arith, f)))
+
+add-number-at : tie.Need-add-number-at
+add-number-at c =
+    let at-action-at = c .before .before .before .before .before .before .before .before .before .before .before .before in
+    let at-blocked-at = at-action-at .before .before in
+    let start = at-blocked-at .before .before .before .before .before .before in
+    let v = start .pre .0 in
+    let e = place-is v _ (at-blocked-at .blocked-at .ensures .0) in
+    omega (arith, action-low v _ e _ (at-action-at .action-at .ensures))
+
+number-at-requires : tie.Need-number-at-requires
+number-at-requires c κs =
+    let at-action-at = c .before .before .before .before .before .before .before .before .before .before .before .before in
+    let at-blocked-at = at-action-at .before .before in
+    let start = at-blocked-at .before .before .before .before .before .before in
+    let v = start .pre .0 in
+    let e = place-is v _ (at-blocked-at .blocked-at .ensures .0) in
+    omega (arith, v .walking .mapped .long, action-low v _ e _ (at-action-at .action-at .ensures))
 
 enters-at-requires : tie.Need-enters-at-requires
 enters-at-requires c κs =
-    let v = c .before .before .before .before .before .before .before .before .before .before .before .before .before
-    .before .before .before .before .before .before .before .pre .0 in
-    at-action v _ (place-is v _
-    (c .before .before .before .before .before .before .before .before .before .before .before .before .before .before
-    .blocked-at .ensures .0)) _
-    (c .before .before .before .before .before .before .before .before .before .before .before .before .action-at .ensures)
+    let at-action-at = c .before .before .before .before .before .before .before .before .before .before .before .before
+    .before in
+    let at-blocked-at = at-action-at .before .before in
+    let start = at-blocked-at .before .before .before .before .before .before in
+    let v = start .pre .0 in
+    at-action v _ (place-is v _ (at-blocked-at .blocked-at .ensures .0)) _ (at-action-at .action-at .ensures)
 
 add-release : tie.Need-add-release
-add-release c = search needs
+add-release c =
+    let at-number-at = c .before .before in
+    let at-chosen = at-number-at .before .before .before .before .before .before .before .before .before in
+    let at-choice = at-chosen .before .before in
+    let at-action-at = at-choice .before .before in
+    let at-blocked-at = at-action-at .before .before in
+    let start = at-blocked-at .before .before .before .before .before .before in
+    let v = start .pre .0 in
+    let e = place-is v _ (at-blocked-at .blocked-at .ensures .0) in
+    let f =
+    branch-few v _ e _ (at-action-at .action-at .ensures) (at-choice .choice .ensures) (at-chosen .chosen .given .1) in
+    omega (arith, f, at-number-at .number-at .ensures)
 
 release-requires : tie.Need-release-requires
 release-requires c κs =
-    let v = c .before .before .before .before .before .before .before .before .before .before .before .before .before
-    .before .before .before .before .before .before .before .before .before .pre .0 in
-    going v _ (place-is v _
-    (c .before .before .before .before .before .before .before .before .before .before .before .before .before .before
-    .before .before .blocked-at .ensures .0)) _
-    (c .before .before .before .before .before .before .before .before .before .before .before .before .before .before
-    .action-at .ensures)
-    _ _ _ (c .before .before .before .before .before .before .before .before .before .before .before .before .before
-    .number-at .ensures) (c .before .before .before .before .before .before .before .before .before .before .before
-    .before .number-at2 .ensures)
-    (c .before .before .before .before .before .before .before .before .before .before .choice .ensures)
-    (c .before .before .before .before .before .before .before .before .before .if1 .left) _ (c .before .enters-at .ensures)
+    let at-enters-at = c .before in
+    let at-number-at = at-enters-at .before in
+    let at-chosen = at-number-at .before .before .before .before .before .before .before .before .before in
+    let at-choice = at-chosen .before .before in
+    let at-action-at = at-choice .before .before in
+    let at-blocked-at = at-action-at .before .before in
+    let start = at-blocked-at .before .before .before .before .before .before in
+    let v = start .pre .0 in
+    let e = place-is v _ (at-blocked-at .blocked-at .ensures .0) in
+    going v _ e _ (at-action-at .action-at .ensures) (at-choice .choice .ensures) (at-chosen .chosen .given .1)
+    (at-number-at .number-at .ensures) _ (at-enters-at .enters-at .ensures)
 
 same-length-2 : tie.Need-same-length-2
 same-length-2 c = search needs
@@ -136,24 +131,23 @@ same-length-3 : tie.Need-same-length-3
 same-length-3 c = search needs
 
 returns-2 : tie.Need-returns-2
-returns-2 c = (
-  (λ v. gone v _ (place-is v _
-      (c .before .before .before .before .before .before .before .before .before .before .before .before .before .before
-      .before .before .before .before .before .blocked-at .ensures .0)) _
-      (c .before .before .before .before .before .before .before .before .before .before .before .before .before .before
-      .before .before .before .action-at .ensures)
-      _ _ _ (c .before .before .before .before .before .before .before .before .before .before .before .before .before
-      .before .before .before .number-at .ensures)
-      (c .before .before .before .before .before .before .before .before .before .before .before .before .before .before
-      .before .number-at2 .ensures)
-      (c .before .before .before .before .before .before .before .before .before .before .before .before .before .choice
-      .ensures)
-      (c .before .before .before .before .before .before .before .before .before .before .before .before .if1 .left) _
-      (c .before .before .before .before .enters-at .ensures)
-      _ _ _ _ _ (c .before .before .before .before .before .before .before .before .before .before .number-of .ensures)
-      (c .before .before .before .before .before .before .before .note .ensures) (c .before .before .release .ensures)),
-  omega arith,
-)
+returns-2 c =
+    let at-release = c .before .before in
+    let at-enters-at = at-release .before .before in
+    let at-number-at = at-enters-at .before in
+    let at-note = at-number-at .before .before .before in
+    let at-number-of = at-note .before .before .before in
+    let at-chosen = at-number-of .before .before .before in
+    let at-choice = at-chosen .before .before in
+    let at-action-at = at-choice .before .before in
+    let at-blocked-at = at-action-at .before .before in (
+      λ v.
+          gone v _ (place-is v _ (at-blocked-at .blocked-at .ensures .0)) _ (at-action-at .action-at .ensures)
+          (at-choice .choice .ensures) (at-chosen .chosen .given .1)
+          (at-number-at .number-at .ensures) _ (at-enters-at .enters-at .ensures)
+          _ _ _ _ _ (at-number-of .number-of .ensures) (at-note .note .ensures) (at-release .release .ensures),
+      omega arith,
+    )
 
 pub visit-spec : {M : Type 1} → statement M
 visit-spec =
@@ -161,16 +155,15 @@ visit-spec =
     (tie.spec
     blocked-at-requires
     action-at-requires
-    add-number-at
-    number-at-requires
-    add-number-at-2
-    number-at-requires-2
     choice-requires
-    add-if1
+    enum-known-chosen
+    enum-told
     same-length
     returns
     number-of-requires
     note-requires
+    add-number-at
+    number-at-requires
     enters-at-requires
     add-release
     release-requires

@@ -3,7 +3,7 @@ use Prim.Native.Nat.{_-_, _≤_}
 use native.Mathlib.Omega.{arith}
 use mathlib.Core.Path.{refl}
 use Rattle.row_claim.specs.Asking.{Asking}
-use Rattle.row_claim.proofs.Branches.{FirstFrom, many-are, few-are, none-met, in-asks, its-claim, is-first, is-behind}
+use Rattle.row_claim.proofs.Branches.{FirstFrom, many-are, few-are, none-met, its-claim, is-first, is-behind}
 use Rattle.row_claim.proofs.first_met.Statement.{statement}
 use Rattle.row_claim.proofs.first_met.Tie as tie
 
@@ -62,10 +62,8 @@ returns c = λ v.
     let q = c .before .before .before .before .before .number-at2 .ensures in
     let t = c .before .before .before .loop-test .taken in
     let e = c .before .before .number-at3 .ensures in
-    let f = c .before .before .before .before .loop .inv .1 v in (
-      is-first _ _ _ _ v _ _ p q _ t _ e _ (c .before .met .ensures) f (c .if1 .taken),
-      omega (arith, in-asks _ _ _ _ v _ _ p q _ t),
-    )
+    let f = c .before .before .before .before .loop .inv .1 v in
+    is-first _ _ _ _ v _ _ p q _ t _ e _ (c .before .met .ensures) f (c .if1 .taken)
 
 add-k : tie.Need-add-k Inv-loop μ-loop
 add-k c = omega arith
@@ -87,7 +85,7 @@ returns-2 c = λ v.
     let l = c .before .loop in
     let p = c .before .before .before .number-at .ensures in
     let q = c .before .before .number-at2 .ensures in
-    none-met _ _ _ _ v _ _ p q _ (l .inv .0) (c .loop-test .left) (l .inv .1 v)
+    none-met _ _ _ _ v _ _ p q _ (c .loop-test .left) (l .inv .1 v)
 
 pub first-met-spec : {M : Type 1} → statement M
 first-met-spec =
