@@ -6,6 +6,7 @@ use lib.Bits.{bitAnd}
 use lib.Dec.{eqb}
 use lib.ListN.{getD}
 use Rattle.semantics.specs.Model.{resource, bin, sync, Claim}
+use Rattle.base_numbers.specs.Map as Map
 use Rattle.file_map.specs.Map.{maskOf}
 use Rattle.file_bars.specs.declared.Named.{Named}
 
@@ -31,9 +32,9 @@ namedBy c = record { resources = maskOf resource c; bins = maskOf bin c; syncs =
 abbrev pub namedAt : List ℕ → ℕ → Named
 namedAt map n =
     record {
-      resources = getD map (6_466 + n) 0;
-      bins = getD map (10_562 + n) 0;
-      syncs = getD map (14_658 + n) 0;
+      resources = getD map (Map.RESOURCES + n) 0;
+      bins = getD map (Map.BINS + n) 0;
+      syncs = getD map (Map.SYNCS + n) 0;
     }
 
 unfoldable pub branchesAt : List ℕ → ℕ → ℕ → List Named
@@ -44,4 +45,4 @@ abbrev pub branchesTo : List ℕ → ℕ → ℕ → List Named
 branchesTo map n e = branchesAt map n (e - n)
 
 abbrev pub branchesOf : List ℕ → ℕ → List Named
-branchesOf map a = branchesTo map (getD map (1_345 + a) 0) (getD map (1_345 + (a + 1)) 0)
+branchesOf map a = branchesTo map (getD map (Map.FROM + a) 0) (getD map (Map.FROM + (a + 1)) 0)

@@ -5,6 +5,7 @@ ghost use Prim.Native.Nat.{_≤_, _<_};
 ghost use lib.ListN.{length};
 ghost use Rattle.semantics.specs.Words.{any};
 ghost use Rattle.semantics.specs.Claim.{bars};
+ghost use Rattle.base_numbers.specs.Limit as Limit;
 ghost use Rattle.base_numbers.specs.Map as Map;
 ghost use Rattle.file_bars.specs.Barring.{Barring};
 ghost use Rattle.file_bars.specs.Bits.{namesNothing, within, strictlyWithin, namedAt, branchesTo};
@@ -17,7 +18,7 @@ struct Named {
 }
 
 fn named_at(map: &[u32], n: usize) -> Named
-    requires { ⌜ (length (now map) ≡ Map.WORDS) × (n < 4096) ⌝ }
+    requires { ⌜ (length (now map) ≡ Map.WORDS) × (n < Limit.BRANCHES) ⌝ }
     ensures { λ r. ⌜ r ≡ namedAt (now (map .entry)) n ⌝ }
 {
     Named {
@@ -43,7 +44,7 @@ fn within(x: Named, y: Named) -> bool
 
 // Whether x is a non-empty, strict part of what branch n names.
 fn strict_part(map: &[u32], x: Named, n: usize) -> bool
-    requires { ⌜ (length (now map) ≡ Map.WORDS) × (n < 4096) ⌝ }
+    requires { ⌜ (length (now map) ≡ Map.WORDS) × (n < Limit.BRANCHES) ⌝ }
     ensures { λ r. ⌜ r ≡ strictlyWithin x (namedAt (now (map .entry)) n) ⌝ }
 {
     let y = named_at(map, n);
@@ -52,7 +53,7 @@ fn strict_part(map: &[u32], x: Named, n: usize) -> bool
 
 // Whether branch n names such a part of what one of the branches from `from` to before `to` names.
 fn covered(map: &[u32], from: usize, to: usize, n: usize) -> bool
-    requires { ⌜ (length (now map) ≡ Map.WORDS) × ((to ≤ 4096) × (n < 4096)) ⌝ }
+    requires { ⌜ (length (now map) ≡ Map.WORDS) × ((to ≤ Limit.BRANCHES) × (n < Limit.BRANCHES)) ⌝ }
     ensures { λ r. ⌜ r ≡ any (strictlyWithin (namedAt (now (map .entry)) n)) (branchesTo (now (map .entry)) from to) ⌝ }
 {
     let x = named_at(map, n);

@@ -12,12 +12,11 @@ use Rattle.semantics.specs.Model.{Kind, resource, bin, sync, get, condition, Cl
 use Rattle.semantics.specs.Bytes.{u16}
 use Rattle.semantics.specs.Record.{item, partValid, partsOf, claimIn}
 use Rattle.semantics.specs.Claim.{Offer, enterBlock, offers, sameKind}
+use Rattle.base_numbers.specs.Limit as Limit
+use Rattle.base_numbers.specs.Map as Map
 use Rattle.file_index.specs.Ties.{ActionAt}
 
--- THE MAP has 18,754 numbers. From 0 on `first`, the actions that stand before each block; from 257 on `place`, the byte place
--- of each action's record; from 1,281 on the body block of each class; from 1,345 on `from`, the branches that stand before
--- each action; from 2,370 on the byte place of each branch's claim; from 6,466, 10,562 and 14,658 on the resources, bins and
--- syncs that it names.
+-- THE MAP has Map.WORDS numbers: base_numbers (specs, Map) says where each part begins.
 
 -- The things of one kind that a claim names, as bits.
 unfoldable pub maskOf : Kind → Claim → ℕ
@@ -27,35 +26,35 @@ maskOf k (condition i r v ∷ is) = maskOf k is
 
 -- Where the claim of the n-th branch stands.
 abbrev pub claimAt : List ℕ → ℕ → ℕ
-claimAt map n = getD map (2_370 + n) 0
+claimAt map n = getD map (Map.CLAIM + n) 0
 
 -- The n-th branch of the map is the offer o: its claim stands there whole, with the block that it enters, if it enters one,
 -- right before it.
 pub record OfferAt (bs map : List ℕ) (n : ℕ) (o : Offer) : Type 0 where
-  pub few : n < 4_096
+  pub few : n < Limit.BRANCHES
   pub behind : 2 ≤ claimAt map n
   pub inside : claimAt map n + (2 + 8 * u16 bs (claimAt map n)) ≤ length bs
   pub items-few : u16 bs (claimAt map n) ≤ 4
   pub items-valid : all (partValid item) (partsOf item (drop (claimAt map n) bs)) ≡ true
   pub claim-is : claimIn (drop (claimAt map n) bs) ≡ o .claim
   pub enters : (b : ℕ) → o .andThen ≡ enterBlock b → u16 bs (claimAt map n - 2) ≡ b
-  pub resources-are : getD map (6_466 + n) 0 ≡ maskOf resource (o .claim)
-  pub bins-are : getD map (10_562 + n) 0 ≡ maskOf bin (o .claim)
-  pub syncs-are : getD map (14_658 + n) 0 ≡ maskOf sync (o .claim)
+  pub resources-are : getD map (Map.RESOURCES + n) 0 ≡ maskOf resource (o .claim)
+  pub bins-are : getD map (Map.BINS + n) 0 ≡ maskOf bin (o .claim)
+  pub syncs-are : getD map (Map.SYNCS + n) 0 ≡ maskOf sync (o .claim)
 
 -- The branches of action a are the offers os.
 pub record OffersAt (bs map : List ℕ) (a : ℕ) (os : List Offer) : Type 0 where
-  pub from-few : getD map (1_345 + a) 0 + length os ≤ 4_096
-  pub to-is : getD map (1_345 + (a + 1)) 0 ≡ getD map (1_345 + a) 0 + length os
-  pub each : (k : ℕ) (o : Offer) → getElem? os k ≡ some o → OfferAt bs map (getD map (1_345 + a) 0 + k) o
+  pub from-few : getD map (Map.FROM + a) 0 + length os ≤ Limit.BRANCHES
+  pub to-is : getD map (Map.FROM + (a + 1)) 0 ≡ getD map (Map.FROM + a) 0 + length os
+  pub each : (k : ℕ) (o : Offer) → getElem? os k ≡ some o → OfferAt bs map (getD map (Map.FROM + a) 0 + k) o
 
 -- The map of the file bs is that of the model m.
 pub record Mapped (bs : List ℕ) (m : Model) (map : List ℕ) : Type 0 where
-  pub long : length map ≡ 18_754
-  pub first-few : (b : ℕ) → b ≤ 256 → getD map b 0 ≤ 1_024
+  pub long : length map ≡ Map.WORDS
+  pub first-few : (b : ℕ) → b ≤ Limit.BLOCKS → getD map b 0 ≤ Limit.ACTIONS
   pub first-next : (b : ℕ) → b < length (m .blocks) → getD map (b + 1) 0 ≡ getD map b 0 + length (block m b)
   pub acts-at : (b j : ℕ) (x : Action) → getElem? (block m b) j ≡ some x →
-      ActionAt bs (getD map (257 + (getD map b 0 + j)) 0) x
+      ActionAt bs (getD map (Map.PLACE + (getD map b 0 + j)) 0) x
   pub offers-at : (b j : ℕ) (x : Action) → getElem? (block m b) j ≡ some x →
       OffersAt bs map (getD map b 0 + j) (offers x)
-  pub body-is : (c : ℕ) → c < 64 → getD map (1_281 + c) 0 ≡ body m c
+  pub body-is : (c : ℕ) → c < Limit.CLASSES → getD map (Map.BODY + c) 0 ≡ body m c

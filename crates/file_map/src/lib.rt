@@ -6,6 +6,7 @@ ghost use Prim.Native.Nat.{_+_, _≤_, _<_};
 ghost use lib.ListN.{length, getD};
 ghost use lib.Seq.{sets};
 ghost use Rattle.semantics.specs.Bytes.{recordsFrom};
+ghost use Rattle.base_numbers.specs.Limit as Limit;
 ghost use Rattle.base_numbers.specs.Map as Parts;
 ghost use Rattle.file_index.specs.Index.{Readable};
 ghost use Rattle.file_map.specs.MapOf.{mapOf};
@@ -67,7 +68,7 @@ pub fn number_at(map: &[u32], i: usize) -> usize
 
 // Where the record of action a stands.
 pub fn place_of(map: &[u32], a: usize) -> usize
-    requires { ⌜ (length (now map) ≡ Parts.WORDS) × (a < 1024) ⌝ }
+    requires { ⌜ (length (now map) ≡ Parts.WORDS) × (a < Limit.ACTIONS) ⌝ }
     ensures { λ r. ⌜ r ≡ getD (now (map .entry)) (Parts.PLACE + a) 0 ⌝ }
 {
     number_at(map, map::PLACE + a)
@@ -75,7 +76,7 @@ pub fn place_of(map: &[u32], a: usize) -> usize
 
 // The number of the branches that stand before action a: its own begin there, and those of the action before it end.
 pub fn branches_from(map: &[u32], a: usize) -> usize
-    requires { ⌜ (length (now map) ≡ Parts.WORDS) × (a ≤ 1024) ⌝ }
+    requires { ⌜ (length (now map) ≡ Parts.WORDS) × (a ≤ Limit.ACTIONS) ⌝ }
     ensures { λ r. ⌜ r ≡ getD (now (map .entry)) (Parts.FROM + a) 0 ⌝ }
 {
     number_at(map, map::FROM + a)
@@ -83,7 +84,7 @@ pub fn branches_from(map: &[u32], a: usize) -> usize
 
 // Where the claim of branch n stands.
 pub fn claim_at(map: &[u32], n: usize) -> usize
-    requires { ⌜ (length (now map) ≡ Parts.WORDS) × (n < 4096) ⌝ }
+    requires { ⌜ (length (now map) ≡ Parts.WORDS) × (n < Limit.BRANCHES) ⌝ }
     ensures { λ r. ⌜ r ≡ getD (now (map .entry)) (Parts.CLAIM + n) 0 ⌝ }
 {
     number_at(map, map::CLAIM + n)

@@ -1,4 +1,8 @@
 // What `plan` prints, as bytes at the front of a lent slice: the lines of a journal, the last line, a refusal.
+use base_numbers::answer;
+use base_numbers::bound;
+use base_numbers::line;
+use base_numbers::twos;
 ghost use mathlib.Core.Path.{_≡_};
 ghost use mathlib.Core.List.{[], _∷_, _++_};
 ghost use Prim.Native.Nat.{_+_, _*_, _%_, _≤_};
@@ -13,11 +17,14 @@ ghost use Rattle.plan_text.specs.Put.{Put, Front};
 
 // ---- numbers and words at a place; each answers the place behind
 
+// Numbers are told in tens.
+const BASE: u64 = 10;
+
 // The last digit of n.
 fn digit(n: u64) -> u8
     ensures { λ r. ⌜ r ≡ 48 + n % 10 ⌝ }
 {
-    48 + ((n % 10) as u8)
+    b'0' + ((n % BASE) as u8)
 }
 
 // How many digits n has.
@@ -26,8 +33,8 @@ fn width(n: u64) -> usize
 {
     let mut rest = n;
     let mut k = 1;
-    while 10 <= rest {
-        rest /= 10;
+    while BASE <= rest {
+        rest /= BASE;
         k += 1;
     }
     k
@@ -40,10 +47,10 @@ fn spell(n: u64, out: &mut [u8], at: usize, end: usize)
 {
     let mut rest = n;
     let mut i = end;
-    while 10 <= rest {
+    while BASE <= rest {
         i -= 1;
         out[i] = digit(rest);
-        rest /= 10;
+        rest /= BASE;
     }
     out[at] = digit(rest);
 }
@@ -89,11 +96,11 @@ fn signed_field(n: u32, mark: u8, out: &mut [u8], at: usize) -> usize
     ensures { λ r. ⌜ Put (signedDecimal (signedOf n) ++ mark ∷ []) (now (out .entry)) at (now (out .exit)) r ⌝ }
     ensures { λ r. ⌜ r ≤ at + 12 ⌝ }
 {
-    if n < 2147483648 {
+    if n < twos::NEGATIVE {
         return field(n, mark, out, at);
     }
     out[at] = b'-';
-    field(4294967295 - n + 1, mark, out, at + 1)
+    field(twos::HIGHEST - n + 1, mark, out, at + 1)
 }
 
 // The line that the journal begins with: 40 bytes at most.
@@ -103,10 +110,20 @@ fn line<'a>(journal: &'a [u8], out: &'a mut [u8], at: usize) -> usize
     ensures { λ r. ⌜ Put (lineText (tellIn (now (journal .entry)))) (now (out .entry)) at (now (out .exit)) r ⌝ }
     ensures { λ r. ⌜ r ≤ at + 40 ⌝ }
 {
-    let process = field(file_fields::u32_at(journal, 4), b' ', out, at);
-    let kind = field(file_fields::u32_at(journal, 8), b' ', out, process);
-    let value = field(file_fields::u16_at(journal, 2), b' ', out, kind);
-    signed_field(file_fields::u32_at(journal, 12), b'\n', out, value)
+    let process = field(file_fields::u32_at(journal, line::TIME_AT), b' ', out, at);
+    let kind = field(
+        file_fields::u32_at(journal, line::PROCESS_AT),
+        b' ',
+        out,
+        process,
+    );
+    let value = field(file_fields::u16_at(journal, line::KIND_AT), b' ', out, kind);
+    signed_field(
+        file_fields::u32_at(journal, line::VALUE_AT),
+        b'\n',
+        out,
+        value,
+    )
 }
 
 // The first n lines of the journal, at the front of `out`; answers how many bytes they are.
@@ -120,7 +137,7 @@ pub fn lines<'a>(journal: &'a [u8], n: usize, out: &'a mut [u8]) -> usize
     let mut at = 0;
     while 0 < left {
         at = line(rest, out, at);
-        rest = &rest[16..];
+        rest = &rest[line::BYTES..];
         left -= 1;
     }
     at
@@ -134,13 +151,13 @@ fn answered(answer: u32, out: &mut [u8]) -> usize
     ensures { λ r. ⌜ Put (answerText (answerOf answer) ++ 32 ∷ []) (now (out .entry)) 0 (now (out .exit)) r ⌝ }
     ensures { λ r. ⌜ r ≤ 17 ⌝ }
 {
-    if answer == 0 {
+    if answer == answer::CLOSED {
         return word(b"closed ", out, 0);
     }
-    if answer == 1 {
+    if answer == answer::IDLE {
         return word(b"idle ", out, 0);
     }
-    if answer == 2 {
+    if answer == answer::LIMIT {
         return word(b"limit ", out, 0);
     }
     let at = word(b"fault ", out, 0);
@@ -153,10 +170,10 @@ fn bounded(bound: u64, out: &mut [u8], at: usize) -> usize
     ensures { λ r. ⌜ Put (boundText (boundOf bound) ++ 10 ∷ []) (now (out .entry)) at (now (out .exit)) r ⌝ }
     ensures { λ r. ⌜ r ≤ at + 11 ⌝ }
 {
-    if bound < 4294967296 {
+    if bound < bound::NONE {
         return field(bound as u32, b'\n', out, at);
     }
-    if bound < 8589934592 {
+    if bound < bound::OVER {
         return word(b"none\n", out, at);
     }
     word(b"over\n", out, at)

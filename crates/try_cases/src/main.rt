@@ -7,6 +7,14 @@ use file_check::Refusal;
 ghost use Prim.Native.Nat.{_≤_};
 ghost use lib.ListN.{length};
 
+// Room for cases.bin, and for a model: more than the largest that is accepted.
+const FILE: usize = 131072;
+
+const MODEL: usize = 70000;
+
+// Room for the digits of a u64.
+const DIGITS: usize = 20;
+
 // Where a function got to: the next byte of cases.bin, how much of its buffer is filled, and whether all was whole so far.
 struct Place {
     next: usize,
@@ -51,7 +59,7 @@ fn put_number(n: u64, room: &mut [u8], filled: usize) -> usize
     requires { ⌜ filled ≤ length (now room) ⌝ }
     ensures { λ r. ⌜ r ≤ length (now (room .exit)) ⌝ }
 {
-    let mut digits = [0u8; 20];
+    let mut digits = [0u8; DIGITS];
     let k = io::decimal(n, &mut digits);
     put(&digits[..k], room, filled)
 }
@@ -241,8 +249,8 @@ fn answer_all(file: &[u8], model: &mut [u8], out: &mut [u8]) -> Place
 }
 
 fn main() {
-    let mut file = [0u8; 131072];
-    let mut model = [0u8; 70000];
+    let mut file = [0u8; FILE];
+    let mut model = [0u8; MODEL];
     let mut out = io::buffer();
     let fd = os::open_read(b"cases.bin");
     let size = io::read_full(fd, &mut file);

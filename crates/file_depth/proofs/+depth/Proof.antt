@@ -82,7 +82,8 @@ depth-loop-holds : (t : ℕ) → depth-lts.Need-loop-holds (depth-claims t) (dep
 depth-loop-holds t c = let p = c .before .before .before .before .pre .1 in
     begun (p .1 .1) (c .before .start .ensures) (c .start2 .ensures) (names-rise (p .0) (p .1 .0))
 
-depth-mul-short-index : (t : ℕ) → depth-lts.Need-mul-short-index (depth-claims t) (depth-at t) depth.Post depth-Inv-loop depth-μ-loop
+depth-mul-short-index : (t : ℕ) →
+    depth-lts.Need-mul-short-index (depth-claims t) (depth-at t) depth.Post depth-Inv-loop depth-μ-loop
 depth-mul-short-index t c = let p = c .before .before .before .before .before .before .pre .1 in
     omega (arith, c .loop-test .taken, in-range (p .0) (p .1 .0) (c .before .loop .inv))
 
@@ -91,7 +92,8 @@ depth-element-copy-out-short-index : (t : ℕ) →
 depth-element-copy-out-short-index t c = let p = c .before .before .before .before .before .before .pre .1 in
     omega (arith, c .loop-test .taken, in-range (p .0) (p .1 .0) (c .before .loop .inv))
 
-depth-short-index-requires : (t : ℕ) → depth-lts.Need-short-index-requires (depth-claims t) (depth-at t) depth.Post depth-Inv-loop depth-μ-loop
+depth-short-index-requires : (t : ℕ) →
+    depth-lts.Need-short-index-requires (depth-claims t) (depth-at t) depth.Post depth-Inv-loop depth-μ-loop
 depth-short-index-requires t c κs = search needs
 
 depth-depth-requires : (t : ℕ) →
