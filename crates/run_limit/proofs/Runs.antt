@@ -16,7 +16,7 @@ use Rattle.semantics.specs.Walk.{Line, Next}
 use Rattle.semantics.specs.Step.{step}
 use Rattle.semantics.specs.Run as definition
 use Rattle.semantics.specs.Run.{CLOSED, IDLE, LIMIT, FAULT, stopped, further, Before, isClosed, isIdle, goesOn, before, run}
-use Rattle.semantics.specs.Run.{lines as roomFor}
+use Rattle.semantics.specs.Run.{roomFor}
 use Rattle.promises.specs.Laws.{not-ok}
 use Rattle.promises.specs.Safe.{Safe, above}
 use Rattle.run_limit.specs.Halts.{haltedBy}

@@ -14,7 +14,7 @@ use Rattle.semantics.specs.State.{State}
 use Rattle.semantics.specs.Walk.{Line, Next}
 use Rattle.semantics.specs.Step.{step}
 use Rattle.semantics.specs.Run as definition
-use Rattle.semantics.specs.Run.{FAULT, stopped, Before, isClosed, isIdle, goesOn, before, run, lines as roomFor}
+use Rattle.semantics.specs.Run.{FAULT, stopped, Before, isClosed, isIdle, goesOn, before, run, roomFor}
 use Rattle.semantics.specs.Journal.{roomIn, written}
 use Rattle.promises.specs.Laws.{no-way, and-true}
 use Rattle.promises.specs.Sound.{Sound}

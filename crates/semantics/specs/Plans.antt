@@ -52,7 +52,7 @@ REQ is = rec K.REQ (le16 (length is) ++ collect (λ i. 0 ∷ 0 ∷ le16 i ++ le3
 one : List ℕ → List ℕ
 one bs = CLASS 0 ++ ENTITY 0 0 ++ BLOCK ++ bs
 
--- DO n of an empty block.
+-- DO n of an empty block: all that block 0 has, so that block 0 weighs what the DO weighs.
 doing : ℕ → List ℕ
 unfolding one
 doing n = one (DO n 1 ++ BLOCK)
