@@ -3,7 +3,7 @@ use Prim.Native.Nat.{ℕ}
 use mathlib.Core.Path.{_≡_, sym, _∙_, ap}
 use mathlib.Core.List.{List, map}
 use Rattle.semantics.specs.Run.{Ran}
-use Rattle.semantics.specs.Plan.{told}
+use Rattle.semantics.specs.Plan.{printLine}
 use Rattle.plan_text.specs.Text.{linesText}
 use Rattle.plan_text.specs.Same.{same-front}
 use Rattle.plan_turn.specs.declared.Answered.{Answered}
@@ -19,7 +19,7 @@ pub same-answered : {G : Type 0} (d : G → Ran) (r r′ : Answered) (x x′ j k
 same-answered d r r′ x x′ j k k′ out y y′ v h i =
     let t = h v in
     let u = i v in
-    let f = same-front (linesText (map told (d v .lines))) out y y′ (r .bytes) (r′ .bytes) (t .text-is) (u .text-is) in (
+    let f = same-front (linesText (map printLine (d v .lines))) out y y′ (r .bytes) (r′ .bytes) (t .text-is) (u .text-is) in (
       ap (λ a. answeredAs a (r .steps) (r .bytes)) (t .answer-is ∙ sym (u .answer-is))
           ∙ ap (λ n. answeredAs (r′ .answer) n (r .bytes)) (t .steps-are ∙ sym (u .steps-are))
           ∙ ap (answeredAs (r′ .answer) (r′ .steps)) (f .0),
