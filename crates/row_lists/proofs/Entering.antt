@@ -9,6 +9,7 @@ use lib.ListN.{getD, take, drop}
 use Rattle.semantics.specs.Words.{if_then_else_, insert}
 use Rattle.semantics.specs.State.{State, Event, enter, sooner}
 use Rattle.promises.specs.Laws.{AllOf, all-map}
+use Rattle.base_numbers.specs.Row as Row
 use Rattle.base_ordered.specs.Lines.{inserted, placeOf, eventKey}
 use Rattle.base_ordered.specs.Order.{Keyed, insert-placed, insert-length, sooner-key, event-below, event-key-low}
 use Rattle.base_ordered.specs.Shown.{placed}
@@ -46,7 +47,8 @@ module _ {w : List ℕ} {key word : ℕ} (d : Entering w key word) where
       all-map EventSized _ (λ f k. sooner-key e f (is-sized .priority-ok) (k .priority-ok)) (s .events)
       (d .doing .before .events-ok)
 
-  module _ {at : ℕ} (found : at ≡ placeOf (λ y. ltb y (key + 1)) (take (getD w 5 0) (take 128 (drop 200 w)))) where
+  module _ {at : ℕ} (found : at ≡ placeOf (λ y. ltb y (key + 1))
+      (take (getD w Row.EVENTS 0) (take Row.EVENTS_MOST (drop Row.KEYS w)))) where
     pub place-is : inserted at e (s .events) ≡ enter e (s .events)
     unfolding enter
     place-is = ap (λ i. inserted i e (s .events)) place ∙ insert-placed sooner eventKey e (s .events) keyed
@@ -54,11 +56,13 @@ module _ {w : List ℕ} {key word : ℕ} (d : Entering w key word) where
         place : at ≡ placeOf (λ f. leb (eventKey f) (eventKey e)) (s .events)
         place =
             found
-            ∙ ap (λ k. placeOf (λ y. ltb y (k + 1)) (take (getD w 5 0) (take 128 (drop 200 w)))) (d .key-is)
-            ∙ placed eventKey (s .events) 128 _ _ (keys-there (at-first (d .doing)) .are) (count-is (at-first (d .doing))) _
+            ∙ ap (λ k. placeOf (λ y. ltb y (k + 1)) (take (getD w Row.EVENTS 0) (take Row.EVENTS_MOST (drop Row.KEYS w))))
+            (d .key-is)
+            ∙ placed eventKey (s .events) Row.EVENTS_MOST _ _ (keys-there (at-first (d .doing)) .are)
+            (count-is (at-first (d .doing))) _
             ∙ ap (λ q. placeOf q (s .events)) (fun-ext (event-below e))
 
-    unfoldable pub puts-in : at ≤ getD w 5 0 → Putting w at key word
+    unfoldable pub puts-in : at ≤ getD w Row.EVENTS 0 → Putting w at key word
     unfolding enter
     puts-in l =
         let c = count-is (at-first (d .doing)) in

@@ -5,6 +5,7 @@ use mathlib.Core.Path.{_≡_, _∙_, ap}
 use mathlib.Core.List.{List, _++_, map}
 use lib.ListN.{length, getD, set, take, drop}
 use Rattle.semantics.specs.State.{State, Event, with-events}
+use Rattle.base_numbers.specs.Row as Row
 use Rattle.base_ordered.specs.Lines.{pad, Canon, inserted, eventKey, eventWord}
 use Rattle.base_ordered.specs.Order.{inserted-length}
 use Rattle.base_ordered.specs.Shown.{canon}
@@ -18,68 +19,72 @@ use Rattle.row_lists.proofs.Rows.{row-put}
 
 -- Rows that show the list es: of its keys, and of its words.
 pub record Keys (es : List Event) (ks : List ℕ) : Type 0 where
-  pub few : length es ≤ 128
-  pub are : ks ≡ pad 128 (map eventKey es)
+  pub few : length es ≤ Row.EVENTS_MOST
+  pub are : ks ≡ pad Row.EVENTS_MOST (map eventKey es)
 
 pub record Words (es : List Event) (ws : List ℕ) : Type 0 where
-  pub few : length es ≤ 128
-  pub are : ws ≡ pad 128 (map eventWord es)
+  pub few : length es ≤ Row.EVENTS_MOST
+  pub are : ws ≡ pad Row.EVENTS_MOST (map eventWord es)
 
-pub keys-wide : {es : List Event} {ks : List ℕ} → Keys es ks → length ks ≡ 128
-keys-wide {es} k = ap length (k .are) ∙ row-length 128 eventKey es (k .few)
+pub keys-wide : {es : List Event} {ks : List ℕ} → Keys es ks → length ks ≡ Row.EVENTS_MOST
+keys-wide {es} k = ap length (k .are) ∙ row-length Row.EVENTS_MOST eventKey es (k .few)
 
-pub words-wide : {es : List Event} {ws : List ℕ} → Words es ws → length ws ≡ 128
-words-wide {es} k = ap length (k .are) ∙ row-length 128 eventWord es (k .few)
+pub words-wide : {es : List Event} {ws : List ℕ} → Words es ws → length ws ≡ Row.EVENTS_MOST
+words-wide {es} k = ap length (k .are) ∙ row-length Row.EVENTS_MOST eventWord es (k .few)
 
 module _ {w : List ℕ} {P : State → Type 0} (v : Shown w P) where
   abbrev s : State
   s = v .is
 
-  pub long : length w ≡ 10_696
+  pub long : length w ≡ Row.WORDS
   long = ap length (v .shows) ∙ work-long s (v .sized)
 
-  pub count-is : getD w 5 0 ≡ length (s .events)
-  count-is = ap (λ l. getD l 5 0) (v .shows) ∙ events-count s
+  pub count-is : getD w Row.EVENTS 0 ≡ length (s .events)
+  count-is = ap (λ l. getD l Row.EVENTS 0) (v .shows) ∙ events-count s
 
-  pub keys-there : Keys (s .events) (take 128 (drop 200 w))
+  pub keys-there : Keys (s .events) (take Row.EVENTS_MOST (drop Row.KEYS w))
   keys-there =
-      record { few = v .sized .events-few; are = ap (λ l. take 128 (drop 200 l)) (v .shows) ∙ keys-part s (v .sized) }
+      record { few = v .sized .events-few; are = ap (λ l. take Row.EVENTS_MOST (drop Row.KEYS l)) (v .shows)
+      ∙ keys-part s (v .sized) }
 
-  pub keys-canon : Canon (take 128 (drop 200 w)) (getD w 5 0)
-  keys-canon = canon eventKey (s .events) 128 _ _ (keys-there .are) count-is
+  pub keys-canon : Canon (take Row.EVENTS_MOST (drop Row.KEYS w)) (getD w Row.EVENTS 0)
+  keys-canon = canon eventKey (s .events) Row.EVENTS_MOST _ _ (keys-there .are) count-is
 
-  pub words-here : Words (s .events) (take 128 (drop 328 w))
+  pub words-here : Words (s .events) (take Row.EVENTS_MOST (drop Row.NOTICES w))
   words-here =
-      record { few = v .sized .events-few; are = ap (λ l. take 128 (drop 328 l)) (v .shows) ∙ words-part s (v .sized) }
+      record { few = v .sized .events-few; are = ap (λ l. take Row.EVENTS_MOST (drop Row.NOTICES l)) (v .shows)
+      ∙ words-part s (v .sized) }
 
-  pub words-here-canon : Canon (take 128 (drop 328 w)) (getD w 5 0)
-  words-here-canon = canon eventWord (s .events) 128 _ _ (words-here .are) count-is
+  pub words-here-canon : Canon (take Row.EVENTS_MOST (drop Row.NOTICES w)) (getD w Row.EVENTS 0)
+  words-here-canon = canon eventWord (s .events) Row.EVENTS_MOST _ _ (words-here .are) count-is
 
   -- Another list es is written: its keys ks,
   module _ {es : List Event} {ks : List ℕ} (k : Keys es ks) where
     abbrev rekeyed : List ℕ → List ℕ
-    rekeyed l = take 200 l ++ (ks ++ drop 128 (drop 200 l))
+    rekeyed l = take Row.KEYS l ++ (ks ++ drop Row.EVENTS_MOST (drop Row.KEYS l))
 
-    pub rekeyed-long : length (rekeyed w) ≡ 10_696
-    rekeyed-long = let l = long in whole-long w 200 128 ks (omega arith) (keys-wide k) ∙ l
+    pub rekeyed-long : length (rekeyed w) ≡ Row.WORDS
+    rekeyed-long = let l = long in whole-long w Row.KEYS Row.EVENTS_MOST ks (omega arith) (keys-wide k) ∙ l
 
-    pub words-there : Words (s .events) (take 128 (drop 328 (rekeyed w)))
+    pub words-there : Words (s .events) (take Row.EVENTS_MOST (drop Row.NOTICES (rekeyed w)))
     words-there =
         record {
           few = v .sized .events-few;
-          are = ap (λ l. take 128 (drop 328 (rekeyed l))) (v .shows) ∙ words-still s (v .sized) ks (keys-wide k);
+          are = ap (λ l. take Row.EVENTS_MOST (drop Row.NOTICES (rekeyed l))) (v .shows)
+              ∙ words-still s (v .sized) ks (keys-wide k);
         }
 
-    pub words-canon : Canon (take 128 (drop 328 (rekeyed w))) (getD w 5 0)
-    words-canon = canon eventWord (s .events) 128 _ _ (words-there .are) count-is
+    pub words-canon : Canon (take Row.EVENTS_MOST (drop Row.NOTICES (rekeyed w))) (getD w Row.EVENTS 0)
+    words-canon = canon eventWord (s .events) Row.EVENTS_MOST _ _ (words-there .are) count-is
 
     -- its words ws, and how many there are.
     module _ {ws : List ℕ} (x : Words es ws) where
       abbrev rewritten : List ℕ → List ℕ
-      rewritten l = take 328 (rekeyed l) ++ (ws ++ drop 128 (drop 328 (rekeyed l)))
+      rewritten l = take Row.NOTICES (rekeyed l) ++ (ws ++ drop Row.EVENTS_MOST (drop Row.NOTICES (rekeyed l)))
 
-      pub rewritten-long : length (rewritten w) ≡ 10_696
-      rewritten-long = let l = rekeyed-long in whole-long (rekeyed w) 328 128 ws (omega arith) (words-wide x) ∙ l
+      pub rewritten-long : length (rewritten w) ≡ Row.WORDS
+      rewritten-long = let l = rekeyed-long in whole-long (rekeyed w) Row.NOTICES Row.EVENTS_MOST ws (omega arith) (words-wide x)
+          ∙ l
 
       pub events-written : (n : ℕ) → n ≡ length es → set (rewritten w) 5 n ≡ workOf (with-events s es)
       events-written n e =
@@ -96,25 +101,27 @@ module _ {w : List ℕ} {at key word : ℕ} (d : Putting w at key word) where
   more-long : length more ≡ length old + 1
   more-long = inserted-length at (d .event) old (d .shown .given .0)
 
-  more-few : length more ≤ 128
+  more-few : length more ≤ Row.EVENTS_MOST
   more-few = let g = d .shown .given in omega (arith, more-long)
 
-  pub more-count : getD w 5 0 + 1 ≡ length more
+  pub more-count : getD w Row.EVENTS 0 + 1 ≡ length more
   more-count = omega (arith, count-is (d .shown), more-long)
 
   pub keys-put : {ks : List ℕ}
-      → ks ≡ pad (length (take 128 (drop 200 w))) (inserted at key (take (getD w 5 0) (take 128 (drop 200 w)))) → Keys more ks
+      → ks ≡ pad (length (take Row.EVENTS_MOST (drop Row.KEYS w)))
+      (inserted at key (take (getD w Row.EVENTS 0) (take Row.EVENTS_MOST (drop Row.KEYS w)))) → Keys more ks
   keys-put e =
       let k = keys-there (d .shown) in
       record {
         few = more-few;
-        are = row-put eventKey old 128 _ _ (k .are) (count-is (d .shown)) (k .few) at key (d .event) (d .key-is) _ e;
+        are = row-put eventKey old Row.EVENTS_MOST _ _ (k .are) (count-is (d .shown)) (k .few) at key (d .event) (d .key-is) _ e;
       }
 
   pub words-put : {xs ws : List ℕ} → Words old xs
-      → ws ≡ pad (length xs) (inserted at word (take (getD w 5 0) xs)) → Words more ws
+      → ws ≡ pad (length xs) (inserted at word (take (getD w Row.EVENTS 0) xs)) → Words more ws
   words-put k e =
       record {
         few = more-few;
-        are = row-put eventWord old 128 _ _ (k .are) (count-is (d .shown)) (k .few) at word (d .event) (d .word-is) _ e;
+        are = row-put eventWord old Row.EVENTS_MOST _ _ (k .are) (count-is (d .shown)) (k .few) at word (d .event)
+            (d .word-is) _ e;
       }

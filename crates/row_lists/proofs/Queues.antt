@@ -9,6 +9,8 @@ use lib.IntN.{pos}
 use Rattle.semantics.specs.Words.{insert}
 use Rattle.semantics.specs.State.{Waiter, higher}
 use Rattle.promises.specs.Laws.{all-map, all-get}
+use Rattle.base_numbers.specs.Row as Row
+use Rattle.base_numbers.specs.Word as Word
 use Rattle.base_ordered.specs.Lines.{pad, Canon, inserted, removed, placeOf, waiterKey, waiterWord}
 use Rattle.base_ordered.specs.Order.{Keyed, insert-placed, higher-key, waiter-below, word-place}
 use Rattle.base_ordered.specs.Shown.{canon, placed, same-placed}
@@ -20,54 +22,54 @@ use Rattle.row_lists.proofs.Rows.{row-wide, row-put, row-out}
 
 module _ {w : List ℕ} {from count : ℕ} {ws : List Waiter} (q : Queue w from count ws) where
   abbrev row : List ℕ
-  row = take (from + 64 - from) (drop from w)
+  row = take (from + Row.WAITERS_MOST - from) (drop from w)
 
-  width : from + 64 - from ≡ 64
+  width : from + Row.WAITERS_MOST - from ≡ Row.WAITERS_MOST
   width = omega arith
 
   row-here : row ≡ waitersRow ws
   row-here = ap (λ n. take n (drop from w)) width ∙ q .row-is
 
   pub here-canon : Canon row (getD w count 0)
-  here-canon = canon waiterWord ws 64 row _ row-here (q .count-is)
+  here-canon = canon waiterWord ws Row.WAITERS_MOST row _ row-here (q .count-is)
 
-  pub here-wide : length row ≡ 64
-  here-wide = row-wide waiterWord ws 64 row _ row-here (q .count-is) (q .sized .few)
+  pub here-wide : length row ≡ Row.WAITERS_MOST
+  here-wide = row-wide waiterWord ws Row.WAITERS_MOST row _ row-here (q .count-is) (q .sized .few)
 
   -- Another list in its place.
   replaced : (xs : List Waiter) (ys : List ℕ) (m n : ℕ) → ys ≡ waitersRow xs → m ≡ n
-      → set (take from w ++ (ys ++ drop (from + 64 - from) (drop from w))) count m ≡ queued w from count xs n
+      → set (take from w ++ (ys ++ drop (from + Row.WAITERS_MOST - from) (drop from w))) count m ≡ queued w from count xs n
   replaced xs ys m n a b =
       ap (λ k. set (take from w ++ (ys ++ drop k (drop from w))) count m) width
-      ∙ ap (λ l. set (take from w ++ (l ++ drop 64 (drop from w))) count m) a
+      ∙ ap (λ l. set (take from w ++ (l ++ drop Row.WAITERS_MOST (drop from w))) count m) a
       ∙ ap (λ k. queued w from count xs k) b
 
   -- The place of the one at k.
-  pub place-at : (k : ℕ) → k < length ws → getD w (from + k) 0 % 64 ≡ getD (map (λ x. x .place) ws) k 0
+  pub place-at : (k : ℕ) → k < length ws → getD w (from + k) 0 % Word.PLACES ≡ getD (map (λ x. x .place) ws) k 0
   place-at k h =
       let l = q .sized .few in
       let c : length (map waiterWord ws) ≡ length ws = length-map ws waiterWord in
       let x : Waiter = getD ws k (record { priority = pos 0; place = 0 }) in
       let z : WaiterSized x = all-get WaiterSized ws k _ (q .sized .each) (omega arith) in
-      ap (λ n. n % 64)
-      (sym (part-at w from 64 k (omega arith))
+      ap (λ n. n % Word.PLACES)
+      (sym (part-at w from Row.WAITERS_MOST k (omega arith))
       ∙ ap (λ r. getD r k 0) (q .row-is)
-      ∙ pad-at 64 (map waiterWord ws) k (omega arith)
+      ∙ pad-at Row.WAITERS_MOST (map waiterWord ws) k (omega arith)
       ∙ get-map waiterWord ws k _ h)
       ∙ word-place x (z .place-low)
       ∙ sym (get-map (λ x. x .place) ws k _ h)
 
 -- The limit just above the key finds the place behind its equals.
 pub found : {w : List ℕ} {from count key r : ℕ} (d : Seeking w from count key)
-    → r ≡ placeOf (λ y. ltb y (64 * (key + 1))) (take (getD w count 0) (row (d .queue))) → r ≤ getD w count 0
+    → r ≡ placeOf (λ y. ltb y (Word.KEY * (key + 1))) (take (getD w count 0) (row (d .queue))) → r ≤ getD w count 0
     → Sought w from count key r d
 found {w} {from} {count} d e l =
     let q = d .queue in
     record {
       place-is =
           e
-          ∙ ap (λ k. placeOf (λ y. ltb y (64 * (k + 1))) (take (getD w count 0) (row q))) (d .key-is)
-          ∙ placed waiterWord (d .line) 64 (row q) _ (row-here q) (q .count-is) _
+          ∙ ap (λ k. placeOf (λ y. ltb y (Word.KEY * (k + 1))) (take (getD w count 0) (row q))) (d .key-is)
+          ∙ placed waiterWord (d .line) Row.WAITERS_MOST (row q) _ (row-here q) (q .count-is) _
           ∙ same-placed _ _ (d .line)
           (all-map WaiterSized _ (λ v k. waiter-below (d .who) v (k .place-low)) (d .line) (q .sized .each));
       in-line = omega (arith, q .count-is);
@@ -86,24 +88,24 @@ module _ {w : List ℕ} {from count key place : ℕ} (d : Joining w from count k
 
   pub joined : (at : ℕ) (ys : List ℕ) → at ≡ before who line
       → ys ≡ pad (length (row (d .seeking .queue)))
-      (inserted at (64 * key + place) (take (getD w count 0) (row (d .seeking .queue))))
-      → set (take from w ++ (ys ++ drop (from + 64 - from) (drop from w))) count (getD w count 0 + 1)
+      (inserted at (Word.KEY * key + place) (take (getD w count 0) (row (d .seeking .queue))))
+      → set (take from w ++ (ys ++ drop (from + Row.WAITERS_MOST - from) (drop from w))) count (getD w count 0 + 1)
       ≡ queued w from count (insert higher who line) (length line + 1)
   joined at ys a b =
       let q = d .seeking .queue in
-      let v : 64 * key + place ≡ waiterWord who = omega (arith, d .seeking .key-is, d .place-is) in
+      let v : Word.KEY * key + place ≡ waiterWord who = omega (arith, d .seeking .key-is, d .place-is) in
       replaced q (insert higher who line) ys _ _
-      (row-put waiterWord line 64 (row q) _ (row-here q) (q .count-is) (q .sized .few) at _ who v ys b
+      (row-put waiterWord line Row.WAITERS_MOST (row q) _ (row-here q) (q .count-is) (q .sized .few) at _ who v ys b
       ∙ ap (λ i. waitersRow (inserted i who line)) a
       ∙ ap waitersRow (insert-placed higher waiterKey who line keyed))
       (ap (λ n. n + 1) (q .count-is))
 
 pub parted : {w : List ℕ} {from count k : ℕ} (d : Parting w from count k) (ys : List ℕ)
     → ys ≡ pad (length (row (d .queue))) (removed k (take (getD w count 0) (row (d .queue))))
-    → set (take from w ++ (ys ++ drop (from + 64 - from) (drop from w))) count (getD w count 0 - 1)
+    → set (take from w ++ (ys ++ drop (from + Row.WAITERS_MOST - from) (drop from w))) count (getD w count 0 - 1)
     ≡ queued w from count (removed k (d .line)) (length (d .line) - 1)
 parted {k = k} d ys b =
     let q = d .queue in
     replaced q (removed k (d .line)) ys _ _
-    (row-out waiterWord (d .line) 64 (row q) _ (row-here q) (q .count-is) (q .sized .few) k ys b)
+    (row-out waiterWord (d .line) Row.WAITERS_MOST (row q) _ (row-here q) (q .count-is) (q .sized .few) k ys b)
     (ap (λ n. n - 1) (q .count-is))

@@ -4,8 +4,12 @@ use native.Mathlib.Omega.{arith}
 use mathlib.Core.Path.{_≡_, _∙_, ap}
 use mathlib.Core.List.{List}
 use lib.ListN.{getD}
+use Rattle.semantics.specs.Numbers as No
 use Rattle.semantics.specs.State.{State, nobody, process}
 use Rattle.promises.specs.Laws.{all-get}
+use Rattle.base_numbers.specs.Row as Row
+use Rattle.base_numbers.specs.Process as Process
+use Rattle.base_numbers.specs.Code as Code
 use Rattle.base_i32.specs.Code.{code}
 use Rattle.base_i32.specs.Laws.{code-fits}
 use Rattle.row_work.specs.Work.{processRow, ProcessSized}
@@ -19,9 +23,10 @@ module _ {w : List ℕ} {P : State → Type 0} (v : Shown w P) (p : ℕ) where
   pub is-sized : ProcessSized (process s p)
   is-sized = all-get ProcessSized (s .processes) p nobody (v .sized .processes-ok) (omega arith)
 
-  pub priority-is : p < 64 → getD w (2_504 + 128 * p + 1) 0 ≡ code (process s p .priority)
+  pub priority-is : p < No.places → getD w (Row.PROCESSES + Process.WORDS * p + Process.PRIORITY) 0 ≡ code (process s p .priority)
   unfolding processRow
-  priority-is l = ap (λ x. getD x (2_504 + 128 * p + 1) 0) (v .shows) ∙ process-at s (v .sized) p 1 l (omega arith)
+  priority-is l = ap (λ x. getD x (Row.PROCESSES + Process.WORDS * p + Process.PRIORITY) 0) (v .shows)
+      ∙ process-at s (v .sized) p 1 l (omega arith)
 
-  pub priority-low : code (process s p .priority) < 4_294_967_296
+  pub priority-low : code (process s p .priority) < Code.CODES
   priority-low = code-fits (process s p .priority) (is-sized .priority-ok)

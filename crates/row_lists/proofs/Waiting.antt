@@ -7,6 +7,8 @@ use lib.ListN.{length, getD, set, take, drop, length-drop}
 use lib.Seq.{getD-set-same}
 use Rattle.semantics.specs.State.{State, Waiter, higher, join, with-blocked, with-waiting}
 use Rattle.promises.specs.Laws.{AllOf, all-get}
+use Rattle.base_numbers.specs.Row as Row
+use Rattle.base_numbers.specs.Word as Word
 use Rattle.base_ordered.specs.Lines.{removed, waiterKey}
 use Rattle.base_ordered.specs.Order.{insert-length, removed-length}
 use Rattle.row_work.specs.Work.{workOf, WaitersSized, Doing}
@@ -25,49 +27,52 @@ module _ {w : List ℕ} {P : State → Type 0} (v : Shown w P) where
   abbrev s : State
   s = v .is
 
-  pub blocked-queue : Queue w 136 6 (s .blocked)
+  pub blocked-queue : Queue w Row.QUEUE Row.BLOCKED (s .blocked)
   blocked-queue =
       record {
         long = long v;
         row-in = omega arith;
         count-in = omega arith;
-        row-is = ap (λ l. take 64 (drop 136 l)) (v .shows) ∙ blocked-part s (v .sized);
-        count-is = ap (λ l. getD l 6 0) (v .shows) ∙ blocked-count s;
+        row-is = ap (λ l. take Row.WAITERS_MOST (drop Row.QUEUE l)) (v .shows) ∙ blocked-part s (v .sized);
+        count-is = ap (λ l. getD l Row.BLOCKED 0) (v .shows) ∙ blocked-count s;
         sized = v .sized .blocked-ok;
       }
 
-  pub blocked-written : (x : List ℕ) (ws : List Waiter) (n : ℕ) → x ≡ queued w 136 6 ws n → n ≡ length ws
+  pub blocked-written : (x : List ℕ) (ws : List Waiter) (n : ℕ) → x ≡ queued w Row.QUEUE Row.BLOCKED ws n → n ≡ length ws
       → x ≡ workOf (with-blocked s ws)
-  blocked-written x ws n e c = e ∙ ap (λ l. queued l 136 6 ws n) (v .shows) ∙ blocked-changed s (v .sized) ws n c
+  blocked-written x ws n e c = e ∙ ap (λ l. queued l Row.QUEUE Row.BLOCKED ws n) (v .shows) ∙ blocked-changed s (v .sized) ws n c
 
   module _ (i : ℕ) (there : i < length (s .waiting)) where
-    pub waiting-queue : Queue w (456 + 64 * i) (104 + i) (getD (s .waiting) i [])
+    pub waiting-queue : Queue w (Row.WAITING + Row.WAITERS_MOST * i) (Row.WAITS + i) (getD (s .waiting) i [])
     waiting-queue =
         let few = v .sized .syncs-few in
         record {
           long = long v;
           row-in = omega arith;
           count-in = omega arith;
-          row-is = ap (λ l. take 64 (drop (456 + 64 * i) l)) (v .shows) ∙ waiting-part s (v .sized) i there;
-          count-is = ap (λ l. getD l (104 + i) 0) (v .shows) ∙ counts-at s (v .sized) i there;
+          row-is = ap (λ l. take Row.WAITERS_MOST (drop (Row.WAITING + Row.WAITERS_MOST * i) l)) (v .shows)
+              ∙ waiting-part s (v .sized) i there;
+          count-is = ap (λ l. getD l (Row.WAITS + i) 0) (v .shows) ∙ counts-at s (v .sized) i there;
           sized = all-get WaitersSized (s .waiting) i [] (v .sized .waiting-ok) (omega arith);
         }
 
-    pub waiting-written : (x : List ℕ) (ws : List Waiter) (n : ℕ) → length ws ≤ 64
-        → x ≡ queued w (456 + 64 * i) (104 + i) ws n → n ≡ length ws → x ≡ workOf (with-waiting s (set (s .waiting) i ws))
+    pub waiting-written : (x : List ℕ) (ws : List Waiter) (n : ℕ) → length ws ≤ Row.WAITERS_MOST
+        → x ≡ queued w (Row.WAITING + Row.WAITERS_MOST * i) (Row.WAITS + i) ws n → n ≡ length ws
+        → x ≡ workOf (with-waiting s (set (s .waiting) i ws))
     waiting-written x ws n few e c =
-        e ∙ ap (λ l. queued l (456 + 64 * i) (104 + i) ws n) (v .shows) ∙ waiting-changed s (v .sized) i there ws few n c
+        e ∙ ap (λ l. queued l (Row.WAITING + Row.WAITERS_MOST * i) (Row.WAITS + i) ws n) (v .shows)
+        ∙ waiting-changed s (v .sized) i there ws few n c
 
 -- One list of all that are small, changed: it is small.
 changed-few : (ls : List (List Waiter)) (i : ℕ) (ws : List Waiter) → i < length ls → AllOf WaitersSized (set ls i ws)
-    → length ws ≤ 64
+    → length ws ≤ Row.WAITERS_MOST
 changed-few ls i ws h a =
     let z : WaitersSized (getD (set ls i ws) i []) = all-get WaitersSized (set ls i ws) i [] a (omega arith) in
     omega (arith, z .few, ap length (getD-set-same ls i ws [] h))
 
 -- THE BLOCKED. The process in place p joins them, and the one at k leaves them.
 module _ {w : List ℕ} (p : ℕ) (d : Doing w (Lives p) (joinBlocked p)) where
-  unfoldable pub joins-blocked : {key : ℕ} → key ≡ waiterKey (waiterOf (d .is) p) → Joining w 136 6 key p
+  unfoldable pub joins-blocked : {key : ℕ} → key ≡ waiterKey (waiterOf (d .is) p) → Joining w Row.QUEUE Row.BLOCKED key p
   unfolding join
   joins-blocked e =
       record {
@@ -78,17 +83,18 @@ module _ {w : List ℕ} (p : ℕ) (d : Doing w (Lives p) (joinBlocked p)) where
         room = omega (arith, d .after .blocked-ok .few, insert-length higher (waiterOf (d .is) p) (d .is .blocked));
       }
 
-  pub blocked-joined : (x : List ℕ) → x ≡ queued w 136 6 (join (d .is) p (d .is .blocked)) (length (d .is .blocked) + 1)
+  pub blocked-joined : (x : List ℕ) → x ≡ queued w Row.QUEUE Row.BLOCKED (join (d .is) p (d .is .blocked))
+      (length (d .is .blocked) + 1)
       → x ≡ workOf (joinBlocked p (d .is))
   unfolding join
   blocked-joined x e =
       blocked-written (at-first d) x _ _ e (sym (insert-length higher (waiterOf (d .is) p) (d .is .blocked)))
 
 module _ {w : List ℕ} (k : ℕ) (d : Doing w (IsBlocked k) (unblocked k)) where
-  unfoldable pub leaves-blocked : Parting w 136 6 k
+  unfoldable pub leaves-blocked : Parting w Row.QUEUE Row.BLOCKED k
   leaves-blocked = record { line = d .is .blocked; queue = blocked-queue (at-first d); in-line = d .given }
 
-  pub blocked-left : (x : List ℕ) → x ≡ queued w 136 6 (removed k (d .is .blocked)) (length (d .is .blocked) - 1)
+  pub blocked-left : (x : List ℕ) → x ≡ queued w Row.QUEUE Row.BLOCKED (removed k (d .is .blocked)) (length (d .is .blocked) - 1)
       → x ≡ workOf (unblocked k (d .is))
   blocked-left x e =
       blocked-written (at-first d) x _ _ e (omega (arith, removed-length k (d .is .blocked) (d .given)))
@@ -98,10 +104,11 @@ module _ {w : List ℕ} (i p : ℕ) (d : Doing w (Becomes i p) (joinWaiting i p)
   abbrev line : List Waiter
   line = getD (d .is .waiting) i []
 
-  pub joined-few : length (join (d .is) p line) ≤ 64
+  pub joined-few : length (join (d .is) p line) ≤ Row.WAITERS_MOST
   joined-few = changed-few (d .is .waiting) i _ (d .given .there) (d .after .waiting-ok)
 
-  unfoldable pub joins-waiting : {key : ℕ} → key ≡ waiterKey (waiterOf (d .is) p) → Joining w (456 + 64 * i) (104 + i) key p
+  unfoldable pub joins-waiting : {key : ℕ} → key ≡ waiterKey (waiterOf (d .is) p)
+      → Joining w (Row.WAITING + Row.WAITERS_MOST * i) (Row.WAITS + i) key p
   unfolding join
   joins-waiting e =
       record {
@@ -117,7 +124,8 @@ module _ {w : List ℕ} (i p : ℕ) (d : Doing w (Becomes i p) (joinWaiting i p)
         room = omega (arith, joined-few, insert-length higher (waiterOf (d .is) p) line);
       }
 
-  pub waiting-joined : (x : List ℕ) → x ≡ queued w (456 + 64 * i) (104 + i) (join (d .is) p line) (length line + 1)
+  pub waiting-joined : (x : List ℕ) → x ≡ queued w (Row.WAITING + Row.WAITERS_MOST * i) (Row.WAITS + i) (join (d .is) p line)
+      (length line + 1)
       → x ≡ workOf (joinWaiting i p (d .is))
   unfolding join
   waiting-joined x e =
@@ -127,7 +135,7 @@ module _ {w : List ℕ} (i : ℕ) (d : Doing w (Waits i) (takenWaiting i)) where
   abbrev queue-of : List Waiter
   queue-of = getD (d .is .waiting) i []
 
-  unfoldable pub leaves-waiting : Parting w (456 + 64 * i) (104 + i) 0
+  unfoldable pub leaves-waiting : Parting w (Row.WAITING + Row.WAITERS_MOST * i) (Row.WAITS + i) 0
   leaves-waiting =
       record {
         line = queue-of;
@@ -135,17 +143,18 @@ module _ {w : List ℕ} (i : ℕ) (d : Doing w (Waits i) (takenWaiting i)) where
         in-line = omega (arith, ap length (d .given .waiting-are));
       }
 
-  pub waiting-left : (x : List ℕ) → x ≡ queued w (456 + 64 * i) (104 + i) (drop 1 queue-of) (length queue-of - 1)
+  pub waiting-left : (x : List ℕ) → x ≡ queued w (Row.WAITING + Row.WAITERS_MOST * i) (Row.WAITS + i) (drop 1 queue-of)
+      (length queue-of - 1)
       → x ≡ workOf (takenWaiting i (d .is))
   waiting-left x e =
       let q = waiting-queue (at-first d) i (d .given .there) in
       waiting-written (at-first d) i (d .given .there) x _ _ (omega (arith, length-drop 1 queue-of, q .sized .few)) e
       (sym (length-drop 1 queue-of))
 
-  pub first-place : getD w (456 + 64 * i) 0 % 64 ≡ d .given .first .place
+  pub first-place : getD w (Row.WAITING + Row.WAITERS_MOST * i) 0 % Word.PLACES ≡ d .given .first .place
   first-place =
-      let at : 456 + 64 * i ≡ 456 + 64 * i + 0 = omega arith in
+      let at : Row.WAITING + Row.WAITERS_MOST * i ≡ Row.WAITING + Row.WAITERS_MOST * i + 0 = omega arith in
       let f = ap length (d .given .waiting-are) in
-      ap (λ j. getD w j 0 % 64) at
+      ap (λ j. getD w j 0 % Word.PLACES) at
       ∙ place-at (waiting-queue (at-first d) i (d .given .there)) 0 (omega (arith, f))
       ∙ ap (λ l. getD (map (λ x. x .place) l) 0 0) (d .given .waiting-are)

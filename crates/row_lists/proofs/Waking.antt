@@ -4,8 +4,13 @@ use native.Mathlib.Omega.{arith}
 use mathlib.Core.Path.{_≡_, _∙_, ap}
 use mathlib.Core.List.{List}
 use lib.ListN.{getD}
+use Rattle.semantics.specs.Numbers as No
 use Rattle.semantics.specs.Numbers.{ofReturns}
 use Rattle.semantics.specs.State.{State, Event, Notice, wakes, process, enter, wake, sooner}
+use Rattle.base_numbers.specs.Row as Row
+use Rattle.base_numbers.specs.Process as Process
+use Rattle.base_numbers.specs.Word as Word
+use Rattle.base_numbers.specs.Code as Code
 use Rattle.base_i32.specs.Code.{code}
 use Rattle.base_ordered.specs.Lines.{keyOf, packed}
 use Rattle.row_work.specs.Work.{EventSized, NoticeSized, Doing}
@@ -22,15 +27,16 @@ module _ {w : List ℕ} {p : ℕ} (t : ℕ) (d : Doing w (Lives p) (λ s. wake t
   abbrev woken : Event
   woken = record { time = t; priority = process s p .priority; notice = wakes p }
 
-  pub time-low : t ≤ 2_000_000_000
+  pub time-low : t ≤ No.latest
   unfolding wake
   time-low = inserted-has EventSized sooner woken (s .events) (d .after .events-ok) .time-low
 
-  pub rank-low : {r : ℕ} → r ≡ getD w (2_504 + 128 * p + 1) 0 → r < 4_294_967_296
+  pub rank-low : {r : ℕ} → r ≡ getD w (Row.PROCESSES + Process.WORDS * p + Process.PRIORITY) 0 → r < Word.RANKS
   rank-low e =
       omega (arith, e, priority-is (at-first d) p (d .given .in-places), priority-low (at-first d) p)
 
-  unfoldable pub wakes-up : (r : ℕ) {key word : ℕ} → r ≡ getD w (2_504 + 128 * p + 1) 0 → key ≡ keyOf t r
+  unfoldable pub wakes-up : (r : ℕ) {key word : ℕ} → r ≡ getD w (Row.PROCESSES + Process.WORDS * p + Process.PRIORITY) 0
+      → key ≡ keyOf t r
       → word ≡ packed 0 p 0 0 → Entering w key word
   unfolding wake
   wakes-up r a b c =
@@ -47,17 +53,17 @@ module _ {w : List ℕ} (n : Notice) (d : Doing w Any (returned n)) where
   unfolding enter
   notice-low = inserted-has EventSized sooner _ (d .is .events) (d .after .events-ok) .notice-ok
 
-pub now-low : {w : List ℕ} {P : State → Type 0} (v : Shown w P) → getD w 0 0 ≤ 2_000_000_000
-now-low v = omega (arith, ap (λ l. getD l 0 0) (v .shows) ∙ clock-at (v .is), v .sized .clock-low)
+pub now-low : {w : List ℕ} {P : State → Type 0} (v : Shown w P) → getD w Row.CLOCK 0 ≤ No.latest
+now-low v = omega (arith, ap (λ l. getD l Row.CLOCK 0) (v .shows) ∙ clock-at (v .is), v .sized .clock-low)
 
-unfoldable pub notifies : {w : List ℕ} {key word : ℕ} (d : Notifying w word) → key ≡ keyOf (getD w 0 0) 2_147_468_648
+unfoldable pub notifies : {w : List ℕ} {key word : ℕ} (d : Notifying w word) → key ≡ keyOf (getD w Row.CLOCK 0) Code.OF_RETURNS
     → Entering w key word
 unfolding code
 notifies d e =
     let s = d .doing .is in
     record {
       event = record { time = s .clock; priority = ofReturns; notice = d .notice };
-      key-is = e ∙ ap (λ t. keyOf t 2_147_468_648) (ap (λ l. getD l 0 0) (d .doing .shows) ∙ clock-at s);
+      key-is = e ∙ ap (λ t. keyOf t Code.OF_RETURNS) (ap (λ l. getD l Row.CLOCK 0) (d .doing .shows) ∙ clock-at s);
       word-is = d .word-is;
       doing = record { is = s; shows = d .doing .shows; before = d .doing .before; after = d .doing .after; given = tt };
     }

@@ -9,6 +9,8 @@ use lib.ListN.{length, set}
 use Rattle.semantics.specs.Words.{isEmpty}
 use Rattle.semantics.specs.State.{State, Process, Frame, process, put, with-frames, past, into}
 use Rattle.promises.specs.Laws.{AllOf, no-way}
+use Rattle.base_numbers.specs.Row as Row
+use Rattle.base_numbers.specs.Process as Process
 use Rattle.row_work.specs.Work.{processRow, workOf, ProcessSized, FrameSized, Sized, Doing}
 use Rattle.row_process.specs.Process.{Shown, at-first, Lives, Inner, changed, outside, out}
 use Rattle.row_process.specs.Rows.{blank, depth-more, depth-less}
@@ -47,7 +49,7 @@ module _ {w : List ℕ} {P : State → Type 0} (v : Shown w P) {p : ℕ} (l : Li
 
   -- One block more: how many there are tells that.
   pub one-more-block : length (q .frames) < 8 → (m : ℕ) → m ≡ length (q .frames)
-      → set w (2_504 + 128 * p + 2) (m + 1) ≡ workOf (within (blank ∷ q .frames))
+      → set w (Row.PROCESSES + Process.WORDS * p + Process.DEPTH) (m + 1) ≡ workOf (within (blank ∷ q .frames))
   one-more-block room m e =
       let k : m + 1 ≡ suc (length (q .frames)) = omega arith in
       word-set v p (l .in-places) 2 (omega arith) (m + 1) (with-frames q (blank ∷ q .frames))
@@ -61,7 +63,8 @@ module _ {w : List ℕ} {P : State → Type 0} (v : Shown w P) {p : ℕ} (l : Li
   emptied e = shown-within (blank ∷ l .around) (around-few v l) (blank-sized, around-sized) refl e
 
   pub one-less-block : {x : List ℕ} → x ≡ workOf (within (blank ∷ l .around)) → isEmpty (l .around) ≡ false
-      → (m : ℕ) → m + 1 ≡ length (q .frames) → set x (2_504 + 128 * p + 2) m ≡ workOf (within (l .around))
+      → (m : ℕ) → m + 1 ≡ length (q .frames) → set x (Row.PROCESSES + Process.WORDS * p + Process.DEPTH) m
+      ≡ workOf (within (l .around))
   one-less-block e h m n =
       let here : process (within (blank ∷ l .around)) p ≡ with-frames q (blank ∷ l .around) = is-there (blank ∷ l .around) in
       let k : m ≡ length (l .around) = let a = n ∙ ap length (l .frames-are) in omega (arith, a) in
@@ -90,7 +93,8 @@ module _ (p n b : ℕ) {w : List ℕ} (d : Doing w (Lives p) (changed p (into n 
   unfolding into
   block-sized = new-sized .frames-ok .0
 
-  abbrev pub on-the-way : (m : ℕ) → m ≡ length frames → {x : List ℕ} → x ≡ set w (2_504 + 128 * p + 2) (m + 1)
+  abbrev pub on-the-way : (m : ℕ) → m ≡ length frames → {x : List ℕ}
+      → x ≡ set w (Row.PROCESSES + Process.WORDS * p + Process.DEPTH) (m + 1)
       → Shown x (Lives p)
   on-the-way m e h =
       shown-within (at-first d) (d .given) (blank ∷ frames) room (blank-sized, is-sized (at-first d) p .frames-ok) refl

@@ -5,10 +5,13 @@ use mathlib.Core.Path.{_≡_, refl, sym, subst, _∙_, ap}
 use mathlib.Core.List.{List, [], _∷_, _++_, map, map-append, append-assoc, append-nil}
 use lib.ListN.{length, getD, set, take, drop, length-append, length-drop, length-set}
 use lib.Seq.{take-add, drop-drop, getD-set-same, set-getD, set-set}
+use Rattle.semantics.specs.Numbers as No
 use Rattle.semantics.specs.Model.{sync, get}
 use Rattle.semantics.specs.State.{State, Process, Slave, Waiter, nobody, process, put, with-slaves, with-waiting, with-processes}
 use Rattle.semantics.specs.Claim.{takeItem}
 use Rattle.promises.specs.Laws.{AllOf, all-get, all-set, all-drop, all-split}
+use Rattle.base_numbers.specs.Row as Row
+use Rattle.base_numbers.specs.Limit as Limit
 use Rattle.row_work.specs.Work.{workOf, SlaveSized, ProcessSized, WaiterSized, WaitersSized, Sized, Doing, Done}
 use Rattle.row_work.specs.Shown.{work-long}
 use Rattle.row_process.specs.Process.{Lives, changed}
@@ -24,11 +27,11 @@ abbrev claimed : (p i : ℕ) → List Slave → List Waiter → State → State
 claimed p i xs ws s = put p (with-slaves (process s p) xs) (with-waiting s (set (s .waiting) i ws))
 
 -- HOW LARGE it is.
-waiting-sized : (s : State) → Sized s → (ws : List (List Waiter)) → length ws ≤ 32 → AllOf WaitersSized ws
+waiting-sized : (s : State) → Sized s → (ws : List (List Waiter)) → length ws ≤ Limit.THINGS → AllOf WaitersSized ws
     → Sized (with-waiting s ws)
 waiting-sized s h ws few each = search
 
-slaves-sized : (q : Process) → ProcessSized q → (xs : List Slave) → length xs ≤ 64 → AllOf SlaveSized xs
+slaves-sized : (q : Process) → ProcessSized q → (xs : List Slave) → length xs ≤ No.places → AllOf SlaveSized xs
     → ProcessSized (with-slaves q xs)
 slaves-sized q h xs few each = search
 
@@ -150,7 +153,7 @@ module _ {w : List ℕ} {p i n : ℕ} (d : Doing w (Waiting p i n) (takeItem p (
   unfolding takeItem
   none-claimed = d .shows ∙ ap workOf (sym (none-yet (d .is) (d .before) p i n (d .given)))
 
-  pub still-long : {x : List ℕ} (k : ℕ) → k ≤ n → x ≡ workOf (after k) → length x ≡ 10_696
+  pub still-long : {x : List ℕ} (k : ℕ) → k ≤ n → x ≡ workOf (after k) → length x ≡ Row.WORDS
   unfolding takeItem
   still-long k l e = ap length e ∙ work-long (after k) (at-sized (d .is) (d .before) p i n (d .given) (d .after) k l)
 

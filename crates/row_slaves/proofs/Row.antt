@@ -5,8 +5,12 @@ use mathlib.Core.Path.{_≡_, refl, sym, _∙_, ap}
 use mathlib.Core.List.{List, [], _∷_, _++_, map, map-append, append-assoc, append-nil}
 use lib.ListN.{length, getD, set, take, drop, replicate, length-append, length-map}
 use lib.Seq.{length-take-le, append-snoc, set-getD, set-at}
+use Rattle.semantics.specs.Numbers as No
 use Rattle.semantics.specs.Words.{sum, collect}
 use Rattle.semantics.specs.State.{State, Process, Slave, nobody, isFree, process, put, with-slaves, with-processes}
+use Rattle.base_numbers.specs.Row as Row
+use Rattle.base_numbers.specs.Process as Process
+use Rattle.base_numbers.specs.Limit as Limit
 use Rattle.base_ordered.specs.Lines.{pad}
 use Rattle.row_work.specs.Laid.{laid, Wide, laid-at, laid-set, laid-part, laid-replaced, even-length, even-replaced}
 use Rattle.row_work.specs.Work.{slaveWord, processParts, processRow, headOf, workParts, workWidths, workOf, Sized}
@@ -15,10 +19,10 @@ use Rattle.row_process.specs.Put.{process-sized}
 
 -- Where the row of the slaves of the process in place p begins, and where it says how many there are.
 abbrev pub rowAt : ℕ → ℕ
-rowAt p = 2_556 + 128 * p
+rowAt p = Row.FIRST_OWNED + Process.WORDS * p
 
 abbrev pub countAt : ℕ → ℕ
-countAt p = 2_504 + 128 * p + 3
+countAt p = Row.PROCESSES + Process.WORDS * p + Process.SLAVES
 
 -- The work w with ys in place of the k numbers from a on.
 abbrev pub replaced : (a k : ℕ) → List ℕ → List ℕ → List ℕ
@@ -37,21 +41,23 @@ between a b xs c d =
     ap (λ l. a ++ (b ++ l)) (laid-append xs (c ∷ d ∷ [])) ∙ simp (append-assoc, append-nil)
 
 -- One more word, behind the others.
-row-more : (xs : List Slave) (x : Slave) → length xs < 76
-    → set (pad 76 (map slaveWord xs)) (length xs) (slaveWord x) ≡ pad 76 (map slaveWord (xs ++ x ∷ []))
+row-more : (xs : List Slave) (x : Slave) → length xs < Process.OWNED_MOST
+    → set (pad Process.OWNED_MOST (map slaveWord xs)) (length xs) (slaveWord x)
+    ≡ pad Process.OWNED_MOST (map slaveWord (xs ++ x ∷ []))
 row-more xs x h =
     let ws : List ℕ = map slaveWord xs in
     let n : length ws ≡ length xs = length-map xs slaveWord in
-    let k : 76 - length ws ≡ suc (75 - length ws) = omega arith in
-    let m : 76 - length (ws ++ slaveWord x ∷ []) ≡ 75 - length ws = omega (arith, length-append ws (slaveWord x ∷ [])) in
+    let k : Process.OWNED_MOST - length ws ≡ suc (Process.OWNED_MOST - 1 - length ws) = omega arith in
+    let m : Process.OWNED_MOST - length (ws ++ slaveWord x ∷ []) ≡ Process.OWNED_MOST - 1 - length ws =
+    omega (arith, length-append ws (slaveWord x ∷ [])) in
     ap (λ j. set (ws ++ replicate j 0) (length xs) (slaveWord x)) k
-    ∙ set-at ws 0 (replicate (75 - length ws) 0) (slaveWord x) (length xs) n
-    ∙ sym (append-snoc ws (slaveWord x) (replicate (75 - length ws) 0))
+    ∙ set-at ws 0 (replicate (Process.OWNED_MOST - 1 - length ws) 0) (slaveWord x) (length xs) n
+    ∙ sym (append-snoc ws (slaveWord x) (replicate (Process.OWNED_MOST - 1 - length ws) 0))
     ∙ ap (λ j. (ws ++ slaveWord x ∷ []) ++ replicate j 0) (sym m)
-    ∙ ap (pad 76) (sym (map-append slaveWord xs (x ∷ [])))
+    ∙ ap (pad Process.OWNED_MOST) (sym (map-append slaveWord xs (x ∷ [])))
 
 -- THE WORK with the parts of the process in place p laid out.
-module _ (s : State) (h : Sized s) (p : ℕ) (l : p < 64) where
+module _ (s : State) (h : Sized s) (p : ℕ) (l : p < No.places) where
   abbrev q : Process
   q = process s p
 
@@ -60,24 +66,27 @@ module _ (s : State) (h : Sized s) (p : ℕ) (l : p < 64) where
 
   abbrev parted : Process → List (List ℕ)
   parted r =
-      take 2_504 (workOf s)
-      ∷ take (128 * p) rows
-      ∷ (processParts r ++ drop 128 (drop (128 * p) rows) ∷ drop 8_192 (drop 2_504 (workOf s)) ∷ [])
+      take Row.PROCESSES (workOf s)
+      ∷ take (Process.WORDS * p) rows
+      ∷ (processParts r ++ drop Process.WORDS (drop (Process.WORDS * p) rows)
+      ∷ drop Row.PROCESSES_ALL (drop Row.PROCESSES (workOf s)) ∷ [])
 
   abbrev widths : List ℕ
   widths =
-      2_504 ∷ 128 * p ∷ 4 ∷ 8 ∷ 32 ∷ 8 ∷ 76
-      ∷ length (drop 128 (drop (128 * p) rows)) ∷ length (drop 8_192 (drop 2_504 (workOf s))) ∷ []
+      Row.PROCESSES ∷ Process.WORDS * p ∷ Process.LOCALS ∷ No.locals ∷ Limit.THINGS ∷ Limit.DEPTH ∷ Process.OWNED_MOST
+      ∷ length (drop Process.WORDS (drop (Process.WORDS * p) rows))
+      ∷ length (drop Row.PROCESSES_ALL (drop Row.PROCESSES (workOf s))) ∷ []
 
   parted-is : (r : Process) → isFree r ≡ isFree q → laid (parted r) ≡ workOf (put p r s)
   unfolding workOf processRow
   parted-is r e =
       let n = h .places-64 in
       let ys : List ℕ = collect processRow (set (s .processes) p r) in
-      between (take 2_504 (workOf s)) (take (128 * p) rows) (processParts r) (drop 128 (drop (128 * p) rows))
-      (drop 8_192 (drop 2_504 (workOf s)))
-      ∙ ap (λ l. take 2_504 (workOf s) ++ (l ++ drop 8_192 (drop 2_504 (workOf s))))
-      (even-replaced processRow 128 (s .processes) (processes-even s h) p r (omega arith))
+      between (take Row.PROCESSES (workOf s)) (take (Process.WORDS * p) rows) (processParts r)
+      (drop Process.WORDS (drop (Process.WORDS * p) rows))
+      (drop Row.PROCESSES_ALL (drop Row.PROCESSES (workOf s)))
+      ∙ ap (λ l. take Row.PROCESSES (workOf s) ++ (l ++ drop Row.PROCESSES_ALL (drop Row.PROCESSES (workOf s))))
+      (even-replaced processRow Process.WORDS (s .processes) (processes-even s h) p r (omega arith))
       ∙ laid-replaced (workParts s) workWidths (work-wide s h) 9 ys (omega arith)
       ∙ ap (λ n. laid (set (set (workParts s) 9 ys) 0 (set (headOf s) 4 n))) (sym (living-still (s .processes) p r e))
 
@@ -85,15 +94,15 @@ module _ (s : State) (h : Sized s) (p : ℕ) (l : p < 64) where
   whole = parted-is q refl ∙ ap (λ ps. workOf (with-processes s ps)) (set-getD (s .processes) p nobody)
 
   -- The row of the slaves, or another in its place.
-  parted-wide : (row : List ℕ) → length row ≡ 76 → Wide (set (parted q) 6 row) widths
+  parted-wide : (row : List ℕ) → length row ≡ Process.OWNED_MOST → Wide (set (parted q) 6 row) widths
   parted-wide row e =
       let a = process-wide q (process-sized s p h) in
       let n = h .places-64 in
       let m = work-long s h in
-      let k = even-length processRow 128 (s .processes) (processes-even s h) in (
-        length-take-le 2_504 (workOf s) (omega arith),
+      let k = even-length processRow Process.WORDS (s .processes) (processes-even s h) in (
+        length-take-le Row.PROCESSES (workOf s) (omega arith),
         (
-          length-take-le (128 * p) rows (omega arith),
+          length-take-le (Process.WORDS * p) rows (omega arith),
           (a .0, (a .1 .0, (a .1 .1 .0, (a .1 .1 .1 .0, (e, (refl, (refl, tt))))))),
         ),
       )
@@ -101,7 +110,8 @@ module _ (s : State) (h : Sized s) (p : ℕ) (l : p < 64) where
   wide : Wide (parted q) widths
   wide =
       let a = process-sized s p h .slaves-few in
-      parted-wide (pad 76 (map slaveWord (q .slaves))) (row-length 76 slaveWord (q .slaves) (omega arith))
+      parted-wide (pad Process.OWNED_MOST (map slaveWord (q .slaves)))
+      (row-length Process.OWNED_MOST slaveWord (q .slaves) (omega arith))
 
   at-row : sum (take 6 widths) ≡ rowAt p
   at-row = omega arith
@@ -109,10 +119,10 @@ module _ (s : State) (h : Sized s) (p : ℕ) (l : p < 64) where
   at-count : countAt p ≡ sum (take 2 widths) + 3
   at-count = omega arith
 
-  pub slaves-part : take 76 (drop (rowAt p) (workOf s)) ≡ pad 76 (map slaveWord (q .slaves))
+  pub slaves-part : take Process.OWNED_MOST (drop (rowAt p) (workOf s)) ≡ pad Process.OWNED_MOST (map slaveWord (q .slaves))
   slaves-part =
-      ap (λ k. take 76 (drop k (workOf s))) (sym at-row)
-      ∙ ap (λ x. take 76 (drop (sum (take 6 widths)) x)) (sym whole)
+      ap (λ k. take Process.OWNED_MOST (drop k (workOf s))) (sym at-row)
+      ∙ ap (λ x. take Process.OWNED_MOST (drop (sum (take 6 widths)) x)) (sym whole)
       ∙ laid-part (parted q) widths wide 6 (omega arith)
 
   pub count-at : getD (workOf s) (countAt p) 0 ≡ length (q .slaves)
@@ -122,37 +132,38 @@ module _ (s : State) (h : Sized s) (p : ℕ) (l : p < 64) where
       ∙ laid-at (parted q) widths wide 2 3 (omega arith)
 
   -- Another row, and how many there are.
-  module _ (xs : List Slave) (few : length xs ≤ 76) (n : ℕ) (all-of : n ≡ length xs) where
-    counted : (row : List ℕ) → row ≡ pad 76 (map slaveWord xs)
+  module _ (xs : List Slave) (few : length xs ≤ Process.OWNED_MOST) (n : ℕ) (all-of : n ≡ length xs) where
+    counted : (row : List ℕ) → row ≡ pad Process.OWNED_MOST (map slaveWord xs)
         → set (laid (set (parted q) 6 row)) (countAt p) n ≡ workOf (put p (with-slaves q xs) s)
     counted row e =
-        let m : length row ≡ 76 = ap length e ∙ row-length 76 slaveWord xs few in
+        let m : length row ≡ Process.OWNED_MOST = ap length e ∙ row-length Process.OWNED_MOST slaveWord xs few in
         ap (λ k. set (laid (set (parted q) 6 row)) k n) at-count
         ∙ laid-set (set (parted q) 6 row) widths (parted-wide row m) 2 3 n (omega arith)
         ∙ ap (λ r. laid (set (set (parted q) 6 r) 2 (set (getD (parted q) 2 []) 3 n))) e
         ∙ ap (λ m. laid (set (parted (with-slaves q xs)) 2 (set (getD (parted q) 2 []) 3 m))) all-of
         ∙ parted-is (with-slaves q xs) refl
 
-    pub slaves-changed : (row : List ℕ) → row ≡ pad 76 (map slaveWord xs)
-        → set (replaced (rowAt p) 76 row (workOf s)) (countAt p) n ≡ workOf (put p (with-slaves q xs) s)
+    pub slaves-changed : (row : List ℕ) → row ≡ pad Process.OWNED_MOST (map slaveWord xs)
+        → set (replaced (rowAt p) Process.OWNED_MOST row (workOf s)) (countAt p) n ≡ workOf (put p (with-slaves q xs) s)
     slaves-changed row e =
-        ap (λ k. set (replaced k 76 row (workOf s)) (countAt p) n) (sym at-row)
-        ∙ ap (λ x. set (replaced (sum (take 6 widths)) 76 row x) (countAt p) n) (sym whole)
+        ap (λ k. set (replaced k Process.OWNED_MOST row (workOf s)) (countAt p) n) (sym at-row)
+        ∙ ap (λ x. set (replaced (sum (take 6 widths)) Process.OWNED_MOST row x) (countAt p) n) (sym whole)
         ∙ ap (λ x. set x (countAt p) n) (laid-replaced (parted q) widths wide 6 row (omega arith))
         ∙ counted row e
 
   -- One more, behind the others.
-  pub slaves-more : (x : Slave) → length (q .slaves) < 64
-      → set (set (workOf s) (2_504 + 128 * p + (52 + length (q .slaves))) (slaveWord x)) (countAt p) (length (q .slaves) + 1)
+  pub slaves-more : (x : Slave) → length (q .slaves) < No.places
+      → set (set (workOf s) (Row.PROCESSES + Process.WORDS * p + (Process.OWNED + length (q .slaves))) (slaveWord x)) (countAt p)
+      (length (q .slaves) + 1)
       ≡ workOf (put p (with-slaves q (q .slaves ++ x ∷ [])) s)
   slaves-more x few =
       let n : ℕ = length (q .slaves) in
       let v : ℕ = slaveWord x in
-      let k : 2_504 + 128 * p + (52 + n) ≡ sum (take 6 widths) + n = omega arith in
+      let k : Row.PROCESSES + Process.WORDS * p + (Process.OWNED + n) ≡ sum (take 6 widths) + n = omega arith in
       let m = length-append (q .slaves) (x ∷ []) in
       ap (λ k. set (set (workOf s) k v) (countAt p) (n + 1)) k
       ∙ ap (λ y. set (set y (sum (take 6 widths) + n) v) (countAt p) (n + 1)) (sym whole)
       ∙ ap (λ y. set y (countAt p) (n + 1))
       (laid-set (parted q) widths wide 6 n v (omega arith))
       ∙ counted (q .slaves ++ x ∷ []) (omega arith) (n + 1) (omega arith)
-      (set (pad 76 (map slaveWord (q .slaves))) n v) (row-more (q .slaves) x (omega arith))
+      (set (pad Process.OWNED_MOST (map slaveWord (q .slaves))) n v) (row-more (q .slaves) x (omega arith))

@@ -5,9 +5,14 @@ use mathlib.Core.Path.{_≡_, sym, _∙_, ap}
 use mathlib.Core.List.{List, [], _∷_, map}
 use lib.ListN.{length, getD, set, take, drop, length-append, length-set}
 use lib.Seq.{sets}
+use Rattle.semantics.specs.Numbers as No
 use Rattle.semantics.specs.State.{State, Process, Slave, process}
 use Rattle.semantics.specs.Step.{freed, stay}
 use Rattle.promises.specs.Laws.{all-split}
+use Rattle.base_numbers.specs.Row as Row
+use Rattle.base_numbers.specs.Process as Process
+use Rattle.base_numbers.specs.Word as Word
+use Rattle.base_numbers.specs.Limit as Limit
 use Rattle.base_ordered.specs.Lines.{pad}
 use Rattle.row_work.specs.Work.{slaveWord, workOf, SlaveSized, ProcessSized, Doing}
 use Rattle.row_work.specs.Shown.{row-length, work-long}
@@ -19,15 +24,15 @@ use Rattle.row_slaves.proofs.Row.{rowAt, countAt, replaced, slaves-part
 
 -- How much of the work is lent from the row on: all of the row.
 abbrev pub lent : ℕ → ℕ
-lent p = rowAt p + 76 - rowAt p
+lent p = rowAt p + Process.OWNED_MOST - rowAt p
 
-lent-is : (p : ℕ) → lent p ≡ 76
+lent-is : (p : ℕ) → lent p ≡ Process.OWNED_MOST
 lent-is p = omega arith
 
-pub is-long : {w : List ℕ} {P : State → Type 0} → Shown w P → length w ≡ 10_696
+pub is-long : {w : List ℕ} {P : State → Type 0} → Shown w P → length w ≡ Row.WORDS
 is-long v = ap length (v .shows) ∙ work-long (v .is) (v .sized)
 
-module _ {w : List ℕ} {P : State → Type 0} (v : Shown w P) (p : ℕ) (l : p < 64) where
+module _ {w : List ℕ} {P : State → Type 0} (v : Shown w P) (p : ℕ) (l : p < No.places) where
   abbrev q : Process
   q = process (v .is) p
 
@@ -37,27 +42,27 @@ module _ {w : List ℕ} {P : State → Type 0} (v : Shown w P) (p : ℕ) (l : p 
   pub count-is : getD w (countAt p) 0 ≡ length (q .slaves)
   count-is = ap (λ x. getD x (countAt p) 0) (v .shows) ∙ count-at (v .is) (v .sized) p l
 
-  pub count-few : getD w (countAt p) 0 ≤ 64
+  pub count-few : getD w (countAt p) 0 ≤ No.places
   count-few = omega (arith, count-is, is-sized .slaves-few)
 
   -- Their row, cut out.
-  row-is : take (lent p) (drop (rowAt p) w) ≡ pad 76 (map slaveWord (q .slaves))
+  row-is : take (lent p) (drop (rowAt p) w) ≡ pad Process.OWNED_MOST (map slaveWord (q .slaves))
   row-is =
       ap (λ k. take k (drop (rowAt p) w)) (lent-is p)
-      ∙ ap (λ x. take 76 (drop (rowAt p) x)) (v .shows)
+      ∙ ap (λ x. take Process.OWNED_MOST (drop (rowAt p) x)) (v .shows)
       ∙ slaves-part (v .is) (v .sized) p l
 
-  pub row-long : length (take (lent p) (drop (rowAt p) w)) ≡ 76
-  row-long = ap length row-is ∙ row-length 76 slaveWord (q .slaves) (let n = is-sized .slaves-few in omega arith)
+  pub row-long : length (take (lent p) (drop (rowAt p) w)) ≡ Process.OWNED_MOST
+  row-long = ap length row-is ∙ row-length Process.OWNED_MOST slaveWord (q .slaves) (let n = is-sized .slaves-few in omega arith)
 
   pub slaves-are : (n : ℕ) → n ≡ getD w (countAt p) 0 → slavesFrom 0 n (take (lent p) (drop (rowAt p) w)) ≡ q .slaves
-  slaves-are n e = slaves-in (q .slaves) (is-sized .slaves-ok) 76 n _ row-is (e ∙ count-is)
+  slaves-are n e = slaves-in (q .slaves) (is-sized .slaves-ok) Process.OWNED_MOST n _ row-is (e ∙ count-is)
 
 -- LET GO.
 module _ {w : List ℕ} {p i n : ℕ} (d : Doing w (Owns p i n) (changed p (letGo i n))) {len : ℕ}
     (all-of : len ≡ getD w (countAt p) 0) {places : List ℕ} {r : ℕ} {row places₁ : List ℕ}
     (h : SortedOut i n len (take (lent p) (drop (rowAt p) w)) places r row places₁) where
-  abbrev l : p < 64
+  abbrev l : p < No.places
   l = d .given .lives .in-places
 
   abbrev slaves : List Slave
@@ -73,15 +78,15 @@ module _ {w : List ℕ} {p i n : ℕ} (d : Doing w (Owns p i n) (changed p (letG
   let-go =
       let left : List Slave = stay i n slaves in
       let few = sized-put (d .is) p (letGo i n (process (d .is) p)) (d .before .places-64) l (d .after) .slaves-few in
-      let stays : row ≡ pad 76 (map slaveWord left) =
+      let stays : row ≡ pad Process.OWNED_MOST (map slaveWord left) =
       h .stays
       ∙ ap (λ xs. pad (length (take (lent p) (drop (rowAt p) w))) (map slaveWord (stay i n xs))) those
       ∙ ap (λ m. pad m (map slaveWord left)) (row-long (at-first d) p l) in
       ap (λ m. set (replaced (rowAt p) m row w) (countAt p) r) (lent-is p)
-      ∙ ap (λ x. set (replaced (rowAt p) 76 row x) (countAt p) r) (d .shows)
+      ∙ ap (λ x. set (replaced (rowAt p) Process.OWNED_MOST row x) (countAt p) r) (d .shows)
       ∙ slaves-changed (d .is) (d .before) p l left (omega arith) r (h .count ∙ ap (λ xs. length (stay i n xs)) those) row stays
 
-  pub still-long : length (replaced (rowAt p) (lent p) row w) ≡ 10_696
+  pub still-long : length (replaced (rowAt p) (lent p) row w) ≡ Row.WORDS
   still-long =
       sym (length-set (replaced (rowAt p) (lent p) row w) (countAt p) r)
       ∙ ap length let-go
@@ -93,17 +98,17 @@ module _ {w : List ℕ} {p i r : ℕ} (d : Doing w (Lives p) (changed p (joined 
   before = process (d .is) p .slaves
 
   abbrev wordAt : ℕ → ℕ
-  wordAt n = 2_504 + 128 * p + (52 + n)
+  wordAt n = Row.PROCESSES + Process.WORDS * p + (Process.OWNED + n)
 
   after : ProcessSized (joined i r (process (d .is) p))
   after = sized-put (d .is) p (joined i r (process (d .is) p)) (d .before .places-64) (d .given .in-places) (d .after)
 
-  pub slave-sized : (i < 32) × (r < 64)
+  pub slave-sized : (i < Limit.THINGS) × (r < No.places)
   slave-sized =
       let a = all-split SlaveSized before (record { of = i; place = r } ∷ []) (after .slaves-ok) .1 .0 in
       (a .of-low, a .place-low)
 
-  one-fits : length before < 64
+  one-fits : length before < No.places
   one-fits = omega (arith, after .slaves-few, length-append before (record { of = i; place = r } ∷ []))
 
   -- There are m.
@@ -111,14 +116,14 @@ module _ {w : List ℕ} {p i r : ℕ} (d : Doing w (Lives p) (changed p (joined 
     all-before : m ≡ length before
     all-before = e ∙ count-is (at-first d) p (d .given .in-places)
 
-    pub count-low : m < 64
+    pub count-low : m < No.places
     count-low = omega (arith, all-before, one-fits)
 
-    pub one-more : (x y : List ℕ) → x ≡ set w (wordAt m) (64 * i + r) → y ≡ set x (countAt p) (m + 1)
+    pub one-more : (x y : List ℕ) → x ≡ set w (wordAt m) (Word.SYNC * i + r) → y ≡ set x (countAt p) (m + 1)
         → y ≡ workOf (changed p (joined i r) (d .is))
     one-more x y f g =
         g
         ∙ ap (λ z. set z (countAt p) (m + 1)) f
-        ∙ ap (λ n. set (set w (wordAt n) (64 * i + r)) (countAt p) (n + 1)) all-before
-        ∙ ap (λ x. set (set x (wordAt (length before)) (64 * i + r)) (countAt p) (length before + 1)) (d .shows)
+        ∙ ap (λ n. set (set w (wordAt n) (Word.SYNC * i + r)) (countAt p) (n + 1)) all-before
+        ∙ ap (λ x. set (set x (wordAt (length before)) (Word.SYNC * i + r)) (countAt p) (length before + 1)) (d .shows)
         ∙ slaves-more (d .is) (d .before) p (d .given .in-places) (record { of = i; place = r }) one-fits

@@ -13,6 +13,7 @@ use lib.Seq.{take-length}
 use Rattle.semantics.specs.State.{Slave}
 use Rattle.semantics.specs.Step.{freed, stay}
 use Rattle.promises.specs.Laws.{AllOf}
+use Rattle.base_numbers.specs.Word as Word
 use Rattle.base_ordered.specs.Lines.{pad}
 use Rattle.base_ordered.specs.Shown.{shown}
 use Rattle.row_work.specs.Work.{slaveWord, SlaveSized}
@@ -26,9 +27,9 @@ words-again (x ∷ xs) = let e : slaveWord (slaveOf x) ≡ x = omega arith in rw
 slave-again : (x : Slave) → SlaveSized x → slaveOf (slaveWord x) ≡ x
 slave-again x h =
     let l = h .place-low in
-    let a : slaveWord x / 64 ≡ x .of = omega arith in
-    let b : slaveWord x % 64 ≡ x .place = omega arith in
-    ap (λ i. record { of = i; place = slaveWord x % 64 }) a ∙ ap (λ r. record { of = x .of; place = r }) b
+    let a : slaveWord x / Word.SYNC ≡ x .of = omega arith in
+    let b : slaveWord x % Word.PLACES ≡ x .place = omega arith in
+    ap (λ i. record { of = i; place = slaveWord x % Word.PLACES }) a ∙ ap (λ r. record { of = x .of; place = r }) b
 
 slaves-again : (xs : List Slave) → AllOf SlaveSized xs → map slaveOf (map slaveWord xs) ≡ xs
 slaves-again [] h = refl
@@ -53,13 +54,13 @@ module _ (row : List ℕ) (len : ℕ) (room : len ≤ length row) where
 
   -- Counted.
   module _ (i m : ℕ) where
-    pub found-one : (k f : ℕ) → k < len → eqb (getD row k 0 / 64) i ≡ true → f + ownedOf i (slavesFrom k len row) ≡ m
+    pub found-one : (k f : ℕ) → k < len → eqb (getD row k 0 / Word.SYNC) i ≡ true → f + ownedOf i (slavesFrom k len row) ≡ m
         → f + 1 + ownedOf i (slavesFrom (k + 1) len row) ≡ m
     found-one k f h e p =
         let x : ownedOf i (slavesFrom k len row) ≡ suc (ownedOf i (slavesFrom (k + 1) len row)) = rw (next k h, e) in
         omega arith
 
-    pub found-none : (k f : ℕ) → k < len → eqb (getD row k 0 / 64) i ≡ false → f + ownedOf i (slavesFrom k len row) ≡ m
+    pub found-none : (k f : ℕ) → k < len → eqb (getD row k 0 / Word.SYNC) i ≡ false → f + ownedOf i (slavesFrom k len row) ≡ m
         → f + ownedOf i (slavesFrom (k + 1) len row) ≡ m
     found-none k f h e p =
         let x : ownedOf i (slavesFrom k len row) ≡ ownedOf i (slavesFrom (k + 1) len row) = rw (next k h, e) in
@@ -103,7 +104,8 @@ module _ {i n len : ℕ} {kept : List Slave} {noted : List ℕ} {k gone : ℕ} {
   abbrev left : List Slave
   left = slavesFrom (k + 1) len row
 
-  pub one-goes : eqb (x / 64) i ≡ true → gone < n → Halfway i n len kept noted (k + 1) (gone + 1) row (set places gone (x % 64))
+  pub one-goes : eqb (x / Word.SYNC) i ≡ true → gone < n
+      → Halfway i n len kept noted (k + 1) (gone + 1) row (set places gone (x % Word.PLACES))
   one-goes e g =
       let few = h .few in
       let a : n - gone ≡ suc (n - (gone + 1)) = omega arith in
@@ -114,19 +116,20 @@ module _ {i n len : ℕ} {kept : List Slave} {noted : List ℕ} {k gone : ℕ} {
         few = omega arith;
         inside = omega arith;
         room = h .room;
-        space = omega (arith, length-set places gone (x % 64), h .space);
+        space = omega (arith, length-set places gone (x % Word.PLACES), h .space);
         stays =
             ap (λ m. map slaveOf (take m row) ++ stay i (n - (gone + 1)) left) b
             ∙ sym (ap (λ ys. map slaveOf (take (k - gone) row) ++ ys)
             (ap (stay i (n - gone)) was ∙ ap (λ m. stay i m (slaveOf x ∷ left)) a ∙ f .0))
             ∙ h .stays;
         goes =
-            ap (λ m. sets (set places gone (x % 64)) m (freed i (n - (gone + 1)) left)) (add-one gone)
+            ap (λ m. sets (set places gone (x % Word.PLACES)) m (freed i (n - (gone + 1)) left)) (add-one gone)
             ∙ sym (ap (sets places gone) (ap (freed i (n - gone)) was ∙ ap (λ m. freed i m (slaveOf x ∷ left)) a ∙ f .1))
             ∙ h .goes;
       }
 
-  pub one-stays : eqb (x / 64) i && ltb gone n ≡ false → Halfway i n len kept noted (k + 1) gone (set row (k - gone) x) places
+  pub one-stays : eqb (x / Word.SYNC) i && ltb gone n ≡ false
+      → Halfway i n len kept noted (k + 1) gone (set row (k - gone) x) places
   one-stays e =
       let few = h .few in
       let room = h .room in

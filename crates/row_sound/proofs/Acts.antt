@@ -15,6 +15,8 @@ use Rattle.semantics.specs.Bytes.{u16}
 use Rattle.semantics.specs.Claim.{Offer, enterBlock, offers}
 use Rattle.semantics.specs.Sound.{enters, entersAt, asksAt}
 use Rattle.promises.specs.Laws.{no-way}
+use Rattle.base_numbers.specs.Limit as Limit
+use Rattle.base_numbers.specs.Map as Map
 use Rattle.file_index.specs.Ties.{kindAt, bodyAt, ActionAt}
 use Rattle.file_actions.specs.Kinds.{kind-of, is-do}
 use Rattle.file_actions.specs.Bodies.{Numbers, told}
@@ -119,7 +121,7 @@ noBranch = record { block = 0; claim = [] }
 
 module _ {bs row : List ℕ} {a : ℕ} where
   branch-at : (xs : List Branch) → OffersAt bs row a (map (λ x. record { claim = x .claim; andThen = enterBlock (x .block) }) xs)
-      → (k : ℕ) → k < length xs → u16 bs (claimAt row (getD row (1_345 + a) 0 + k) - 2) ≡ getD xs k noBranch .block
+      → (k : ℕ) → k < length xs → u16 bs (claimAt row (getD row (Map.FROM + a) 0 + k) - 2) ≡ getD xs k noBranch .block
   branch-at xs o k h =
       let f : Branch → Offer = λ x. record { claim = x .claim; andThen = enterBlock (x .block) } in
       let x : Branch = getD xs k noBranch in
@@ -157,7 +159,7 @@ module _ {bs row : List ℕ} {a : ℕ} where
   branch-enters (START c t l) o h b r = no-way h
   branch-enters CLOSE o h b r = no-way h
 
-  pub branching : length row ≡ 18_754 → {x : Action} → ActsAt bs row a x → Branching bs row a
+  pub branching : length row ≡ Map.WORDS → {x : Action} → ActsAt bs row a x → Branching bs row a
   branching l {x} t =
       let o = t .offers-at in
       record {
@@ -177,7 +179,7 @@ module _ {bs row : List ℕ} {a : ℕ} where
       there (y ∷ ys) (suc k) h = there ys k (omega arith)
 
       inside-at : (os : List Offer) → OffersAt bs row a os → (k : ℕ) → k < length os
-          → (2 ≤ claimAt row (getD row (1_345 + a) 0 + k)) × (claimAt row (getD row (1_345 + a) 0 + k) ≤ length bs)
+          → (2 ≤ claimAt row (getD row (Map.FROM + a) 0 + k)) × (claimAt row (getD row (Map.FROM + a) 0 + k) ≤ length bs)
       inside-at os o k h =
           let z = o .each k (getD os k noOffer) (there os k h) in (z .behind, omega (arith, z .inside))
 
@@ -207,14 +209,14 @@ pub record Acts (bs row : List ℕ) (a : ℕ) (o : Option Action) : Type 0 where
   pub at : ActsAt bs row a action
 
 module _ {bs row : List ℕ} {a : ℕ} (v : Standing bs row a) where
-  pub acts-in : (a ≡ 1_024 → ⊥) → Acts bs row a (v .action)
+  pub acts-in : (a ≡ Limit.ACTIONS → ⊥) → Acts bs row a (v .action)
   acts-in g = by (v .action) (v .there)
     where
       by : (o : Option Action) → At bs row a o → Acts bs row a o
       by none t = absurd (g t)
       by (some x) t = record { action = x; is = refl; at = t }
 
-  pub none-in : a ≡ 1_024 → v .action ≡ none
+  pub none-in : a ≡ Limit.ACTIONS → v .action ≡ none
   none-in g = by (v .action) (v .there)
     where
       by : (o : Option Action) → At bs row a o → o ≡ none
@@ -222,11 +224,12 @@ module _ {bs row : List ℕ} {a : ℕ} (v : Standing bs row a) where
       by (some x) t = let l = t .low in absurd (omega arith)
 
 -- Its record stands at byte `at`, and has this kind.
-module _ {bs row : List ℕ} {a : ℕ} (v : Standing bs row a) (g : a ≡ 1_024 → ⊥) (at : ℕ) (e : at ≡ getD row (257 + a) 0) where
+module _ {bs row : List ℕ} {a : ℕ} (v : Standing bs row a) (g : a ≡ Limit.ACTIONS → ⊥) (at : ℕ)
+    (e : at ≡ getD row (Map.PLACE + a) 0) where
   abbrev x : Action
   x = acts-in v g .action
 
-  pub number-low : a < 1_024
+  pub number-low : a < Limit.ACTIONS
   number-low = acts-in v g .at .low
 
   record-at : ActionAt bs at x

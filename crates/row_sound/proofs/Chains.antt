@@ -15,6 +15,7 @@ use Rattle.semantics.specs.State.{Frame}
 use Rattle.semantics.specs.Sound.{enters, entersAt, namedThere, chained}
 use Rattle.promises.specs.Laws.{no-way, and-true, all-at, any-has, some-in}
 use Rattle.promises.specs.Fit.{ActFit, BranchFit, Fit, Nested}
+use Rattle.base_numbers.specs.Limit as Limit
 use Rattle.file_map.specs.Map.{Mapped}
 use Rattle.row_work.specs.Work.{frameWord, FrameSized}
 use Rattle.row_sound.specs.Chain.{isBody, actionIn, blockIn, atIn, roundsIn, ActsAt, At, Standing, Linking, linked}
@@ -73,7 +74,7 @@ module _ (m : Model) (fit : Fit m) (nested : Nested m) where
 
   -- THE ACTION where one stands, by the map.
   module _ {bs row : List ℕ} (d : Mapped bs m row) where
-    pub bounds : (b : ℕ) → b < length (m .blocks) → getD row (b + 1) 0 ≤ 1_024
+    pub bounds : (b : ℕ) → b < length (m .blocks) → getD row (b + 1) 0 ≤ Limit.ACTIONS
     bounds b l = d .first-few (b + 1) (omega (arith, l, fit .few-blocks))
 
     none-far : {A : Type 0} (xs : List A) (i : ℕ) → getElem? xs i ≡ none → length xs ≤ i
@@ -86,13 +87,13 @@ module _ (m : Model) (fit : Fit m) (nested : Nested m) where
       where
         by : (o : Option Action) → getElem? (block m b) at ≡ o → At bs row (actionIn row b at) o
         by none e =
-            ap (λ (t : Bool). if t then getD row b 0 + at else 1_024)
+            ap (λ (t : Bool). if t then getD row b 0 + at else Limit.ACTIONS)
             (le-ltb (getD row b 0 + at) (getD row (b + 1) 0) (omega (arith, d .first-next b l, none-far (block m b) at e)))
         by (some x) e =
             let i = some-in (block m b) at x e in
             let n = d .first-next b l in
             let a : actionIn row b at ≡ getD row b 0 + at =
-            ap (λ (t : Bool). if t then getD row b 0 + at else 1_024)
+            ap (λ (t : Bool). if t then getD row b 0 + at else Limit.ACTIONS)
             (lt-ltb (getD row b 0 + at) (getD row (b + 1) 0) (omega arith)) in
             subst (λ j. ActsAt bs row j x) (sym a)
             (record { low = omega (arith, n, i, bounds b l); acts-at = d .acts-at b at x e; offers-at = d .offers-at b at x e })
@@ -123,7 +124,7 @@ module _ {bs row : List ℕ} {classes k outer word : ℕ} (v : Linking bs row cl
   abbrev f : Frame
   f = v .frame
 
-  pub few-classes : classes ≤ 64
+  pub few-classes : classes ≤ Limit.CLASSES
   few-classes = omega (arith, v .classes-are, v .fits .few-classes)
 
   pub block-is : blockIn word ≡ f .block

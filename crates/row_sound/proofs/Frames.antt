@@ -11,11 +11,16 @@ use lib.Dec.{leb, ltb}
 use borrow.Author.Tests.{ltb-true, ltb-false}
 use lib.ListN.{length, getD, drop, List·getD-append}
 use lib.Seq.{drop-cons, drop-length, getD-at}
+use Rattle.semantics.specs.Numbers as No
 use Rattle.semantics.specs.Model.{Model, block}
 use Rattle.semantics.specs.State.{Process, Frame, nobody, process}
 use Rattle.semantics.specs.Claim.{standsIn}
 use Rattle.semantics.specs.Sound.{namedThere, chained, allChained, asksAt, blockedStand}
 use Rattle.promises.specs.Laws.{all-get, all-hold}
+use Rattle.base_numbers.specs.Row as Row
+use Rattle.base_numbers.specs.Process as Process
+use Rattle.base_numbers.specs.Word as Word
+use Rattle.base_numbers.specs.Limit as Limit
 use Rattle.row_work.specs.Laid.{laid-at}
 use Rattle.row_work.specs.Work.{frameWord, stacked, processParts, processWidths, processRow, FrameSized, ProcessSized}
 use Rattle.row_work.specs.Shown.{pad-at, process-wide, stacked-length}
@@ -107,7 +112,7 @@ module _ {bs row w : List ℕ} {classes : ℕ} (v : Viewed bs row w classes) whe
   abbrev pub seenIn : Shown w Any
   seenIn = record { is = v .is; shows = v .shows; sized = v .sized; given = tt }
 
-  module _ (p : ℕ) (l : p < 64) where
+  module _ (p : ℕ) (l : p < No.places) where
     abbrev q : Process
     q = process (v .is) p
 
@@ -117,17 +122,17 @@ module _ {bs row w : List ℕ} {classes : ℕ} (v : Viewed bs row w classes) whe
     h : ProcessSized q
     h = Stand.is-sized seenIn p
 
-    pub depth-is : wordOf w p 2 ≡ length fs
+    pub depth-is : wordOf w p Process.DEPTH ≡ length fs
     depth-is = Stand.depth-is seenIn p l
 
     pub depth-few : length fs ≤ 8
     depth-few = h .frames-few
 
-    pub block-word : (k : ℕ) → k < length fs → wordOf w p (44 + k) ≡ frameWord (innerOf k fs)
+    pub block-word : (k : ℕ) → k < length fs → wordOf w p (Process.BLOCKS + k) ≡ frameWord (innerOf k fs)
     unfolding processRow
     block-word k i =
         let a = h .frames-few in
-        Stand.word-is seenIn p l (44 + k) (omega arith)
+        Stand.word-is seenIn p l (Process.BLOCKS + k) (omega arith)
         ∙ laid-at (processParts q) processWidths (process-wide q h) 3 k (omega arith)
         ∙ pad-at 8 (stacked fs) k (omega (arith, stacked-length fs))
         ∙ stacked-at fs k i
@@ -140,7 +145,8 @@ module _ {bs row w : List ℕ} {classes : ℕ} (v : Viewed bs row w classes) whe
 
     -- The next link, where the chain holds so far.
     module _ (k : ℕ) (i : k < length fs) (so-far : chained (v .model) (outerOf k fs) ≡ true) where
-      outer-at : (g : Frame) (gs : List Frame) → outerOf k fs ≡ g ∷ gs → (outer : ℕ) → outer ≡ wordOf w p (43 + k)
+      outer-at : (g : Frame) (gs : List Frame) → outerOf k fs ≡ g ∷ gs → (outer : ℕ)
+          → outer ≡ wordOf w p (Process.BEFORE_BLOCKS + k)
           → (outer ≡ frameWord g) × FrameSized g
       outer-at g gs e outer o = by k refl
         where
@@ -152,10 +158,10 @@ module _ {bs row w : List ℕ} {classes : ℕ} (v : Viewed bs row w classes) whe
               ap (λ n. outerOf n fs) (z ∙ sym (add-one j)) ∙ outer-more j fs (omega arith) in
               let c : innerOf j fs ∷ outerOf j fs ≡ g ∷ gs = sym a ∙ e in
               let d : innerOf j fs ≡ g = cc in
-              let n : 43 + k ≡ 44 + j = omega arith in
+              let n : Process.BEFORE_BLOCKS + k ≡ Process.BLOCKS + j = omega arith in
               (o ∙ ap (wordOf w p) n ∙ block-word j (omega arith) ∙ ap frameWord d, subst FrameSized d (inner-sized j))
 
-      pub linking : (outer word : ℕ) → outer ≡ wordOf w p (43 + k) → word ≡ wordOf w p (44 + k)
+      pub linking : (outer word : ℕ) → outer ≡ wordOf w p (Process.BEFORE_BLOCKS + k) → word ≡ wordOf w p (Process.BLOCKS + k)
           → Linking bs row classes k outer word
       linking outer word a b =
           record {
@@ -179,7 +185,8 @@ module _ {bs row w : List ℕ} {classes : ℕ} (v : Viewed bs row w classes) whe
           ap (chained (v .model)) (outer-more k fs i) ∙ link-on (v .model) (innerOf k fs) (outerOf k fs) so-far ∙ e
 
       -- What a test of the link tells of the chain.
-      module _ {outer word : ℕ} (a : outer ≡ wordOf w p (43 + k)) (b : word ≡ wordOf w p (44 + k)) (r : Bool)
+      module _ {outer word : ℕ} (a : outer ≡ wordOf w p (Process.BEFORE_BLOCKS + k)) (b : word ≡ wordOf w p (Process.BLOCKS + k))
+          (r : Bool)
           (test : (x : Linking bs row classes k outer word) → r ≡ linked (x .model) (x .frame) (x .around)) where
         result : r ≡ linked (v .model) (innerOf k fs) (outerOf k fs)
         unfolding linking
@@ -192,20 +199,20 @@ module _ {bs row w : List ℕ} {classes : ℕ} (v : Viewed bs row w classes) whe
         fails-at e = sym (broken (v .model) fs (length fs - (k + 1)) (linked-on false (sym result ∙ e)))
 
     -- WHERE IT STANDS: in no block, or in its innermost one, whose word this is.
-    pub nowhere : (n : ℕ) → n ≡ wordOf w p 2 → n ≡ 0 → standsIn (v .model) fs ≡ none
+    pub nowhere : (n : ℕ) → n ≡ wordOf w p Process.DEPTH → n ≡ 0 → standsIn (v .model) fs ≡ none
     nowhere n e z = by fs (sym depth-is ∙ sym e ∙ z)
       where
         by : (gs : List Frame) → length gs ≡ 0 → standsIn (v .model) gs ≡ none
         by [] d = refl
         by (g ∷ gs) d = absurd (omega arith)
 
-    module _ (ok : chained (v .model) fs ≡ true) (n : ℕ) (e : n ≡ wordOf w p 2) (some : n ≡ 0 → ⊥)
-        (word : ℕ) (a : word ≡ wordOf w p (43 + n)) where
+    module _ (ok : chained (v .model) fs ≡ true) (n : ℕ) (e : n ≡ wordOf w p Process.DEPTH) (some : n ≡ 0 → ⊥)
+        (word : ℕ) (a : word ≡ wordOf w p (Process.BEFORE_BLOCKS + n)) where
       many : n ≡ length fs
       many = e ∙ depth-is
 
       pub record Top : Type 0 where
-        pub low : blockIn word < 256
+        pub low : blockIn word < Limit.BLOCKS
         pub there : At bs row (actionIn row (blockIn word) (atIn word)) (standsIn (v .model) fs)
 
       pub top : Top
@@ -237,9 +244,10 @@ module _ {bs row w : List ℕ} {classes : ℕ} (v : Viewed bs row w classes) whe
             there = subst (λ j. At bs row j (standsIn (v .model) fs)) (sym h) (top .there);
           }
 
-  pub all-are : each 64 (λ p. chained (v .model) (process (v .is) p .frames)) ≡ allChained (v .model) (v .is)
+  pub all-are : each No.places (λ p. chained (v .model) (process (v .is) p .frames)) ≡ allChained (v .model) (v .is)
   all-are =
-      each-all nobody (λ q. chained (v .model) (q .frames)) _ (v .is .processes) 64 (sym (v .sized .places-64)) (λ p h. refl)
+      each-all nobody (λ q. chained (v .model) (q .frames)) _ (v .is .processes) No.places (sym (v .sized .places-64))
+      (λ p h. refl)
 
   pub is-bounded : Bounded w
   is-bounded = bounded seenIn
@@ -249,7 +257,7 @@ module _ {bs row w : List ℕ} {classes : ℕ} (v : Chained bs row w classes) wh
   abbrev x : Viewed bs row w classes
   x = v .viewed
 
-  unfoldable pub asking : (p : ℕ) → p < 64 → Asking bs row w classes p
+  unfoldable pub asking : (p : ℕ) → p < No.places → Asking bs row w classes p
   asking p l =
       record {
         viewed = x;
@@ -259,11 +267,12 @@ module _ {bs row w : List ℕ} {classes : ℕ} (v : Chained bs row w classes) wh
             (all-hold (λ q. chained (x .model) (q .frames)) (x .is .processes) (v .all-chained)) refl;
       }
 
-  pub stand-is : each (getD w 6 0) (λ k. asksAt (standsIn (x .model) (process (x .is) (getD w (136 + k) 0 % 64) .frames)))
+  pub stand-is : each (getD w Row.BLOCKED 0) (λ k. asksAt
+      (standsIn (x .model) (process (x .is) (getD w (Row.QUEUE + k) 0 % Word.PLACES) .frames)))
       ≡ blockedStand (x .model) (x .is)
   stand-is =
       let q = Wait.blocked-queue (seenIn x) in
       each-all noWaiter (λ y. asksAt (standsIn (x .model) (process (x .is) (y .place) .frames))) _ (x .is .blocked) _
       (q .count-is)
       (λ k h. ap (λ p. asksAt (standsIn (x .model) (process (x .is) p .frames)))
-      (ap (λ n. n % 64) (waiter-at q k h) ∙ word-place (getD (x .is .blocked) k noWaiter) (waiter-sized q k .place-low)))
+      (ap (λ n. n % Word.PLACES) (waiter-at q k h) ∙ word-place (getD (x .is .blocked) k noWaiter) (waiter-sized q k .place-low)))

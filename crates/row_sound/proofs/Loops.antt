@@ -6,6 +6,7 @@ use mathlib.Core.Path.{_≡_, refl, sym, _∙_, ap}
 use mathlib.Core.List.{List}
 use mathlib.Core.Bool.{Bool, false, _||_}
 use lib.ListN.{length, getD}
+use Rattle.base_numbers.specs.Map as Map
 use Rattle.file_map.specs.Map.{claimAt}
 use Rattle.row_sound.specs.Chain.{among, Branching}
 
@@ -21,6 +22,6 @@ pub among-done : (f : ℕ → Bool) (k n : ℕ) (found : Bool) → k ≡ n → f
 among-done f k n found e h = h ∙ ap (λ x. among x f) e
 
 -- The claim of a branch stands within the bytes.
-pub claim-inside : {bs map : List ℕ} {a : ℕ} → Branching bs map a → (from k : ℕ) → from ≡ getD map (1_345 + a) 0
-    → from + k < getD map (1_345 + (a + 1)) 0 → (2 ≤ claimAt map (from + k)) × (claimAt map (from + k) ≤ length bs)
+pub claim-inside : {bs map : List ℕ} {a : ℕ} → Branching bs map a → (from k : ℕ) → from ≡ getD map (Map.FROM + a) 0
+    → from + k < getD map (Map.FROM + (a + 1)) 0 → (2 ≤ claimAt map (from + k)) × (claimAt map (from + k) ≤ length bs)
 claim-inside b from k e h = rw e (b .each k (omega arith))

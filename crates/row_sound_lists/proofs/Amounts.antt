@@ -6,10 +6,13 @@ use mathlib.Core.List.{List}
 use mathlib.Core.Bool.{_&&_}
 use lib.Dec.{eqb}
 use lib.ListN.{length, getD}
+use Rattle.semantics.specs.Numbers as No
 use Rattle.semantics.specs.Words.{if_then_else_}
 use Rattle.semantics.specs.Model.{Model}
 use Rattle.semantics.specs.State.{State, Notice, wakes, returnsR, returnsB, nobody}
 use Rattle.semantics.specs.Sound.{returning, heldOf, returningOf, addsUp}
+use Rattle.base_numbers.specs.Word as Word
+use Rattle.base_numbers.specs.Limit as Limit
 use Rattle.base_ordered.specs.Lines.{packed, kindOf, numberOf, amountOf, dataOf}
 use Rattle.base_ordered.specs.Order.{kind-packed, number-packed, amount-packed}
 use Rattle.row_work.specs.Work.{NoticeSized}
@@ -30,8 +33,8 @@ notice-is i (wakes p) h =
     (kind-packed 0 p 0 0 (omega arith) h (omega arith))
 notice-is i (returnsR j n g) h =
     let word : ℕ = packed 1 j n g in
-    let a : j < 64 = omega (arith, h .0) in
-    let b : n < 1_048_576 = omega (arith, h .1 .0) in
+    let a : j < Word.NUMBERS = omega (arith, h .0) in
+    let b : n < Word.AMOUNTS = omega (arith, h .1 .0) in
     ap (λ k. if eqb k 1 && eqb i (numberOf word) then amountOf word else 0) (kind-packed 1 j n g (omega arith) a b)
     ∙ ap (λ k. if eqb i k then amountOf word else 0) (number-packed 1 j n g (omega arith) a b)
     ∙ ap (λ k. if eqb i j then k else 0) (amount-packed 1 j n g (omega arith) a b)
@@ -44,10 +47,10 @@ module _ {w : List ℕ} {P : State → Type 0} (v : Shown w P) where
   abbrev s : State
   s = v .is
 
-  module _ (i : ℕ) (l : i < 32) where
+  module _ (i : ℕ) (l : i < Limit.THINGS) where
     held-is : heldAll w i ≡ heldOf i s
     held-is =
-        tally-over nobody (λ q. getD (q .held) i 0) _ (s .processes) 64 (sym (v .sized .places-64))
+        tally-over nobody (λ q. getD (q .held) i 0) _ (s .processes) No.places (sym (v .sized .places-64))
         (λ p h. held-at v p (omega (arith, v .sized .places-64)) i l)
 
     returning-is : returningAll w i ≡ returningOf i s
@@ -69,7 +72,7 @@ module _ {w : List ℕ} {P : State → Type 0} (v : Shown w P) where
         one : (i : ℕ) → i < resources → amountsAdd w totals i ≡ eqb (summed i) (getD (m .totals) i 0)
         one i h =
             let l : i < length (s .free) = omega (arith, t .resources-are, a .frees-many) in
-            let k : i < 32 = omega (arith, l, v .sized .free-few) in
+            let k : i < Limit.THINGS = omega (arith, l, v .sized .free-few) in
             ap (λ n. eqb (n + heldAll w i + returningAll w i) (getD totals i 0)) (free-is v i l)
             ∙ ap (λ n. eqb (getD (s .free) i 0 + n + returningAll w i) (getD totals i 0)) (held-is i k)
             ∙ ap (λ n. eqb (getD (s .free) i 0 + heldOf i s + n) (getD totals i 0)) (returning-is i k)

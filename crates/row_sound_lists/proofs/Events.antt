@@ -22,6 +22,11 @@ use Rattle.row_work.specs.Work.{EventSized, NoticeSized}
 use Rattle.row_process.specs.Process.{Shown}
 use Rattle.semantics.specs.Numbers as No
 use Rattle.semantics.specs.Numbers.{ofReturns}
+use Rattle.base_numbers.specs.Row as Row
+use Rattle.base_numbers.specs.Process as Process
+use Rattle.base_numbers.specs.Word as Word
+use Rattle.base_numbers.specs.Limit as Limit
+use Rattle.base_numbers.specs.Code as Code
 use Rattle.row_process.proofs.Standing as Stand
 use Rattle.row_lists.proofs.Events as Ev
 use Rattle.row_sound_lists.specs.Tests.{each, wordOf, rises, returnFits, wordFits, eventFits, eventsFit}
@@ -37,11 +42,11 @@ return-is : (known last : ℕ) (x : ℤ) (i n g word : ℕ) → I32 x → number
     → returnFits known last (code x) word ≡ returnInRange known last x i n g
 unfolding code
 return-is known last x i n g word h a b c =
-    ap (λ j. eqb (code x) 2_147_468_648
-    && (ltb j known && (within 1 1_000_000 (amountOf word) && within 1 last (giverOf word)))) a
-    ∙ ap (λ j. eqb (code x) 2_147_468_648 && (ltb i known && (within 1 1_000_000 j && within 1 last (giverOf word)))) b
-    ∙ ap (λ j. eqb (code x) 2_147_468_648 && (ltb i known && (within 1 1_000_000 n && within 1 last j))) c
-    ∙ ap (λ t. t && (ltb i known && (within 1 1_000_000 n && within 1 last g))) (same-code x ofReturns h (omega arith))
+    ap (λ j. eqb (code x) Code.OF_RETURNS
+    && (ltb j known && (within 1 Limit.AMOUNT (amountOf word) && within 1 last (giverOf word)))) a
+    ∙ ap (λ j. eqb (code x) Code.OF_RETURNS && (ltb i known && (within 1 Limit.AMOUNT j && within 1 last (giverOf word)))) b
+    ∙ ap (λ j. eqb (code x) Code.OF_RETURNS && (ltb i known && (within 1 Limit.AMOUNT n && within 1 last j))) c
+    ∙ ap (λ t. t && (ltb i known && (within 1 Limit.AMOUNT n && within 1 last g))) (same-code x ofReturns h (omega arith))
 
 -- The word by its kind.
 module _ (last resources bins rank own word : ℕ) where
@@ -78,7 +83,7 @@ module _ {w : List ℕ} {P : State → Type 0} (v : Shown w P) (m : Model) where
   notice-is t x (wakes p) h i k =
       let own : ℕ = wordOf w (numberOf (dataOf (wakes p))) 1 in
       wakes-by (s .last) known bins (code x) own (packed 0 p 0 0) (kind-packed 0 p 0 0 (omega arith) k (omega arith))
-      ∙ ap (λ j. eqb (code x) (wordOf w j 1)) (number-packed 0 p 0 0 (omega arith) k (omega arith))
+      ∙ ap (λ j. eqb (code x) (wordOf w j Process.PRIORITY)) (number-packed 0 p 0 0 (omega arith) k (omega arith))
       ∙ ap (eqb (code x)) (Stand.priority-is v p k)
       ∙ same-code x _ i (Stand.is-sized v p .priority-ok)
       ∙ sym (and-unit _)
@@ -86,8 +91,8 @@ module _ {w : List ℕ} {P : State → Type 0} (v : Shown w P) (m : Model) where
   notice-is t x (returnsR j n g) h i k =
       let own : ℕ = wordOf w (numberOf (dataOf (returnsR j n g))) 1 in
       let word : ℕ = packed 1 j n g in
-      let a : j < 64 = omega (arith, k .0) in
-      let b : n < 1_048_576 = omega (arith, k .1 .0) in
+      let a : j < Word.NUMBERS = omega (arith, k .0) in
+      let b : n < Word.AMOUNTS = omega (arith, k .1 .0) in
       resource-by (s .last) known bins (code x) own word (kind-packed 1 j n g (omega arith) a b)
       ∙ return-is known (s .last) x j n g word i (number-packed 1 j n g (omega arith) a b)
       (amount-packed 1 j n g (omega arith) a b) (giver-packed 1 j n g (omega arith) a b)
@@ -95,17 +100,17 @@ module _ {w : List ℕ} {P : State → Type 0} (v : Shown w P) (m : Model) where
   notice-is t x (returnsB j n g) h i k =
       let own : ℕ = wordOf w (numberOf (dataOf (returnsB j n g))) 1 in
       let word : ℕ = packed 2 j n g in
-      let a : j < 64 = omega (arith, k .0) in
-      let b : n < 1_048_576 = omega (arith, k .1 .0) in
+      let a : j < Word.NUMBERS = omega (arith, k .0) in
+      let b : n < Word.AMOUNTS = omega (arith, k .1 .0) in
       bin-by (s .last) known bins (code x) own word (kind-packed 2 j n g (omega arith) a b)
       ∙ return-is bins (s .last) x j n g word i (number-packed 2 j n g (omega arith) a b)
       (amount-packed 2 j n g (omega arith) a b) (giver-packed 2 j n g (omega arith) a b)
       ∙ ap (λ b. b && returnInRange bins (s .last) x j n g) (sym (le-leb t No.latest h))
 
-  time-in : (e : Event) → EventSized e → eventKey e / 4_294_967_296 ≡ e .time
+  time-in : (e : Event) → EventSized e → eventKey e / Word.TIME ≡ e .time
   time-in e h = omega (arith, code-fits (e .priority) (h .priority-ok))
 
-  rank-in : (e : Event) → EventSized e → 4_294_967_295 - eventKey e % 4_294_967_296 ≡ code (e .priority)
+  rank-in : (e : Event) → EventSized e → Code.HIGHEST - eventKey e % Word.RANKS ≡ code (e .priority)
   rank-in e h = omega (arith, code-fits (e .priority) (h .priority-ok))
 
   -- The one at k.
@@ -115,35 +120,39 @@ module _ {w : List ℕ} {P : State → Type 0} (v : Shown w P) (m : Model) where
   event-is k l =
       let e : Event = getD (s .events) k noEvent in
       let h : EventSized e = event-sized v k l in
-      let key : ℕ = getD w (200 + k) 0 in
-      let word : ℕ = getD w (328 + k) 0 in
-      ap (λ c. leb c (key / 4_294_967_296)
-      && wordFits (getD w 2 0) known bins (4_294_967_295 - key % 4_294_967_296) (wordOf w (numberOf word) 1) word) (clock-is v)
-      ∙ ap (λ n. leb (s .clock) (key / 4_294_967_296)
-      && wordFits n known bins (4_294_967_295 - key % 4_294_967_296) (wordOf w (numberOf word) 1) word) (last-is v)
-      ∙ ap (λ n. leb (s .clock) (n / 4_294_967_296)
-      && wordFits (s .last) known bins (4_294_967_295 - n % 4_294_967_296) (wordOf w (numberOf word) 1) word) (key-at v k l)
-      ∙ ap (λ n. leb (s .clock) (eventKey e / 4_294_967_296)
-      && wordFits (s .last) known bins (4_294_967_295 - eventKey e % 4_294_967_296) (wordOf w (numberOf n) 1) n) (word-at v k l)
+      let key : ℕ = getD w (Row.KEYS + k) 0 in
+      let word : ℕ = getD w (Row.NOTICES + k) 0 in
+      ap (λ c. leb c (key / Word.TIME)
+      && wordFits (getD w Row.LAST 0) known bins (Code.HIGHEST - key % Word.RANKS)
+      (wordOf w (numberOf word) Process.PRIORITY) word) (clock-is v)
+      ∙ ap (λ n. leb (s .clock) (key / Word.TIME)
+      && wordFits n known bins (Code.HIGHEST - key % Word.RANKS) (wordOf w (numberOf word) Process.PRIORITY) word) (last-is v)
+      ∙ ap (λ n. leb (s .clock) (n / Word.TIME)
+      && wordFits (s .last) known bins (Code.HIGHEST - n % Word.RANKS) (wordOf w (numberOf word) Process.PRIORITY) word)
+      (key-at v k l)
+      ∙ ap (λ n. leb (s .clock) (eventKey e / Word.TIME)
+      && wordFits (s .last) known bins (Code.HIGHEST - eventKey e % Word.RANKS) (wordOf w (numberOf n) Process.PRIORITY) n)
+      (word-at v k l)
       ∙ ap (λ n. leb (s .clock) n
-      && wordFits (s .last) known bins (4_294_967_295 - eventKey e % 4_294_967_296) (wordOf w (numberOf (eventWord e)) 1)
+      && wordFits (s .last) known bins (Code.HIGHEST - eventKey e % Word.RANKS)
+      (wordOf w (numberOf (eventWord e)) Process.PRIORITY)
       (eventWord e)) (time-in e h)
       ∙ ap (λ n. leb (s .clock) (e .time)
-      && wordFits (s .last) known bins n (wordOf w (numberOf (eventWord e)) 1) (eventWord e)) (rank-in e h)
+      && wordFits (s .last) known bins n (wordOf w (numberOf (eventWord e)) Process.PRIORITY) (eventWord e)) (rank-in e h)
       ∙ ap (λ b. leb (s .clock) (e .time) && b)
       (notice-is (e .time) (e .priority) (e .notice) (h .time-low) (h .priority-ok) (h .notice-ok))
 
   rises-is : (k : ℕ) → suc k < length (s .events)
-      → rises w 200 1 k ≡ leb (eventKey (getD (s .events) k noEvent)) (eventKey (getD (s .events) (suc k) noEvent))
+      → rises w Row.KEYS 1 k ≡ leb (eventKey (getD (s .events) k noEvent)) (eventKey (getD (s .events) (suc k) noEvent))
   rises-is k h =
-      let a : getD w (200 + k) 0 / 1 ≡ eventKey (getD (s .events) k noEvent) = omega (arith, key-at v k (omega arith)) in
-      let b : getD w (200 + (k + 1)) 0 / 1 ≡ eventKey (getD (s .events) (suc k) noEvent) =
-      ap (λ j. getD w (200 + j) 0 / 1) (add-one k) ∙ omega (arith, key-at v (suc k) h) in
-      ap (λ n. leb n (getD w (200 + (k + 1)) 0 / 1)) a ∙ ap (leb (eventKey (getD (s .events) k noEvent))) b
+      let a : getD w (Row.KEYS + k) 0 / 1 ≡ eventKey (getD (s .events) k noEvent) = omega (arith, key-at v k (omega arith)) in
+      let b : getD w (Row.KEYS + (k + 1)) 0 / 1 ≡ eventKey (getD (s .events) (suc k) noEvent) =
+      ap (λ j. getD w (Row.KEYS + j) 0 / 1) (add-one k) ∙ omega (arith, key-at v (suc k) h) in
+      ap (λ n. leb n (getD w (Row.KEYS + (k + 1)) 0 / 1)) a ∙ ap (leb (eventKey (getD (s .events) k noEvent))) b
 
-  in-line : each (getD w 5 0 - 1) (rises w 200 1) ≡ eventsInLine (s .events)
+  in-line : each (getD w Row.EVENTS 0 - 1) (rises w Row.KEYS 1) ≡ eventsInLine (s .events)
   in-line =
-      each-ordered noEvent eventKey (rises w 200 1) (s .events) _ (Ev.count-is v) rises-is
+      each-ordered noEvent eventKey (rises w Row.KEYS 1) (s .events) _ (Ev.count-is v) rises-is
       ∙ sym (ordered-same EventSized (λ a b. not (sooner b a)) (λ a b. leb (eventKey a) (eventKey b))
       (λ a b g h. ap not (sooner-key b a (h .priority-ok) (g .priority-ok)) ∙ not-ltb (eventKey a) (eventKey b))
       (s .events) (v .sized .events-ok))
@@ -151,5 +160,5 @@ module _ {w : List ℕ} {P : State → Type 0} (v : Shown w P) (m : Model) where
   pub events-are : eventsFit w known bins
       ≡ (eventsInLine (s .events) && all (λ e. leb (s .clock) (e .time) && eventOk e) (s .events))
   events-are =
-      ap (λ b. b && each (getD w 5 0) (eventFits w known bins)) in-line
+      ap (λ b. b && each (getD w Row.EVENTS 0) (eventFits w known bins)) in-line
       ∙ ap (λ b. eventsInLine (s .events) && b) (each-all noEvent _ _ (s .events) _ (Ev.count-is v) event-is)

@@ -15,11 +15,15 @@ use Rattle.promises.specs.Laws.{AllOf, all-map, all-append, all-get, over, over
 use Rattle.promises.specs.Decides.{over-listed}
 use Rattle.base_ordered.specs.Lines.{packed, kindOf, numberOf, dataOf}
 use Rattle.base_ordered.specs.Order.{kind-packed, number-packed, word-place}
-use Rattle.row_work.specs.Work.{floorWord, slaveWord, SlaveSized, WaiterSized, WaitersSized, ProcessSized, EventSized, NoticeSized}
+use Rattle.row_work.specs.Work.{floorWord, slaveWord, SlaveSized, WaiterSized, WaitersSized}
+use Rattle.row_work.specs.Work.{ProcessSized, EventSized, NoticeSized}
 use Rattle.row_work.specs.Work.{FloorSized, Sized}
 use Rattle.row_process.specs.Process.{Shown}
 use Rattle.row_lists.specs.Queues.{Queue}
 use Rattle.semantics.specs.Numbers as No
+use Rattle.base_numbers.specs.Row as Row
+use Rattle.base_numbers.specs.Process as Process
+use Rattle.base_numbers.specs.Word as Word
 use Rattle.row_process.proofs.Standing as Stand
 use Rattle.row_lists.proofs.Events as Ev
 use Rattle.row_lists.proofs.Waiting as Wait
@@ -59,7 +63,7 @@ module _ {w : List ℕ} {P : State → Type 0} (v : Shown w P) (p : ℕ) where
       → inQueue w from count p ≡ over (λ x. here (x .place)) ws
   queue-is {ws = ws} q =
       tally-over noWaiter (λ x. here (x .place)) _ ws _ (q .count-is)
-      (λ k h. ap (λ n. here (n % 64)) (waiter-at q k h)
+      (λ k h. ap (λ n. here (n % Word.PLACES)) (waiter-at q k h)
       ∙ ap here (word-place (getD ws k noWaiter) (waiter-sized q k .place-low)))
 
   waiting-are : (syncs : ℕ) → syncs ≡ length (s .waiting)
@@ -67,12 +71,13 @@ module _ {w : List ℕ} {P : State → Type 0} (v : Shown w P) (p : ℕ) where
   waiting-are syncs e =
       tally-over [] (λ ws. over (λ x. here (x .place)) ws) _ (s .waiting) syncs e (λ i h. queue-is (Wait.waiting-queue v i h))
 
-  slaves-are : (q : ℕ) → q < 64 → inSlaves w p q ≡ over (λ x. here (x .place)) (process s q .slaves)
+  slaves-are : (q : ℕ) → q < No.places → inSlaves w p q ≡ over (λ x. here (x .place)) (process s q .slaves)
   slaves-are q l =
       tally-over noSlave (λ x. here (x .place)) _ (process s q .slaves) _ (Stand.slaves-are v q l)
-      (λ k h. ap (λ n. here (n % 64)) (slave-at v q l k h) ∙ ap here (place-in k))
+      (λ k h. ap (λ n. here (n % Word.PLACES)) (slave-at v q l k h) ∙ ap here (place-in k))
     where
-      place-in : (k : ℕ) → slaveWord (getD (process s q .slaves) k noSlave) % 64 ≡ getD (process s q .slaves) k noSlave .place
+      place-in : (k : ℕ) → slaveWord (getD (process s q .slaves) k noSlave) % Word.PLACES
+          ≡ getD (process s q .slaves) k noSlave .place
       place-in k =
           let x : Slave = getD (process s q .slaves) k noSlave in
           let z : SlaveSized x =
@@ -81,10 +86,10 @@ module _ {w : List ℕ} {P : State → Type 0} (v : Shown w P) (p : ℕ) where
 
   owned-are : owned w p ≡ over (λ q. over (λ x. here (x .place)) (q .slaves)) (s .processes)
   owned-are =
-      tally-over nobody (λ q. over (λ x. here (x .place)) (q .slaves)) _ (s .processes) 64 (sym (v .sized .places-64))
+      tally-over nobody (λ q. over (λ x. here (x .place)) (q .slaves)) _ (s .processes) No.places (sym (v .sized .places-64))
       (λ q h. slaves-are q (omega (arith, v .sized .places-64)))
 
-  floor-here : oneIf (eqb (getD w 3 0) (p + 1)) ≡ over here (onFloor (s .floor))
+  floor-here : oneIf (eqb (getD w Row.FLOOR 0) (p + 1)) ≡ over here (onFloor (s .floor))
   floor-here = ap (λ n. oneIf (eqb n (p + 1))) (floor-is v) ∙ by (s .floor)
     where
       by : (f : Floor) → oneIf (eqb (floorWord f) (p + 1)) ≡ over here (onFloor f)
@@ -103,14 +108,14 @@ module _ {w : List ℕ} {P : State → Type 0} (v : Shown w P) (p : ℕ) where
               let d = ap oneIf e in
               omega arith
 
-  lives-is : p < 64 → oneIf (not (eqb (wordOf w p 2) 0)) ≡ (if isFree (process s p) then 0 else 1)
+  lives-is : p < No.places → oneIf (not (eqb (wordOf w p Process.DEPTH) 0)) ≡ (if isFree (process s p) then 0 else 1)
   lives-is l = ap (λ n. oneIf (not (eqb n 0))) (Stand.depth-is v p l) ∙ by (process s p .frames)
     where
       by : (fs : List Frame) → oneIf (not (eqb (length fs) 0)) ≡ (if isEmpty fs then 0 else 1)
       by [] = refl
       by (f ∷ fs) = ap (λ b. oneIf (not b)) (ne-eqb (suc (length fs)) 0 (λ e. omega arith))
 
-  place-is : (syncs : ℕ) → syncs ≡ length (s .waiting) → p < 64
+  place-is : (syncs : ℕ) → syncs ≡ length (s .waiting) → p < No.places
       → placeListed w syncs p ≡ eqb (length (keep (eqb p) (listed s))) (if isFree (process s p) then 0 else 1)
   place-is syncs e l =
       let a = floor-here in
@@ -120,13 +125,15 @@ module _ {w : List ℕ} {P : State → Type 0} (v : Shown w P) (p : ℕ) where
       let f = owned-are in
       let g = over-listed here s in
       let h = over-keep (eqb p) (listed s) in
-      let n : ℕ = oneIf (eqb (getD w 3 0) (p + 1)) + (inEvents w p + (inQueue w 136 6 p + (inWaiting w syncs p + owned w p))) in
+      let n : ℕ = oneIf (eqb (getD w Row.FLOOR 0) (p + 1))
+      + (inEvents w p + (inQueue w Row.QUEUE Row.BLOCKED p + (inWaiting w syncs p + owned w p))) in
       let i : n ≡ length (keep (eqb p) (listed s)) = omega arith in
-      ap (λ x. eqb x (oneIf (not (eqb (wordOf w p 2) 0)))) i ∙ ap (eqb (length (keep (eqb p) (listed s)))) (lives-is l)
+      ap (λ x. eqb x (oneIf (not (eqb (wordOf w p Process.DEPTH) 0)))) i
+      ∙ ap (eqb (length (keep (eqb p) (listed s)))) (lives-is l)
 
 -- EVERY PLACE LISTED is one of the 64.
 abbrev Low : ℕ → Type 0
-Low j = j < 64
+Low j = j < No.places
 
 collect-low : {A : Type 0} (f : A → List ℕ) (G : A → Type 0) → ((a : A) → G a → AllOf Low (f a)) → (xs : List A) → AllOf G xs
     → AllOf Low (collect f xs)
@@ -161,11 +168,11 @@ listed-low s h =
     (s .processes) (h .processes-ok)))))
 
 module _ {w : List ℕ} {P : State → Type 0} (v : Shown w P) where
-  pub in-one-is : (syncs : ℕ) → syncs ≡ length (v .is .waiting) → each 64 (placeListed w syncs) ≡ inOne (v .is)
+  pub in-one-is : (syncs : ℕ) → syncs ≡ length (v .is .waiting) → each No.places (placeListed w syncs) ≡ inOne (v .is)
   unfolding each
   in-one-is syncs e =
-      each-same _ _ 64 (λ p l. place-is v p syncs e l)
+      each-same _ _ No.places (λ p l. place-is v p syncs e l)
       ∙ ap (λ (t : Bool). t
-      && each 64 (λ p. eqb (length (keep (eqb p) (listed (v .is)))) (if isFree (process (v .is) p) then 0 else 1)))
+      && each No.places (λ p. eqb (length (keep (eqb p) (listed (v .is)))) (if isFree (process (v .is) p) then 0 else 1)))
       (sym (all-true (λ p. ltb p No.places) (listed (v .is))
       (all-map Low _ (λ p h. lt-ltb p No.places h) (listed (v .is)) (listed-low (v .is) (v .sized)))))

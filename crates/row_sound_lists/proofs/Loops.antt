@@ -5,6 +5,8 @@ use native.Mathlib.Numerals.{add-one}
 use mathlib.Core.Path.{_≡_, refl, sym, _∙_, ap}
 use mathlib.Core.Bool.{Bool, true, _&&_}
 use mathlib.Core.List.{List}
+use Rattle.base_numbers.specs.Row as Row
+use Rattle.base_numbers.specs.Limit as Limit
 use Rattle.row_sound_lists.specs.Tests.{each, tally, Bounded, Lined}
 
 pub each-none : (f : ℕ → Bool) → true ≡ each 0 f
@@ -32,8 +34,9 @@ pub tally-done : (f : ℕ → ℕ) (k n t : ℕ) → k ≡ n → t ≡ tally k f
 tally-done f k n t e h = h ∙ ap (λ x. tally x f) e
 
 -- The rows of the lists of those that wait.
-pub blocked-lined : {w : List ℕ} → Bounded w → Lined w 136 6
+pub blocked-lined : {w : List ℕ} → Bounded w → Lined w Row.QUEUE 6
 blocked-lined b = record { long = b .long; row-in = omega arith; count-in = omega arith; few = b .blocked-few }
 
-pub waiting-lined : {w : List ℕ} → Bounded w → (i : ℕ) → i < 32 → Lined w (456 + 64 * i) (104 + i)
+pub waiting-lined : {w : List ℕ} → Bounded w → (i : ℕ) → i < Limit.THINGS
+    → Lined w (Row.WAITING + Row.WAITERS_MOST * i) (Row.WAITS + i)
 waiting-lined b i h = record { long = b .long; row-in = omega arith; count-in = omega arith; few = b .waiting-few i h }

@@ -23,6 +23,10 @@ use Rattle.row_work.specs.Work.{ProcessSized, SlaveSized}
 use Rattle.row_process.specs.Process.{Shown}
 use Rattle.semantics.specs.Numbers as No
 use Rattle.semantics.specs.Numbers.{lowest}
+use Rattle.base_numbers.specs.Row as Row
+use Rattle.base_numbers.specs.Process as Process
+use Rattle.base_numbers.specs.Word as Word
+use Rattle.base_numbers.specs.Code as Code
 use Rattle.row_process.proofs.Standing as Stand
 use Rattle.row_sound_lists.specs.Tests.{each, oneIf, wordOf, slavesKnown, alike, vacantRow, livingRow, placeFits}
 use Rattle.row_sound_lists.specs.Counted.{Furnished}
@@ -35,7 +39,7 @@ abbrev pub placeOk : Model → State → Process → Bool
 placeOk m s q =
     (if isFree q then vacant q else furnished m q) && ((isFree q || processInRange m q) && (isFree q || ownNumber s q))
 
-module _ {w : List ℕ} {P : State → Type 0} (v : Shown w P) (m : Model) (p : ℕ) (l : p < 64) where
+module _ {w : List ℕ} {P : State → Type 0} (v : Shown w P) (m : Model) (p : ℕ) (l : p < No.places) where
   abbrev s : State
   s = v .is
 
@@ -49,9 +53,10 @@ module _ {w : List ℕ} {P : State → Type 0} (v : Shown w P) (m : Model) (p : 
   vacant-is : (q .locals ≡ []) → (q .held ≡ []) → vacantRow w p ≡ vacant q
   unfolding code
   vacant-is a b =
-      ap (λ n. eqb n 0 && (eqb (wordOf w p 1) 2_147_483_648 && eqb (wordOf w p 3) 0)) (Stand.number-is v p l)
-      ∙ ap (λ n. eqb (q .number) 0 && (eqb n 2_147_483_648 && eqb (wordOf w p 3) 0)) (Stand.priority-is v p l)
-      ∙ ap (λ n. eqb (q .number) 0 && (eqb (code (q .priority)) 2_147_483_648 && eqb n 0)) (Stand.slaves-are v p l)
+      ap (λ n. eqb n 0 && (eqb (wordOf w p Process.PRIORITY) Code.ZERO && eqb (wordOf w p Process.SLAVES) 0))
+      (Stand.number-is v p l)
+      ∙ ap (λ n. eqb (q .number) 0 && (eqb n Code.ZERO && eqb (wordOf w p Process.SLAVES) 0)) (Stand.priority-is v p l)
+      ∙ ap (λ n. eqb (q .number) 0 && (eqb (code (q .priority)) Code.ZERO && eqb n 0)) (Stand.slaves-are v p l)
       ∙ ap (λ t. eqb (q .number) 0 && (t && eqb (length (q .slaves)) 0))
       (same-code (q .priority) (pos 0) (h .priority-ok) (omega arith))
       ∙ ap (λ t. eqb (q .number) 0 && (same (q .priority) (pos 0) && t)) (empty-length (q .slaves))
@@ -65,28 +70,29 @@ module _ {w : List ℕ} {P : State → Type 0} (v : Shown w P) (m : Model) (p : 
       each-all noSlave (λ x. ltb (x .of) (m .syncs)) _ (q .slaves) _ (Stand.slaves-are v p l)
       (λ k i. ap (λ n. ltb n (m .syncs)) (sync-in k i))
     where
-      sync-in : (k : ℕ) → k < length (q .slaves) → wordOf w p (52 + k) / 64 ≡ getD (q .slaves) k noSlave .of
+      sync-in : (k : ℕ) → k < length (q .slaves) → wordOf w p (Process.OWNED + k) / Word.SYNC ≡ getD (q .slaves) k noSlave .of
       sync-in k i =
           let x : Slave = getD (q .slaves) k noSlave in
           let z : SlaveSized x = all-get SlaveSized (q .slaves) k noSlave (h .slaves-ok) (omega arith) in
-          ap (λ n. n / 64) (slave-at v p l k i) ∙ omega (arith, z .place-low)
+          ap (λ n. n / Word.SYNC) (slave-at v p l k i) ∙ omega (arith, z .place-low)
 
   alike-is : (n : ℕ) → alike w n ≡ length (keep (λ r. eqb n (r .number)) (s .processes))
   alike-is n =
-      tally-over nobody (λ r. oneIf (eqb n (r .number))) _ (s .processes) 64 (sym (v .sized .places-64))
+      tally-over nobody (λ r. oneIf (eqb n (r .number))) _ (s .processes) No.places (sym (v .sized .places-64))
       (λ k i. ap (λ x. oneIf (eqb n x)) (Stand.number-is v k (omega (arith, v .sized .places-64))))
       ∙ sym (over-keep (λ r. eqb n (r .number)) (s .processes))
 
-  own-is : (within 1 (getD w 2 0) (wordOf w p 0) && eqb (alike w (wordOf w p 0)) 1) ≡ ownNumber s q
+  own-is : (within 1 (getD w Row.LAST 0) (wordOf w p Process.NUMBER) && eqb (alike w (wordOf w p Process.NUMBER)) 1)
+      ≡ ownNumber s q
   own-is =
-      ap (λ n. within 1 n (wordOf w p 0) && eqb (alike w (wordOf w p 0)) 1) (last-is v)
+      ap (λ n. within 1 n (wordOf w p Process.NUMBER) && eqb (alike w (wordOf w p Process.NUMBER)) 1) (last-is v)
       ∙ ap (λ n. within 1 (s .last) n && eqb (alike w n) 1) (Stand.number-is v p l)
       ∙ ap (λ n. within 1 (s .last) (q .number) && eqb n 1) (alike-is (q .number))
 
-  range-is : (leb 2_147_473_648 (wordOf w p 1) && slavesKnown w (m .syncs) p) ≡ processInRange m q
+  range-is : (leb Code.LOWEST (wordOf w p Process.PRIORITY) && slavesKnown w (m .syncs) p) ≡ processInRange m q
   unfolding code
   range-is =
-      ap (λ n. leb 2_147_473_648 n && slavesKnown w (m .syncs) p) (Stand.priority-is v p l)
+      ap (λ n. leb Code.LOWEST n && slavesKnown w (m .syncs) p) (Stand.priority-is v p l)
       ∙ ap (λ t. t && slavesKnown w (m .syncs) p) (code-order lowest (q .priority) (omega arith) (h .priority-ok))
       ∙ ap (λ t. leZ lowest (q .priority) && t) slaves-known
       ∙ ap (λ (t : Bool). leZ lowest (q .priority) && (t && all (λ x. ltb (x .of) (m .syncs)) (q .slaves)))
@@ -98,8 +104,9 @@ module _ {w : List ℕ} {P : State → Type 0} (v : Shown w P) (m : Model) (p : 
   living-is : length (q .locals) ≡ No.locals → length (q .held) ≡ length (m .totals)
       → livingRow w (m .syncs) p ≡ (furnished m q && (processInRange m q && ownNumber s q))
   living-is a b =
-      sym (and-assoc (leb 2_147_473_648 (wordOf w p 1)) (slavesKnown w (m .syncs) p) _)
-      ∙ ap (λ t. t && (within 1 (getD w 2 0) (wordOf w p 0) && eqb (alike w (wordOf w p 0)) 1)) range-is
+      sym (and-assoc (leb Code.LOWEST (wordOf w p Process.PRIORITY)) (slavesKnown w (m .syncs) p) _)
+      ∙ ap (λ t. t && (within 1 (getD w Row.LAST 0) (wordOf w p Process.NUMBER) && eqb (alike w (wordOf w p Process.NUMBER)) 1))
+      range-is
       ∙ ap (λ t. processInRange m q && t) own-is
       ∙ ap (λ (t : Bool). t && (processInRange m q && ownNumber s q))
       (sym (eq-eqb (length (q .held)) (length (m .totals)) b))
@@ -127,7 +134,7 @@ module _ {w : List ℕ} {P : State → Type 0} (v : Shown w P) (m : Model) (p : 
 
 module _ {w : List ℕ} {P : State → Type 0} (v : Shown w P) (m : Model) where
   pub places-are : AllOf (Furnished m) (v .is .processes)
-      → each 64 (placeFits w (m .syncs)) ≡ all (placeOk m (v .is)) (v .is .processes)
+      → each No.places (placeFits w (m .syncs)) ≡ all (placeOk m (v .is)) (v .is .processes)
   places-are f =
-      each-all nobody (placeOk m (v .is)) _ (v .is .processes) 64 (sym (v .sized .places-64))
+      each-all nobody (placeOk m (v .is)) _ (v .is .processes) No.places (sym (v .sized .places-64))
       (λ p i. place-is v m p (omega (arith, v .sized .places-64)) (all-index nobody (Furnished m) (v .is .processes) f p i))

@@ -5,8 +5,12 @@ use mathlib.Core.Path.{_≡_, refl, sym, _∙_, ap}
 use mathlib.Core.List.{List, [], _∷_, _++_, map}
 use lib.ListN.{length, getD, replicate, length-map}
 use lib.IntN.{pos}
+use Rattle.semantics.specs.Numbers as No
 use Rattle.semantics.specs.State.{State, Process, Slave, Event, Waiter, wakes, process}
 use Rattle.promises.specs.Laws.{all-get, all-mapped}
+use Rattle.base_numbers.specs.Row as Row
+use Rattle.base_numbers.specs.Process as Process
+use Rattle.base_numbers.specs.Limit as Limit
 use Rattle.base_ordered.specs.Lines.{pad, eventKey, eventWord, waiterWord}
 use Rattle.row_work.specs.Laid.{laid-at}
 use Rattle.row_work.specs.Work.{processParts, processWidths, processRow, slaveWord, floorWord, ProcessSized, EventSized}
@@ -52,9 +56,9 @@ module _ {w : List ℕ} {from count : ℕ} {ws : List Waiter} (q : Queue w from 
   pub waiter-at : (k : ℕ) → k < length ws → getD w (from + k) 0 ≡ waiterWord (getD ws k noWaiter)
   waiter-at k h =
       let l = q .sized .few in
-      sym (part-at w from 64 k (omega arith))
+      sym (part-at w from Row.WAITERS_MOST k (omega arith))
       ∙ ap (λ r. getD r k 0) (q .row-is)
-      ∙ row-at waiterWord ws noWaiter 64 k h
+      ∙ row-at waiterWord ws noWaiter Row.WAITERS_MOST k h
 
   pub waiter-sized : (k : ℕ) → WaiterSized (getD ws k noWaiter)
   waiter-sized k = all-get WaiterSized ws k noWaiter (q .sized .each) (omega arith)
@@ -63,17 +67,17 @@ module _ {w : List ℕ} {P : State → Type 0} (v : Shown w P) where
   abbrev s : State
   s = v .is
 
-  pub clock-is : getD w 0 0 ≡ s .clock
-  clock-is = ap (λ l. getD l 0 0) (v .shows) ∙ clock-at s
+  pub clock-is : getD w Row.CLOCK 0 ≡ s .clock
+  clock-is = ap (λ l. getD l Row.CLOCK 0) (v .shows) ∙ clock-at s
 
-  pub last-is : getD w 2 0 ≡ s .last
-  last-is = ap (λ l. getD l 2 0) (v .shows) ∙ last-at s
+  pub last-is : getD w Row.LAST 0 ≡ s .last
+  last-is = ap (λ l. getD l Row.LAST 0) (v .shows) ∙ last-at s
 
-  pub floor-is : getD w 3 0 ≡ floorWord (s .floor)
-  floor-is = ap (λ l. getD l 3 0) (v .shows) ∙ floor-at s
+  pub floor-is : getD w Row.FLOOR 0 ≡ floorWord (s .floor)
+  floor-is = ap (λ l. getD l Row.FLOOR 0) (v .shows) ∙ floor-at s
 
-  pub free-is : (i : ℕ) → i < length (s .free) → getD w (8 + i) 0 ≡ getD (s .free) i 0
-  free-is i h = ap (λ l. getD l (8 + i) 0) (v .shows) ∙ free-at s (v .sized) i h
+  pub free-is : (i : ℕ) → i < length (s .free) → getD w (Row.FREE + i) 0 ≡ getD (s .free) i 0
+  free-is i h = ap (λ l. getD l (Row.FREE + i) 0) (v .shows) ∙ free-at s (v .sized) i h
 
   -- EVENTS.
   module _ (k : ℕ) (h : k < length (s .events)) where
@@ -83,57 +87,57 @@ module _ {w : List ℕ} {P : State → Type 0} (v : Shown w P) where
     pub event-sized : EventSized e
     event-sized = all-get EventSized (s .events) k noEvent (v .sized .events-ok) (omega arith)
 
-    pub key-at : getD w (200 + k) 0 ≡ eventKey e
+    pub key-at : getD w (Row.KEYS + k) 0 ≡ eventKey e
     key-at =
         let l = v .sized .events-few in
-        sym (part-at w 200 128 k (omega arith))
+        sym (part-at w Row.KEYS Row.EVENTS_MOST k (omega arith))
         ∙ ap (λ r. getD r k 0) (Ev.keys-there v .are)
-        ∙ row-at eventKey (s .events) noEvent 128 k h
+        ∙ row-at eventKey (s .events) noEvent Row.EVENTS_MOST k h
 
-    pub word-at : getD w (328 + k) 0 ≡ eventWord e
+    pub word-at : getD w (Row.NOTICES + k) 0 ≡ eventWord e
     word-at =
         let l = v .sized .events-few in
-        sym (part-at w 328 128 k (omega arith))
+        sym (part-at w Row.NOTICES Row.EVENTS_MOST k (omega arith))
         ∙ ap (λ r. getD r k 0) (Ev.words-here v .are)
-        ∙ row-at eventWord (s .events) noEvent 128 k h
+        ∙ row-at eventWord (s .events) noEvent Row.EVENTS_MOST k h
 
   -- A PROCESS.
-  module _ (p : ℕ) (l : p < 64) where
+  module _ (p : ℕ) (l : p < No.places) where
     abbrev q : Process
     q = process s p
 
     pub sized-there : ProcessSized q
     sized-there = Stand.is-sized v p
 
-    pub held-at : (i : ℕ) → i < 32 → wordOf w p (12 + i) ≡ getD (q .held) i 0
+    pub held-at : (i : ℕ) → i < Limit.THINGS → wordOf w p (Process.HELD + i) ≡ getD (q .held) i 0
     unfolding processRow
     held-at i h =
-        Stand.word-is v p l (12 + i) (omega arith)
+        Stand.word-is v p l (Process.HELD + i) (omega arith)
         ∙ laid-at (processParts q) processWidths (process-wide q sized-there) 2 i (omega arith)
-        ∙ behind-at (q .held) (32 - length (q .held)) i
+        ∙ behind-at (q .held) (Limit.THINGS - length (q .held)) i
 
-    pub slave-at : (k : ℕ) → k < length (q .slaves) → wordOf w p (52 + k) ≡ slaveWord (getD (q .slaves) k noSlave)
+    pub slave-at : (k : ℕ) → k < length (q .slaves) → wordOf w p (Process.OWNED + k) ≡ slaveWord (getD (q .slaves) k noSlave)
     unfolding processRow
     slave-at k h =
         let n = sized-there .slaves-few in
-        Stand.word-is v p l (52 + k) (omega arith)
+        Stand.word-is v p l (Process.OWNED + k) (omega arith)
         ∙ laid-at (processParts q) processWidths (process-wide q sized-there) 4 k (omega arith)
-        ∙ row-at slaveWord (q .slaves) noSlave 76 k h
+        ∙ row-at slaveWord (q .slaves) noSlave Process.OWNED_MOST k h
 
   -- Past its end, too, the row of what is free and that of how many wait are as the list.
-  free-any : (i : ℕ) → i < 32 → getD w (8 + i) 0 ≡ getD (s .free) i 0
+  free-any : (i : ℕ) → i < Limit.THINGS → getD w (Row.FREE + i) 0 ≡ getD (s .free) i 0
   unfolding workOf
   free-any i h =
-      ap (λ l. getD l (8 + i) 0) (v .shows)
+      ap (λ l. getD l (Row.FREE + i) 0) (v .shows)
       ∙ laid-at (workParts s) workWidths (work-wide s (v .sized)) 1 i (omega arith)
-      ∙ behind-at (s .free) (32 - length (s .free)) i
+      ∙ behind-at (s .free) (Limit.THINGS - length (s .free)) i
 
-  counts-any : (i : ℕ) → i < 32 → getD w (104 + i) 0 ≡ getD (map length (s .waiting)) i 0
+  counts-any : (i : ℕ) → i < Limit.THINGS → getD w (Row.WAITS + i) 0 ≡ getD (map length (s .waiting)) i 0
   unfolding workOf
   counts-any i h =
-      ap (λ l. getD l (104 + i) 0) (v .shows)
+      ap (λ l. getD l (Row.WAITS + i) 0) (v .shows)
       ∙ laid-at (workParts s) workWidths (work-wide s (v .sized)) 4 i (omega arith)
-      ∙ behind-at (map length (s .waiting)) (32 - length (map length (s .waiting))) i
+      ∙ behind-at (map length (s .waiting)) (Limit.THINGS - length (map length (s .waiting))) i
 
   -- All of it is small.
   pub bounded : Bounded w
@@ -150,7 +154,8 @@ module _ {w : List ℕ} {P : State → Type 0} (v : Shown w P) where
             rw (held-at p h i l) (all-get _ (process s p .held) i 0 (sized-there p h .held-low) (omega arith));
       }
     where
-      few-at : (i : ℕ) → getD (map length (s .waiting)) i 0 ≤ 64
+      few-at : (i : ℕ) → getD (map length (s .waiting)) i 0 ≤ Row.WAITERS_MOST
       few-at i =
-          all-get (λ n. n ≤ 64) (map length (s .waiting)) i 0
-          (all-mapped WaitersSized (λ n. n ≤ 64) length (λ ws h. h .few) (s .waiting) (v .sized .waiting-ok)) (omega arith)
+          all-get (λ n. n ≤ Row.WAITERS_MOST) (map length (s .waiting)) i 0
+          (all-mapped WaitersSized (λ n. n ≤ Row.WAITERS_MOST) length (λ ws h. h .few) (s .waiting) (v .sized .waiting-ok))
+          (omega arith)

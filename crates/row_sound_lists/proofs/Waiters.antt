@@ -10,6 +10,9 @@ use lib.ListN.{length, getD}
 use Rattle.semantics.specs.Words.{all, ordered}
 use Rattle.semantics.specs.State.{State, Waiter, higher}
 use Rattle.semantics.specs.Sound.{waiterTied}
+use Rattle.base_numbers.specs.Process as Process
+use Rattle.base_numbers.specs.Word as Word
+use Rattle.base_numbers.specs.Code as Code
 use Rattle.base_i32.specs.Code.{code}
 use Rattle.base_i32.specs.Laws.{code-fits}
 use Rattle.base_ordered.specs.Lines.{waiterKey, waiterWord}
@@ -33,27 +36,27 @@ module _ {w : List ℕ} {P : State → Type 0} (v : Shown w P) where
 
   tied-is : (x : Waiter) → WaiterSized x → tied w (waiterWord x) ≡ waiterTied s x
   tied-is x h =
-      let a : 4_294_967_295 - waiterWord x / 64 % 4_294_967_296 ≡ code (x .priority) =
+      let a : Code.HIGHEST - waiterWord x / Word.KEY % Word.RANKS ≡ code (x .priority) =
       omega (arith, word-key x (h .place-low), code-fits (x .priority) (h .priority-ok)) in
-      ap (λ n. eqb n (wordOf w (waiterWord x % 64) 1)) a
-      ∙ ap (λ p. eqb (code (x .priority)) (wordOf w p 1)) (word-place x (h .place-low))
+      ap (λ n. eqb n (wordOf w (waiterWord x % Word.PLACES) Process.PRIORITY)) a
+      ∙ ap (λ p. eqb (code (x .priority)) (wordOf w p Process.PRIORITY)) (word-place x (h .place-low))
       ∙ ap (eqb (code (x .priority))) (Stand.priority-is v (x .place) (h .place-low))
       ∙ same-code (x .priority) _ (h .priority-ok) (Stand.is-sized v (x .place) .priority-ok)
 
   module _ {from count : ℕ} {ws : List Waiter} (q : Queue w from count ws) where
-    key-at : (k : ℕ) → k < length ws → getD w (from + k) 0 / 64 ≡ waiterKey (getD ws k noWaiter)
-    key-at k h = ap (λ n. n / 64) (waiter-at q k h) ∙ word-key (getD ws k noWaiter) (waiter-sized q k .place-low)
+    key-at : (k : ℕ) → k < length ws → getD w (from + k) 0 / Word.KEY ≡ waiterKey (getD ws k noWaiter)
+    key-at k h = ap (λ n. n / Word.KEY) (waiter-at q k h) ∙ word-key (getD ws k noWaiter) (waiter-sized q k .place-low)
 
     rises-is : (k : ℕ) → suc k < length ws
-        → rises w from 64 k ≡ leb (waiterKey (getD ws k noWaiter)) (waiterKey (getD ws (suc k) noWaiter))
+        → rises w from Word.KEY k ≡ leb (waiterKey (getD ws k noWaiter)) (waiterKey (getD ws (suc k) noWaiter))
     rises-is k h =
-        ap (λ n. leb n (getD w (from + (k + 1)) 0 / 64)) (key-at k (omega arith))
-        ∙ ap (λ j. leb (waiterKey (getD ws k noWaiter)) (getD w (from + j) 0 / 64)) (add-one k)
+        ap (λ n. leb n (getD w (from + (k + 1)) 0 / Word.KEY)) (key-at k (omega arith))
+        ∙ ap (λ j. leb (waiterKey (getD ws k noWaiter)) (getD w (from + j) 0 / Word.KEY)) (add-one k)
         ∙ ap (leb (waiterKey (getD ws k noWaiter))) (key-at (suc k) h)
 
-    in-line : each (getD w count 0 - 1) (rises w from 64) ≡ inLine ws
+    in-line : each (getD w count 0 - 1) (rises w from Word.KEY) ≡ inLine ws
     in-line =
-        each-ordered noWaiter waiterKey (rises w from 64) ws _ (q .count-is) rises-is
+        each-ordered noWaiter waiterKey (rises w from Word.KEY) ws _ (q .count-is) rises-is
         ∙ sym (ordered-same WaiterSized (λ a b. not (higher b a)) (λ a b. leb (waiterKey a) (waiterKey b))
         (λ a b g h. ap not (higher-key b a (h .priority-ok) (g .priority-ok)) ∙ not-ltb (waiterKey a) (waiterKey b))
         ws (q .sized .each))

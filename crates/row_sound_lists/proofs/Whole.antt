@@ -21,8 +21,11 @@ use Rattle.promises.specs.Says.{Says, says-is, says-for, _and_, says-also}
 use Rattle.row_process.specs.Process.{Shown}
 use Rattle.row_lists.specs.Lists.{Any}
 use Rattle.semantics.specs.Numbers as No
+use Rattle.base_numbers.specs.Row as Row
+use Rattle.base_numbers.specs.Limit as Limit
 use Rattle.row_lists.proofs.Waiting as Wait
-use Rattle.row_sound_lists.specs.Tests.{each, Bounded, queueFits, waitingFits, eventsFit, placeFits, placeListed, amountsAdd}
+use Rattle.row_sound_lists.specs.Tests.{each, Bounded, queueFits, waitingFits, eventsFit}
+use Rattle.row_sound_lists.specs.Tests.{placeFits, placeListed, amountsAdd}
 use Rattle.row_sound_lists.specs.Counted.{Counted, soundBeside}
 use Rattle.row_sound_lists.proofs.Indices.{same-says, all-true}
 use Rattle.row_sound_lists.proofs.Reading.{bounded}
@@ -52,10 +55,10 @@ module _ {w totals : List ℕ} {resources bins syncs : ℕ} (v : Counted w total
   pub is-bounded : Bounded w
   is-bounded = bounded shown
 
-  pub few-syncs : syncs ≤ 32
+  pub few-syncs : syncs ≤ Limit.THINGS
   few-syncs = omega (arith, v .things .syncs-are, v .fits .few-syncs)
 
-  pub few-resources : resources ≤ 32
+  pub few-resources : resources ≤ Limit.THINGS
   few-resources = omega (arith, v .things .resources-are, v .fits .few-totals)
 
   waiting-many : syncs ≡ length (s .waiting)
@@ -77,10 +80,10 @@ module _ {w totals : List ℕ} {resources bins syncs : ℕ} (v : Counted w total
   abbrev few : Bool
   few = leb (length (keep isReturn (s .events))) No.returns
 
-  says-places : Says (each 64 (placeFits w syncs)) ((shapes ≡ true) × ((ranges ≡ true) × (numbers ≡ true)))
+  says-places : Says (each No.places (placeFits w syncs)) ((shapes ≡ true) × ((ranges ≡ true) × (numbers ≡ true)))
   unfolding shown
   says-places =
-      says-via (ap (λ n. each 64 (placeFits w n)) (v .things .syncs-are) ∙ places-are shown m (v .shaped .furnished))
+      says-via (ap (λ n. each No.places (placeFits w n)) (v .things .syncs-are) ∙ places-are shown m (v .shaped .furnished))
       (says-also _ _ (s .processes) (says-also _ _ (s .processes) says-is))
 
   says-events : Says (eventsFit w resources bins)
@@ -94,7 +97,7 @@ module _ {w totals : List ℕ} {resources bins syncs : ℕ} (v : Counted w total
       ∙ events-are shown m)
       (is (eventsInLine (s .events)) and says-also _ _ (s .events) (says-also _ _ (s .events) says-is))
 
-  says-blocked : Says (queueFits w 136 6) ((inLine (s .blocked) ≡ true) × (all (waiterTied s) (s .blocked) ≡ true))
+  says-blocked : Says (queueFits w Row.QUEUE 6) ((inLine (s .blocked) ≡ true) × (all (waiterTied s) (s .blocked) ≡ true))
   unfolding shown
   says-blocked =
       says-via (queue-is shown (Wait.blocked-queue shown))
@@ -107,7 +110,7 @@ module _ {w totals : List ℕ} {resources bins syncs : ℕ} (v : Counted w total
       says-via (waiting-is shown syncs waiting-many)
       (is (all inLine (s .waiting)) and is (all (all (waiterTied s)) (s .waiting)))
 
-  says-one : Says (each 64 (placeListed w syncs)) (inOne s ≡ true)
+  says-one : Says (each No.places (placeListed w syncs)) (inOne s ≡ true)
   unfolding shown
   says-one = says-via (in-one-is shown syncs waiting-many) (is (inOne s))
 
@@ -125,8 +128,8 @@ module _ {w totals : List ℕ} {resources bins syncs : ℕ} (v : Counted w total
   bins-in = all-true _ (s .bins) (all-map (λ n. n ≤ No.fullBin) _ (λ n i. le-leb n No.fullBin i) (s .bins) (v .sized .bins-low))
 
   pub tests-decide :
-      ((few && ((each 64 (placeFits w syncs) && each 64 (placeListed w syncs))
-      && (eventsFit w resources bins && (queueFits w 136 6 && waitingFits w syncs))))
+      ((few && ((each No.places (placeFits w syncs) && each No.places (placeListed w syncs))
+      && (eventsFit w resources bins && (queueFits w Row.QUEUE Row.BLOCKED && waitingFits w syncs))))
       && each resources (amountsAdd w totals))
       ≡ soundBeside m s
   unfolding soundBeside

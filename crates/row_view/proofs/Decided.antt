@@ -4,8 +4,10 @@ use mathlib.Core.Path.{_≡_, sym, _∙_, ap, subst}
 use mathlib.Core.List.{List}
 use mathlib.Core.Bool.{Bool, true, false, _&&_}
 use lib.ListN.{length, getD}
+use Rattle.semantics.specs.Numbers as No
 use Rattle.semantics.specs.Model.{Model}
 use Rattle.promises.specs.Laws.{no-way, _&_}
+use Rattle.base_numbers.specs.Row as Row
 use Rattle.row_work.specs.Work.{workOf, Sized}
 use Rattle.row_work.specs.Shown.{work-long}
 use Rattle.row_view.specs.View.{cut, viewBy, viewIn}
@@ -16,12 +18,13 @@ abbrev Decides : Model → List ℕ → Bool → Type 0
 Decides m w x = (x ≡ true → Showing m w) × (x ≡ false → Showing m w → ⊥)
 
 -- A row of another length shows nothing.
-pub not-long : (m : Model) (w : List ℕ) → (length w ≡ 10_696 → ⊥) → Decides m w false
+pub not-long : (m : Model) (w : List ℕ) → (length w ≡ Row.WORDS → ⊥) → Decides m w false
 not-long m w h = (λ e. no-way e, λ e s. h (ap length (s .is-form) ∙ work-long (viewIn m w) (s .is-sized)))
 
-module _ (r b y v : ℕ) (few : Few r b y v) (w : List ℕ) (long : length w ≡ 10_696) where
+module _ (r b y v : ℕ) (few : Few r b y v) (w : List ℕ) (long : length w ≡ Row.WORDS) where
   tests-are : {h t l p : Bool} → h ≡ headFits w → t ≡ thingsFit r b y v w → l ≡ listsFit y w
-      → p ≡ processesFit r 64 (cut 2_504 8_192 w) (getD w 4 0) → h && (t && (l && p)) ≡ workFits r b y v w
+      → p ≡ processesFit r No.places (cut Row.PROCESSES Row.PROCESSES_ALL w) (getD w Row.LIVING 0)
+      → h && (t && (l && p)) ≡ workFits r b y v w
   unfolding workFits
   tests-are h-is t-is l-is p-is = λ z. h-is z && (t-is z && (l-is z && p-is z))
 
@@ -43,6 +46,7 @@ module _ (r b y v : ℕ) (few : Few r b y v) (w : List ℕ) (long : length w ≡
           no-way (sym f ∙ e ∙ says-work r b y v few w long .back i)
 
   pub shows-decided : {h t l p : Bool} → h ≡ headFits w → t ≡ thingsFit r b y v w → l ≡ listsFit y w
-      → p ≡ processesFit r 64 (cut 2_504 8_192 w) (getD w 4 0) → (m : Model) → Counted m r b y v
+      → p ≡ processesFit r No.places (cut Row.PROCESSES Row.PROCESSES_ALL w) (getD w Row.LIVING 0) → (m : Model)
+      → Counted m r b y v
       → Decides m w (h && (t && (l && p)))
   shows-decided h-is t-is l-is p-is m c = decides m c _ (tests-are h-is t-is l-is p-is)

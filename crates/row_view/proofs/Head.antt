@@ -7,6 +7,9 @@ use mathlib.Core.Bool.{Bool, true, false}
 use lib.Dec.{eqb}
 use borrow.Author.Tests.{eqb-true, eqb-false}
 use lib.ListN.{length, drop}
+use Rattle.semantics.specs.Numbers as No
+use Rattle.base_numbers.specs.Row as Row
+use Rattle.base_numbers.specs.Process as Process
 use Rattle.row_work.specs.Work.{closedWord, floorWord, FloorSized}
 use Rattle.row_view.specs.View.{floorOf, waitingOf, processesOf}
 
@@ -33,17 +36,17 @@ module _ (x : ℕ) where
       by true e = rw e (sym (eqb-true x 0 e))
       by false e = let n : x ≡ 0 → ⊥ = eqb-false x 0 e in rw e (omega arith)
 
-  pub floor-ok : x ≤ 64 → FloorSized (floorOf x)
+  pub floor-ok : x ≤ No.places → FloorSized (floorOf x)
   floor-ok h = by (eqb x 0) refl
     where
       by : (b : Bool) → eqb x 0 ≡ b → FloorSized (floorOf x)
       by true e = rw e tt
       by false e = let n : x ≡ 0 → ⊥ = eqb-false x 0 e in rw e (omega arith)
 
-  pub floor-low : FloorSized (floorOf x) → x ≤ 64
+  pub floor-low : FloorSized (floorOf x) → x ≤ No.places
   floor-low h = by (eqb x 0) refl
     where
-      by : (b : Bool) → eqb x 0 ≡ b → x ≤ 64
+      by : (b : Bool) → eqb x 0 ≡ b → x ≤ No.places
       by true e = let z = eqb-true x 0 e in omega arith
       by false e = let a = rw e at h in omega arith
 
@@ -51,9 +54,9 @@ module _ (x : ℕ) where
 pub processes-long : (r n : ℕ) (rows : List ℕ) → length (processesOf r n rows) ≡ n
 unfolding processesOf
 processes-long r zero rows = refl
-processes-long r (suc n) rows = ap suc (processes-long r n (drop 128 rows))
+processes-long r (suc n) rows = ap suc (processes-long r n (drop Process.WORDS rows))
 
 pub waiting-many : (ns rows : List ℕ) → length (waitingOf ns rows) ≡ length ns
 unfolding waitingOf
 waiting-many [] rows = refl
-waiting-many (n ∷ ns) rows = ap suc (waiting-many ns (drop 64 rows))
+waiting-many (n ∷ ns) rows = ap suc (waiting-many ns (drop Row.WAITERS_MOST rows))

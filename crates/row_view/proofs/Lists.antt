@@ -12,6 +12,7 @@ use Rattle.semantics.specs.State.{Frame, Event}
 use Rattle.promises.specs.Laws.{AllOf, all-append, all-split, _&_}
 use Rattle.promises.specs.Says.{Says, says-le, says-true, says-for, _and_}
 use Rattle.base_numbers.specs.Most as Most
+use Rattle.base_numbers.specs.Row as Row
 use Rattle.base_i32.specs.Laws.{value-fits}
 use Rattle.base_ordered.specs.Lines.{pad, eventKey, waiterWord, dataOf}
 use Rattle.row_work.specs.Work.{frameWord, stacked, waitersRow, FrameSized, NoticeSized, EventSized, WaiterSized, WaitersSized}
@@ -127,9 +128,9 @@ events-each (k ∷ ks) (d ∷ ds) e h =
 abbrev pub Listed : ℕ → List ℕ → Type 0
 Listed n row = (row ≡ waitersRow (waitersOf n row)) × ((length (waitersOf n row) ≡ n) × WaitersSized (waitersOf n row))
 
-pub says-waiters : (n : ℕ) (row : List ℕ) → length row ≡ 64 → Says (fitsBelow n Most.WAITER row) (Listed n row)
+pub says-waiters : (n : ℕ) (row : List ℕ) → length row ≡ Row.WAITERS_MOST → Says (fitsBelow n Most.WAITER row) (Listed n row)
 says-waiters n row l =
-    says-for (says-shown (λ x. leb x Most.WAITER) waiterWord waiterOf WaiterSized says-waiter 64 n row l)
+    says-for (says-shown (λ x. leb x Most.WAITER) waiterWord waiterOf WaiterSized says-waiter Row.WAITERS_MOST n row l)
     (λ h.
     let a = long (h .0) in
     h .1 .0 & a & record { few = omega (arith, h .0); each = h .1 .1 })
@@ -138,8 +139,8 @@ says-waiters n row l =
     made : length (waitersOf n row) ≡ length (take n row)
     made = length-map (take n row) waiterOf
 
-    long : n ≤ 64 → length (waitersOf n row) ≡ n
+    long : n ≤ Row.WAITERS_MOST → length (waitersOf n row) ≡ n
     long h = made ∙ length-take-le n row (omega arith)
 
-    few : length (waitersOf n row) ≡ n → n ≤ 64
+    few : length (waitersOf n row) ≡ n → n ≤ Row.WAITERS_MOST
     few e = let a = length-take n row in let b = made in omega arith

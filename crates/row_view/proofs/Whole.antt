@@ -12,6 +12,8 @@ use Rattle.semantics.specs.State.{State, Waiter}
 use Rattle.promises.specs.Laws.{AllOf, all-map, all-mapped, _&_}
 use Rattle.promises.specs.Fit.{I32}
 use Rattle.promises.specs.Says.{Says, says-le, says-eq, says-for, _and_}
+use Rattle.base_numbers.specs.Row as Row
+use Rattle.base_numbers.specs.Limit as Limit
 use Rattle.base_i32.specs.Code.{code, valueOf}
 use Rattle.base_ordered.specs.Lines.{pad, eventKey, waiterWord, dataOf}
 use Rattle.row_work.specs.Laid.{laid, laid-part, even-length}
@@ -29,47 +31,47 @@ use Rattle.row_view.proofs.Living.{Lives, says-living}
 use Rattle.row_view.proofs.Head.{closed-is, closed-low, floor-is, floor-ok, floor-low, processes-long, waiting-many}
 use Rattle.row_view.proofs.Cuts.{laid-cuts, cut-long, cut-words}
 
-module _ (r b y v : ℕ) (few : Few r b y v) (w : List ℕ) (long : length w ≡ 10_696) where
+module _ (r b y v : ℕ) (few : Few r b y v) (w : List ℕ) (long : length w ≡ Row.WORDS) where
   abbrev s : State
   s = viewBy r b y v w
 
   abbrev n : ℕ
-  n = getD w 5 0
+  n = getD w Row.EVENTS 0
 
   abbrev keys : List ℕ
-  keys = take n (cut 200 128 w)
+  keys = take n (cut Row.KEYS Row.EVENTS_MOST w)
 
   abbrev data′ : List ℕ
-  data′ = take n (cut 328 128 w)
+  data′ = take n (cut Row.NOTICES Row.EVENTS_MOST w)
 
   abbrev values : List ℕ
-  values = take v (cut 72 32 w)
+  values = take v (cut Row.GLOBALS Limit.THINGS w)
 
   -- What the tests say.
   pub record Tested : Type 0 where
-    pub clock-low : getD w 0 0 ≤ No.latest
-    pub closed-bit : getD w 1 0 ≤ 1
-    pub last-low : getD w 2 0 ≤ No.lastNumber
-    pub floor-low : getD w 3 0 ≤ 64
-    pub spare : getD w 7 0 ≡ 0
-    pub free-are : cut 8 32 w ≡ pad 32 (take r (cut 8 32 w))
-    pub free-low : AllOf (λ x. x ≤ 1_000_000) (take r (cut 8 32 w))
-    pub bins-are : cut 40 32 w ≡ pad 32 (take b (cut 40 32 w))
-    pub bins-low : AllOf (λ x. x ≤ No.fullBin) (take b (cut 40 32 w))
-    pub globals-are : cut 72 32 w ≡ pad 32 (map code (map valueOf values))
+    pub clock-low : getD w Row.CLOCK 0 ≤ No.latest
+    pub closed-bit : getD w Row.CLOSED 0 ≤ 1
+    pub last-low : getD w Row.LAST 0 ≤ No.lastNumber
+    pub floor-low : getD w Row.FLOOR 0 ≤ No.places
+    pub spare : getD w Row.SPARE 0 ≡ 0
+    pub free-are : cut Row.FREE Limit.THINGS w ≡ pad Limit.THINGS (take r (cut Row.FREE Limit.THINGS w))
+    pub free-low : AllOf (λ x. x ≤ Limit.AMOUNT) (take r (cut Row.FREE Limit.THINGS w))
+    pub bins-are : cut Row.BINS Limit.THINGS w ≡ pad Limit.THINGS (take b (cut Row.BINS Limit.THINGS w))
+    pub bins-low : AllOf (λ x. x ≤ No.fullBin) (take b (cut Row.BINS Limit.THINGS w))
+    pub globals-are : cut Row.GLOBALS Limit.THINGS w ≡ pad Limit.THINGS (map code (map valueOf values))
     pub globals-ok : AllOf I32 (map valueOf values)
-    pub counts-are : cut 104 32 w ≡ pad 32 (take y (cut 104 32 w))
-    pub counts-low : AllOf (λ x. x ≤ 64) (take y (cut 104 32 w))
-    pub blocked : Listed (getD w 6 0) (cut 136 64 w)
-    pub events-few : n ≤ 128
-    pub keys-made : cut 200 128 w ≡ pad 128 (map eventKey (map byKey keys))
+    pub counts-are : cut Row.WAITS Limit.THINGS w ≡ pad Limit.THINGS (take y (cut Row.WAITS Limit.THINGS w))
+    pub counts-low : AllOf (λ x. x ≤ Row.WAITERS_MOST) (take y (cut Row.WAITS Limit.THINGS w))
+    pub blocked : Listed (getD w Row.BLOCKED 0) (cut Row.QUEUE Row.WAITERS_MOST w)
+    pub events-few : n ≤ Row.EVENTS_MOST
+    pub keys-made : cut Row.KEYS Row.EVENTS_MOST w ≡ pad Row.EVENTS_MOST (map eventKey (map byKey keys))
     pub keys-ok : AllOf Timely (map byKey keys)
-    pub data-made : cut 328 128 w ≡ pad 128 (map dataOf (map noticeOf data′))
+    pub data-made : cut Row.NOTICES Row.EVENTS_MOST w ≡ pad Row.EVENTS_MOST (map dataOf (map noticeOf data′))
     pub data-ok : AllOf NoticeSized (map noticeOf data′)
-    pub waiting : Waits (cut 104 y w) (cut 456 2_048 w)
-    pub living : Lives r (few .few-resources) 64 (cut 2_504 8_192 w) (getD w 4 0)
+    pub waiting : Waits (cut Row.WAITS y w) (cut Row.WAITING Row.WAITERS_ALL w)
+    pub living : Lives r (few .few-resources) No.places (cut Row.PROCESSES Row.PROCESSES_ALL w) (getD w Row.LIVING 0)
 
-  part-long : (a k : ℕ) → a + k ≤ 10_696 → length (cut a k w) ≡ k
+  part-long : (a k : ℕ) → a + k ≤ Row.WORDS → length (cut a k w) ≡ k
   part-long a k h = cut-long a k w (omega arith)
 
   says-tested : Says (workFits r b y v w) Tested
@@ -78,16 +80,22 @@ module _ (r b y v : ℕ) (few : Few r b y v) (w : List ℕ) (long : length w ≡
       let u = few .few-syncs in
       says-for
       ((says-le and says-le and says-le and says-le and says-eq)
-      and (says-amounts 1_000_000 32 r (cut 8 32 w) (part-long 8 32 (omega arith))
-      and says-amounts No.fullBin 32 b (cut 40 32 w) (part-long 40 32 (omega arith))
-      and says-shown _ code valueOf I32 says-code 32 v (cut 72 32 w) (part-long 72 32 (omega arith))
-      and says-amounts 64 32 y (cut 104 32 w) (part-long 104 32 (omega arith)))
-      and (says-waiters (getD w 6 0) (cut 136 64 w) (part-long 136 64 (omega arith))
-      and says-shown _ eventKey byKey Timely says-key 128 n (cut 200 128 w) (part-long 200 128 (omega arith))
-      and says-shown _ dataOf noticeOf NoticeSized says-notice 128 n (cut 328 128 w) (part-long 328 128 (omega arith))
-      and says-waiting (cut 104 y w) (cut 456 2_048 w)
-      (omega (arith, part-long 104 y (omega arith), part-long 456 2_048 (omega arith))))
-      and says-living r (few .few-resources) 64 (cut 2_504 8_192 w) (getD w 4 0) (part-long 2_504 8_192 (omega arith)))
+      and (says-amounts Limit.AMOUNT Limit.THINGS r (cut Row.FREE Limit.THINGS w) (part-long Row.FREE Limit.THINGS (omega arith))
+      and says-amounts No.fullBin Limit.THINGS b (cut Row.BINS Limit.THINGS w) (part-long Row.BINS Limit.THINGS (omega arith))
+      and says-shown _ code valueOf I32 says-code Limit.THINGS v (cut Row.GLOBALS Limit.THINGS w)
+      (part-long Row.GLOBALS Limit.THINGS (omega arith))
+      and says-amounts Row.WAITERS_MOST Limit.THINGS y (cut Row.WAITS Limit.THINGS w)
+      (part-long Row.WAITS Limit.THINGS (omega arith)))
+      and (says-waiters (getD w Row.BLOCKED 0) (cut Row.QUEUE Row.WAITERS_MOST w)
+      (part-long Row.QUEUE Row.WAITERS_MOST (omega arith))
+      and says-shown _ eventKey byKey Timely says-key Row.EVENTS_MOST n (cut Row.KEYS Row.EVENTS_MOST w)
+      (part-long Row.KEYS Row.EVENTS_MOST (omega arith))
+      and says-shown _ dataOf noticeOf NoticeSized says-notice Row.EVENTS_MOST n (cut Row.NOTICES Row.EVENTS_MOST w)
+      (part-long Row.NOTICES Row.EVENTS_MOST (omega arith))
+      and says-waiting (cut Row.WAITS y w) (cut Row.WAITING Row.WAITERS_ALL w)
+      (omega (arith, part-long Row.WAITS y (omega arith), part-long Row.WAITING Row.WAITERS_ALL (omega arith))))
+      and says-living r (few .few-resources) No.places (cut Row.PROCESSES Row.PROCESSES_ALL w) (getD w Row.LIVING 0)
+      (part-long Row.PROCESSES Row.PROCESSES_ALL (omega arith)))
       (λ h.
       record {
         clock-low = h .0 .0;
@@ -123,47 +131,50 @@ module _ (r b y v : ℕ) (few : Few r b y v) (w : List ℕ) (long : length w ≡
 
   -- The counts of the waiting lists, and the lists.
   abbrev counts : List ℕ
-  counts = take y (cut 104 32 w)
+  counts = take y (cut Row.WAITS Limit.THINGS w)
 
   abbrev lists : List (List Waiter)
-  lists = waitingOf counts (cut 456 2_048 w)
+  lists = waitingOf counts (cut Row.WAITING Row.WAITERS_ALL w)
 
-  counts-cut : cut 104 y w ≡ counts
-  counts-cut = sym (take-take y 32 (drop 104 w) (few .few-syncs))
+  counts-cut : cut Row.WAITS y w ≡ counts
+  counts-cut = sym (take-take y Limit.THINGS (drop Row.WAITS w) (few .few-syncs))
 
   counts-long : length counts ≡ y
-  counts-long = length-take-le y (cut 104 32 w) (omega (arith, part-long 104 32 (omega arith), few .few-syncs))
+  counts-long = length-take-le y (cut Row.WAITS Limit.THINGS w)
+      (omega (arith, part-long Row.WAITS Limit.THINGS (omega arith), few .few-syncs))
 
-  lists-long : AllOf WaitersSized lists → length (collect waitersRow lists) ≡ 64 * length lists
+  lists-long : AllOf WaitersSized lists → length (collect waitersRow lists) ≡ Row.WAITERS_MOST * length lists
   lists-long h =
-      even-length waitersRow 64 lists (all-map WaitersSized _ (λ ws k. row-length 64 waiterWord ws (k .few)) lists h)
+      even-length waitersRow Row.WAITERS_MOST lists
+      (all-map WaitersSized _ (λ ws k. row-length Row.WAITERS_MOST waiterWord ws (k .few)) lists h)
 
   -- As many zeros stand behind them in either form.
   zeros-are : AllOf WaitersSized lists → map length lists ≡ counts
-      → length (cut 456 2_048 w) - 64 * length counts ≡ 2_048 - length (collect waitersRow lists)
+      → length (cut Row.WAITING Row.WAITERS_ALL w) - Row.WAITERS_MOST * length counts
+      ≡ Row.WAITERS_ALL - length (collect waitersRow lists)
   zeros-are h e =
       let a = lists-long h in
       let c : length lists ≡ length counts = sym (length-map lists length) ∙ ap length e in
-      let d = part-long 456 2_048 (omega arith) in
+      let d = part-long Row.WAITING Row.WAITERS_ALL (omega arith) in
       omega arith
 
   same-many : length keys ≡ length data′
   same-many =
-      let a = length-take n (cut 200 128 w) in
-      let c = length-take n (cut 328 128 w) in
-      let d = part-long 200 128 (omega arith) in
-      let e = part-long 328 128 (omega arith) in
+      let a = length-take n (cut Row.KEYS Row.EVENTS_MOST w) in
+      let c = length-take n (cut Row.NOTICES Row.EVENTS_MOST w) in
+      let d = part-long Row.KEYS Row.EVENTS_MOST (omega arith) in
+      let e = part-long Row.NOTICES Row.EVENTS_MOST (omega arith) in
       omega arith
 
-  few-of : (k : ℕ) (row : List ℕ) → length row ≡ 32 → length (take k row) ≤ 32
+  few-of : (k : ℕ) (row : List ℕ) → length row ≡ Limit.THINGS → length (take k row) ≤ Limit.THINGS
   few-of k row l = let a = length-take k row in omega arith
 
   abbrev Is : Type 0
   Is = (w ≡ workOf s) × Sized s
 
   module _ (t : Tested) where
-    waits : Waits counts (cut 456 2_048 w)
-    waits = subst (λ ns. Waits ns (cut 456 2_048 w)) counts-cut (t .waiting)
+    waits : Waits counts (cut Row.WAITING Row.WAITERS_ALL w)
+    waits = subst (λ ns. Waits ns (cut Row.WAITING Row.WAITERS_ALL w)) counts-cut (t .waiting)
 
     sized : Sized s
     unfolding viewBy
@@ -171,13 +182,13 @@ module _ (r b y v : ℕ) (few : Few r b y v) (w : List ℕ) (long : length w ≡
         record {
           clock-low = t .clock-low;
           last-low = t .last-low;
-          floor-ok = floor-ok (getD w 3 0) (t .floor-low);
-          free-few = few-of r (cut 8 32 w) (part-long 8 32 (omega arith));
+          floor-ok = floor-ok (getD w Row.FLOOR 0) (t .floor-low);
+          free-few = few-of r (cut Row.FREE Limit.THINGS w) (part-long Row.FREE Limit.THINGS (omega arith));
           free-low = t .free-low;
-          bins-few = few-of b (cut 40 32 w) (part-long 40 32 (omega arith));
+          bins-few = few-of b (cut Row.BINS Limit.THINGS w) (part-long Row.BINS Limit.THINGS (omega arith));
           bins-low = t .bins-low;
           globals-few =
-              let a = few-of v (cut 72 32 w) (part-long 72 32 (omega arith)) in
+              let a = few-of v (cut Row.GLOBALS Limit.THINGS w) (part-long Row.GLOBALS Limit.THINGS (omega arith)) in
               let c : length (map valueOf values) ≡ length values = length-map values valueOf in
               omega arith;
           globals-ok = t .globals-ok;
@@ -189,11 +200,11 @@ module _ (r b y v : ℕ) (few : Few r b y v) (w : List ℕ) (long : length w ≡
           blocked-ok = t .blocked .1 .1;
           events-few =
               let a : length (eventsOf keys data′) ≡ length keys = events-long keys data′ same-many in
-              let c = length-take n (cut 200 128 w) in
-              let d = part-long 200 128 (omega arith) in
+              let c = length-take n (cut Row.KEYS Row.EVENTS_MOST w) in
+              let d = part-long Row.KEYS Row.EVENTS_MOST (omega arith) in
               omega arith;
           events-ok = events-all keys data′ same-many (t .keys-ok) (t .data-ok);
-          places-64 = processes-long r 64 (cut 2_504 8_192 w);
+          places-64 = processes-long r No.places (cut Row.PROCESSES Row.PROCESSES_ALL w);
           processes-ok = t .living .1 .0;
         }
 
@@ -202,21 +213,22 @@ module _ (r b y v : ℕ) (few : Few r b y v) (w : List ℕ) (long : length w ≡
     head =
         let a : length (eventsOf keys data′) ≡ n =
         events-long keys data′ same-many
-        ∙ length-take-le n (cut 200 128 w) (omega (arith, part-long 200 128 (omega arith), t .events-few)) in
-        let c = closed-is (getD w 1 0) (t .closed-bit) in
-        let f = floor-is (getD w 3 0) in
+        ∙ length-take-le n (cut Row.KEYS Row.EVENTS_MOST w)
+        (omega (arith, part-long Row.KEYS Row.EVENTS_MOST (omega arith), t .events-few)) in
+        let c = closed-is (getD w Row.CLOSED 0) (t .closed-bit) in
+        let f = floor-is (getD w Row.FLOOR 0) in
         let l = t .living .1 .1 in
         let k = t .blocked .1 .0 in
         cut-words 8 0 w (omega arith)
-        ∙ (λ z. getD w 0 0 ∷ sym c z ∷ getD w 2 0 ∷ sym f z ∷ l z ∷ sym a z ∷ sym k z ∷ t .spare z ∷ [])
+        ∙ (λ z. getD w Row.CLOCK 0 ∷ sym c z ∷ getD w Row.LAST 0 ∷ sym f z ∷ l z ∷ sym a z ∷ sym k z ∷ t .spare z ∷ [])
 
     there : Is
     unfolding viewBy workOf
     there =
         let cuts = laid-cuts 0 workWidths w long in
-        let counts-are = t .counts-are ∙ ap (pad 32) (sym (waits .1 .0)) in
-        let keys-shown = t .keys-made ∙ ap (pad 128) (sym (keys-are keys data′ same-many)) in
-        let data-shown = t .data-made ∙ ap (pad 128) (sym (words-are keys data′ same-many)) in
+        let counts-are = t .counts-are ∙ ap (pad Limit.THINGS) (sym (waits .1 .0)) in
+        let keys-shown = t .keys-made ∙ ap (pad Row.EVENTS_MOST) (sym (keys-are keys data′ same-many)) in
+        let data-shown = t .data-made ∙ ap (pad Row.EVENTS_MOST) (sym (words-are keys data′ same-many)) in
         let lists-are =
         waits .0 ∙ ap (λ j. collect waitersRow lists ++ replicate j 0) (zeros-are (waits .1 .1) (waits .1 .0)) in (
           sym cuts
@@ -237,12 +249,12 @@ module _ (r b y v : ℕ) (few : Few r b y v) (w : List ℕ) (long : length w ≡
     counts-back : map length lists ≡ counts
     unfolding viewBy
     counts-back =
-        let e : cut 104 32 w ≡ pad 32 (map length lists) = part 4 (omega arith) in
+        let e : cut Row.WAITS Limit.THINGS w ≡ pad Limit.THINGS (map length lists) = part 4 (omega arith) in
         let l : length (map length lists) ≡ y =
-        length-map lists length ∙ waiting-many counts (cut 456 2_048 w) ∙ counts-long in
-        sym (ap (take y) e ∙ take-at (map length lists) (replicate (32 - length (map length lists)) 0) y l)
+        length-map lists length ∙ waiting-many counts (cut Row.WAITING Row.WAITERS_ALL w) ∙ counts-long in
+        sym (ap (take y) e ∙ take-at (map length lists) (replicate (Limit.THINGS - length (map length lists)) 0) y l)
 
-    waits-back : Waits counts (cut 456 2_048 w)
+    waits-back : Waits counts (cut Row.WAITING Row.WAITERS_ALL w)
     unfolding viewBy
     waits-back =
         let z = zeros-are (h .1 .waiting-ok) counts-back in
@@ -254,14 +266,14 @@ module _ (r b y v : ℕ) (few : Few r b y v) (w : List ℕ) (long : length w ≡
     back =
         let z = h .1 in
         let at : (i : ℕ) → getD w i 0 ≡ getD (workOf s) i 0 = λ i. ap (λ x. getD x i 0) (h .0) in
-        let c : getD w 1 0 ≡ closedWord (s .closed) = at 1 in
+        let c : getD w Row.CLOSED 0 ≡ closedWord (s .closed) = at 1 in
         let m : n ≡ length (s .events) = at 5 in
         let e = events-each keys data′ same-many (z .events-ok) in
         record {
           clock-low = z .clock-low;
           closed-bit = omega (arith, closed-low (s .closed));
           last-low = z .last-low;
-          floor-low = floor-low (getD w 3 0) (z .floor-ok);
+          floor-low = floor-low (getD w Row.FLOOR 0) (z .floor-ok);
           spare = at 7;
           free-are = part 1 (omega arith);
           free-low = z .free-low;
@@ -269,17 +281,17 @@ module _ (r b y v : ℕ) (few : Few r b y v) (w : List ℕ) (long : length w ≡
           bins-low = z .bins-low;
           globals-are = part 3 (omega arith);
           globals-ok = z .globals-ok;
-          counts-are = part 4 (omega arith) ∙ ap (pad 32) counts-back;
+          counts-are = part 4 (omega arith) ∙ ap (pad Limit.THINGS) counts-back;
           counts-low =
-              subst (AllOf (λ x. x ≤ 64)) counts-back
-              (all-mapped WaitersSized (λ x. x ≤ 64) length (λ ws k. k .few) lists (z .waiting-ok));
+              subst (AllOf (λ x. x ≤ Row.WAITERS_MOST)) counts-back
+              (all-mapped WaitersSized (λ x. x ≤ Row.WAITERS_MOST) length (λ ws k. k .few) lists (z .waiting-ok));
           blocked = part 5 (omega arith) & sym (at 6) & z .blocked-ok;
           events-few = omega (arith, z .events-few);
-          keys-made = part 6 (omega arith) ∙ ap (pad 128) (keys-are keys data′ same-many);
+          keys-made = part 6 (omega arith) ∙ ap (pad Row.EVENTS_MOST) (keys-are keys data′ same-many);
           keys-ok = e .0;
-          data-made = part 7 (omega arith) ∙ ap (pad 128) (words-are keys data′ same-many);
+          data-made = part 7 (omega arith) ∙ ap (pad Row.EVENTS_MOST) (words-are keys data′ same-many);
           data-ok = e .1;
-          waiting = subst (λ ns. Waits ns (cut 456 2_048 w)) (sym counts-cut) waits-back;
+          waiting = subst (λ ns. Waits ns (cut Row.WAITING Row.WAITERS_ALL w)) (sym counts-cut) waits-back;
           living = part 9 (omega arith) & z .processes-ok & at 4;
         }
 

@@ -12,6 +12,8 @@ use Rattle.promises.specs.Fit.{I32}
 use Rattle.promises.specs.Says.{Says, says-le, says-lt, says-for, _and_}
 use Rattle.base_numbers.specs.Code as Code
 use Rattle.base_numbers.specs.Most as Most
+use Rattle.base_numbers.specs.Word as Word
+use Rattle.base_numbers.specs.Limit as Limit
 use Rattle.base_i32.specs.Code.{code, valueOf}
 use Rattle.base_i32.specs.Laws.{code-valueOf, code-fits, value-fits}
 use Rattle.base_ordered.specs.Lines.{eventKey, waiterWord, dataOf, packed, kindOf, numberOf, amountOf, giverOf}
@@ -38,8 +40,9 @@ says-slave x =
 
 pub says-waiter : (x : ℕ) → Says (leb x Most.WAITER) ((waiterWord (waiterOf x) ≡ x) × WaiterSized (waiterOf x))
 says-waiter x =
-    let c : code (valueOf (4_294_967_295 - x / 64)) ≡ 4_294_967_295 - x / 64 = code-valueOf (4_294_967_295 - x / 64) in
-    let b = value-fits (4_294_967_295 - x / 64) (omega arith) in
+    let c : code (valueOf (Code.HIGHEST - x / Word.KEY)) ≡ Code.HIGHEST - x / Word.KEY =
+    code-valueOf (Code.HIGHEST - x / Word.KEY) in
+    let b = value-fits (Code.HIGHEST - x / Word.KEY) (omega arith) in
     record {
       yes =
           λ e.
@@ -54,14 +57,14 @@ says-frame x =
     (λ h. h .1 .block-low & h .1 .at-low & h .1 .rounds-low)
   where
     word : frameWord (frameOf x) ≡ x
-    word = let a : x / 65_536 / 65_536 ≡ x / 4_294_967_296 = omega arith in omega arith
+    word = let a : x / Word.ACTION / Word.ACTIONS ≡ x / Word.ROUND = omega arith in omega arith
 
 -- The key of an event: its time and its priority.
 pub says-key : (x : ℕ)
-    → Says (leb x Most.KEY) ((eventKey (eventOf x 0) ≡ x) × (x / 4_294_967_296 ≤ No.latest))
+    → Says (leb x Most.KEY) ((eventKey (eventOf x 0) ≡ x) × (x / Word.TIME ≤ No.latest))
 says-key x =
-    let c : code (valueOf (4_294_967_295 - x % 4_294_967_296)) ≡ 4_294_967_295 - x % 4_294_967_296 =
-    code-valueOf (4_294_967_295 - x % 4_294_967_296) in
+    let c : code (valueOf (Code.HIGHEST - x % Word.RANKS)) ≡ Code.HIGHEST - x % Word.RANKS =
+    code-valueOf (Code.HIGHEST - x % Word.RANKS) in
     record {
       yes = λ e. let h = leb-true x Most.KEY e in (rw c (omega arith), omega arith);
       back = λ h. let a = h .1 in le-leb x Most.KEY (omega arith);
@@ -70,8 +73,8 @@ says-key x =
 -- What an event does. A word of kind k from 1 to 2 is made again of its parts.
 remade : (k x : ℕ) → kindOf x ≡ k → packed k (numberOf x) (amountOf x) (giverOf x) ≡ x
 remade k x e =
-    let a : x / 4 / 64 ≡ x / 256 = omega arith in
-    let b : x / 256 / 1_048_576 ≡ x / 268_435_456 = omega arith in
+    let a : x / Word.KINDS / Word.NUMBERS ≡ x / Word.AMOUNT = omega arith in
+    let b : x / Word.AMOUNT / Word.AMOUNTS ≡ x / Word.GIVER = omega arith in
     omega arith
 
 is-two : (k : ℕ) → (k ≡ 0 → ⊥) → (k ≡ 1 → ⊥) → k < 3 → k ≡ 2
@@ -79,7 +82,7 @@ is-two k n o l = omega arith
 
 module _ (x : ℕ) where
   abbrev Parts : Type 0
-  Parts = (numberOf x < 32) × ((amountOf x ≤ 1_000_000) × (giverOf x ≤ No.lastNumber))
+  Parts = (numberOf x < Limit.THINGS) × ((amountOf x ≤ Limit.AMOUNT) × (giverOf x ≤ No.lastNumber))
 
   says-return : (k : ℕ) → (kindOf x < 3 → kindOf x ≡ k) → k < 3
       → Says (returnFits x) ((packed k (numberOf x) (amountOf x) (giverOf x) ≡ x) × Parts)
@@ -96,8 +99,8 @@ module _ (x : ℕ) where
           let k = eqb-true (kindOf x) 0 e in
           rw e
           (record {
-            yes = λ t. let h = ltb-true x 256 t in (omega arith, omega arith);
-            back = λ h. let a = h .0 in lt-ltb x 256 (omega arith);
+            yes = λ t. let h = ltb-true x _ t in (omega arith, omega arith);
+            back = λ h. let a = h .0 in lt-ltb x _ (omega arith);
           })
       by false e true f = let k = eqb-true (kindOf x) 1 f in rw (e, f) (says-return 1 (λ l. k) (omega arith))
       by false e false f =

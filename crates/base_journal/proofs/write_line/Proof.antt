@@ -5,6 +5,7 @@ use mathlib.Core.List.{_++_}
 use Prim.Native.Nat.{_+_, _*_}
 use lib.Seq.{sets}
 use Rattle.semantics.specs.Journal.{le16, le32, twos, lineBytes}
+use Rattle.base_numbers.specs.Line as Line
 use Rattle.base_i32.specs.Code.{valueOf}
 use Rattle.base_journal.proofs.Stores.{stored-on}
 use Rattle.base_journal.proofs.write_line.Statement.{statement}
@@ -54,15 +55,15 @@ returns c = let value = c .before .before in
     let kind = time .before .before .before .before in
     let head = kind .before .before .before .before in
     let a = head .before .before .before .args in
-    let at = 16 * a .at in
-    let two = le16 14 ++ le16 (a .kind) in
+    let at = Line.BYTES * a .at in
+    let two = le16 Line.LENGTH ++ le16 (a .kind) in
     let three = two ++ le32 (a .time) in
     let four = three ++ le32 (a .process) in
     let code = ap (λ n. sets (process .write-322 .last .0) (at + 12) (le32 n)) (value .before .to-twos .ensures) in
     stored-on (a .out .now) at four (le32 (twos (valueOf (a .value))))
     (stored-on (a .out .now) at three (le32 (a .process))
     (stored-on (a .out .now) at two (le32 (a .time))
-    (stored-on (a .out .now) at (le16 14) (le16 (a .kind)) (head .write-16 .ensures) (kind .write-162 .ensures))
+    (stored-on (a .out .now) at (le16 Line.LENGTH) (le16 (a .kind)) (head .write-16 .ensures) (kind .write-162 .ensures))
     (time .write-32 .ensures))
     (process .write-322 .ensures))
     (value .write-323 .ensures ∙ code)

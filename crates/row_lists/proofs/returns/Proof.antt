@@ -1,6 +1,7 @@
 -- `row_lists::returns` meets its contract: the words tell which events are returns. Assumes nothing.
 use native.Mathlib.Omega.{arith}
 use mathlib.Core.Path.{_∙_}
+use Rattle.base_numbers.specs.Row as Row
 use Rattle.base_ordered.specs.Shown.{returns-kept}
 use Rattle.row_lists.proofs.Events.{long, count-is, words-here, words-here-canon}
 use borrow.Author.Needs.{needs}
@@ -23,7 +24,7 @@ count-returns-requires : tie.Need-count-returns-requires
 count-returns-requires c κs = words-here-canon (c .before .before .before .pre)
 
 returns : tie.Need-returns
-returns c = λ v. c .count-returns .ensures .0 ∙ returns-kept (v .is .events) 128 _ _ (words-here v .are) (count-is v)
+returns c = λ v. c .count-returns .ensures .0 ∙ returns-kept (v .is .events) Row.EVENTS_MOST _ _ (words-here v .are) (count-is v)
 
 pub returns-spec : {M : Type 1} → statement M
 returns-spec =

@@ -3,6 +3,7 @@ use Prim.Native.Nat.{_-_, _≤_}
 use native.Mathlib.Omega.{arith}
 use mathlib.Core.Path.{_≡_, _∙_}
 use borrow.Author.Needs.{needs}
+use Rattle.semantics.specs.Numbers as No
 use Rattle.semantics.specs.State.{process}
 use Rattle.semantics.specs.Sound.{chained}
 use Rattle.row_sound_lists.specs.Tests.{each}
@@ -14,10 +15,10 @@ use Rattle.row_sound.proofs.all_chained.Tie as tie
 
 abbrev Inv-loop : tie.InvT-loop
 Inv-loop bytes map w classes ok₀ p₀ ok p =
-    (p ≤ 64) × ((v : Viewed bytes map w classes) → ok ≡ each p (λ j. chained (v .model) (process (v .is) j .frames)))
+    (p ≤ No.places) × ((v : Viewed bytes map w classes) → ok ≡ each p (λ j. chained (v .model) (process (v .is) j .frames)))
 
 abbrev μ-loop : tie.MeasureT-loop
-μ-loop bytes map w classes ok₀ p₀ ok p = 64 - p
+μ-loop bytes map w classes ok₀ p₀ ok p = No.places - p
 
 loop-holds : tie.Need-loop-holds Inv-loop μ-loop
 loop-holds c = (omega arith, λ v. each-none _)

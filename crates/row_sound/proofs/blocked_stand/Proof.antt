@@ -7,6 +7,8 @@ use lib.ListN.{getD}
 use Rattle.semantics.specs.State.{process}
 use Rattle.semantics.specs.Claim.{standsIn}
 use Rattle.semantics.specs.Sound.{asksAt}
+use Rattle.base_numbers.specs.Row as Row
+use Rattle.base_numbers.specs.Word as Word
 use Rattle.row_sound_lists.specs.Tests.{each}
 use Rattle.row_sound.specs.Chain.{Chained}
 use Rattle.row_sound_lists.proofs.Loops.{each-none, each-on, each-done}
@@ -17,7 +19,8 @@ use Rattle.row_sound.proofs.blocked_stand.Tie as tie
 abbrev Inv-loop : tie.InvT-loop
 Inv-loop bytes map w classes n ok₀ k₀ ok k =
     (k ≤ n) × ((v : Chained bytes map w classes)
-    → ok ≡ each k (λ j. asksAt (standsIn (v .viewed .model) (process (v .viewed .is) (getD w (136 + j) 0 % 64) .frames))))
+    → ok ≡ each k (λ j. asksAt (standsIn (v .viewed .model)
+    (process (v .viewed .is) (getD w (Row.QUEUE + j) 0 % Word.PLACES) .frames))))
 
 abbrev μ-loop : tie.MeasureT-loop
 μ-loop bytes map w classes n ok₀ k₀ ok k = n - k

@@ -7,6 +7,7 @@ use lib.Dec.{eqb}
 use lib.ListN.{getD}
 use Rattle.file_map.specs.Map.{claimAt}
 use Rattle.semantics.specs.Bytes.{u16}
+use Rattle.base_numbers.specs.Map as Map
 use Rattle.row_sound.specs.Chain.{among}
 use Rattle.row_sound.proofs.Loops.{among-none, among-on, among-done, claim-inside}
 use Rattle.row_sound.proofs.branch_enters.Statement.{statement}
@@ -14,7 +15,7 @@ use Rattle.row_sound.proofs.branch_enters.Tie as tie
 
 abbrev Inv-loop : tie.InvT-loop
 Inv-loop bytes map a b from many found₀ k₀ found k =
-    (from ≡ getD map (1_345 + a) 0) × (from + many ≡ getD map (1_345 + (a + 1)) 0) × (k ≤ many)
+    (from ≡ getD map (Map.FROM + a) 0) × (from + many ≡ getD map (Map.FROM + (a + 1)) 0) × (k ≤ many)
     × (found ≡ among k (λ j. eqb (u16 bytes (claimAt map (from + j) - 2)) b))
 
 abbrev μ-loop : tie.MeasureT-loop
@@ -82,7 +83,7 @@ returns : tie.Need-returns Inv-loop μ-loop
 returns c = let l = c .before .loop in
     let s = c .before .before .before .before .before .before .args in
     among-done _ (l .k) _ _ (omega arith) (l .inv .3)
-    ∙ ap (λ n. among (getD (s .map .now) (1_345 + (s .a + 1)) 0 - getD (s .map .now) (1_345 + s .a) 0)
+    ∙ ap (λ n. among (getD (s .map .now) (Map.FROM + (s .a + 1)) 0 - getD (s .map .now) (Map.FROM + s .a) 0)
     (λ j. eqb (u16 (s .bytes .now) (claimAt (s .map .now) (n + j) - 2)) (s .b))) (l .inv .0)
 
 pub branch-enters-spec : {M : Type 1} → statement M

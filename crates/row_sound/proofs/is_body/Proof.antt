@@ -5,13 +5,14 @@ use mathlib.Core.Path.{_≡_, ap}
 use borrow.Author.Needs.{needs}
 use lib.Dec.{eqb}
 use lib.ListN.{getD}
+use Rattle.base_numbers.specs.Map as Map
 use Rattle.row_sound.specs.Chain.{among}
 use Rattle.row_sound.proofs.Loops.{among-none, among-on, among-done}
 use Rattle.row_sound.proofs.is_body.Statement.{statement}
 use Rattle.row_sound.proofs.is_body.Tie as tie
 
 abbrev Inv-loop : tie.InvT-loop
-Inv-loop map classes b found₀ i₀ found i = (i ≤ classes) × (found ≡ among i (λ j. eqb b (getD map (1_281 + j) 0)))
+Inv-loop map classes b found₀ i₀ found i = (i ≤ classes) × (found ≡ among i (λ j. eqb b (getD map (Map.BODY + j) 0)))
 
 abbrev μ-loop : tie.MeasureT-loop
 μ-loop map classes b found₀ i₀ found i = classes - i

@@ -4,16 +4,19 @@ use native.Mathlib.Omega.{arith}
 use mathlib.Core.Path.{_≡_, _∙_, ap}
 use borrow.Author.Needs.{needs}
 use lib.Dec.{eqb}
+use Rattle.semantics.specs.Numbers as No
+use Rattle.base_numbers.specs.Process as Process
 use Rattle.row_sound_lists.specs.Tests.{tally, oneIf, wordOf}
 use Rattle.row_sound_lists.proofs.Loops.{tally-none, tally-on, tally-done}
 use Rattle.row_sound_lists.proofs.alike.Statement.{statement}
 use Rattle.row_sound_lists.proofs.alike.Tie as tie
 
 abbrev Inv-loop : tie.InvT-loop
-Inv-loop w number found₀ q₀ found q = (q ≤ 64) × (found ≤ q) × (found ≡ tally q (λ j. oneIf (eqb number (wordOf w j 0))))
+Inv-loop w number found₀ q₀ found q = (q ≤ No.places) × (found ≤ q)
+    × (found ≡ tally q (λ j. oneIf (eqb number (wordOf w j Process.NUMBER))))
 
 abbrev μ-loop : tie.MeasureT-loop
-μ-loop w number found₀ q₀ found q = 64 - q
+μ-loop w number found₀ q₀ found q = No.places - q
 
 loop-holds : tie.Need-loop-holds Inv-loop μ-loop
 loop-holds c = (omega arith, omega arith, tally-none _)

@@ -3,16 +3,20 @@ use Prim.Native.Nat.{_+_, _-_, _*_, _≤_}
 use native.Mathlib.Omega.{arith}
 use mathlib.Core.Path.{_≡_}
 use borrow.Author.Needs.{needs}
+use Rattle.semantics.specs.Numbers as No
+use Rattle.base_numbers.specs.Process as Process
+use Rattle.base_numbers.specs.Limit as Limit
 use Rattle.row_sound_lists.specs.Tests.{tally, wordOf}
 use Rattle.row_sound_lists.proofs.Loops.{tally-none, tally-on, tally-done}
 use Rattle.row_sound_lists.proofs.held_all.Statement.{statement}
 use Rattle.row_sound_lists.proofs.held_all.Tie as tie
 
 abbrev Inv-loop : tie.InvT-loop
-Inv-loop w i found₀ q₀ found q = (q ≤ 64) × (found ≤ 1_000_000 * q) × (found ≡ tally q (λ j. wordOf w j (12 + i)))
+Inv-loop w i found₀ q₀ found q = (q ≤ No.places) × (found ≤ Limit.AMOUNT * q)
+    × (found ≡ tally q (λ j. wordOf w j (Process.HELD + i)))
 
 abbrev μ-loop : tie.MeasureT-loop
-μ-loop w i found₀ q₀ found q = 64 - q
+μ-loop w i found₀ q₀ found q = No.places - q
 
 loop-holds : tie.Need-loop-holds Inv-loop μ-loop
 loop-holds c = (omega arith, omega arith, tally-none _)

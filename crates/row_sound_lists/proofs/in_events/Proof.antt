@@ -6,6 +6,7 @@ use mathlib.Core.Bool.{_&&_}
 use borrow.Author.Needs.{needs}
 use lib.Dec.{eqb}
 use lib.ListN.{getD}
+use Rattle.base_numbers.specs.Row as Row
 use Rattle.base_ordered.specs.Lines.{kindOf, numberOf}
 use Rattle.row_sound_lists.specs.Tests.{tally, oneIf}
 use Rattle.row_sound_lists.proofs.Loops.{tally-none, tally-on, tally-done}
@@ -15,7 +16,8 @@ use Rattle.row_sound_lists.proofs.in_events.Tie as tie
 abbrev Inv-loop : tie.InvT-loop
 Inv-loop w p n found₀ k₀ found k =
     (k ≤ n) × (found ≤ k)
-    × (found ≡ tally k (λ j. oneIf (eqb (kindOf (getD w (328 + j) 0)) 0 && eqb p (numberOf (getD w (328 + j) 0)))))
+    × (found ≡ tally k (λ j. oneIf (eqb (kindOf (getD w (Row.NOTICES + j) 0)) 0
+    && eqb p (numberOf (getD w (Row.NOTICES + j) 0)))))
 
 abbrev μ-loop : tie.MeasureT-loop
 μ-loop w p n found₀ k₀ found k = n - k

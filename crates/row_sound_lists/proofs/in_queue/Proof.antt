@@ -5,6 +5,7 @@ use mathlib.Core.Path.{_≡_}
 use borrow.Author.Needs.{needs}
 use lib.Dec.{eqb}
 use lib.ListN.{getD}
+use Rattle.base_numbers.specs.Word as Word
 use Rattle.row_sound_lists.specs.Tests.{tally, oneIf}
 use Rattle.row_sound_lists.proofs.Loops.{tally-none, tally-on, tally-done}
 use Rattle.row_sound_lists.proofs.in_queue.Statement.{statement}
@@ -12,7 +13,7 @@ use Rattle.row_sound_lists.proofs.in_queue.Tie as tie
 
 abbrev Inv-loop : tie.InvT-loop
 Inv-loop w from count p n found₀ k₀ found k =
-    (k ≤ n) × (found ≤ k) × (found ≡ tally k (λ j. oneIf (eqb p (getD w (from + j) 0 % 64))))
+    (k ≤ n) × (found ≤ k) × (found ≡ tally k (λ j. oneIf (eqb p (getD w (from + j) 0 % Word.PLACES))))
 
 abbrev μ-loop : tie.MeasureT-loop
 μ-loop w from count p n found₀ k₀ found k = n - k

@@ -4,13 +4,16 @@ use native.Mathlib.Omega.{arith}
 use mathlib.Core.Path.{_≡_, _∙_, ap}
 use borrow.Author.Needs.{needs}
 use lib.Dec.{eqb}
+use Rattle.base_numbers.specs.Process as Process
+use Rattle.base_numbers.specs.Word as Word
 use Rattle.row_sound_lists.specs.Tests.{tally, oneIf, wordOf}
 use Rattle.row_sound_lists.proofs.Loops.{tally-none, tally-on, tally-done}
 use Rattle.row_sound_lists.proofs.in_slaves.Statement.{statement}
 use Rattle.row_sound_lists.proofs.in_slaves.Tie as tie
 
 abbrev Inv-loop : tie.InvT-loop
-Inv-loop w p q n found₀ k₀ found k = (k ≤ n) × (found ≤ k) × (found ≡ tally k (λ j. oneIf (eqb p (wordOf w q (52 + j) % 64))))
+Inv-loop w p q n found₀ k₀ found k = (k ≤ n) × (found ≤ k)
+    × (found ≡ tally k (λ j. oneIf (eqb p (wordOf w q (Process.OWNED + j) % Word.PLACES))))
 
 abbrev μ-loop : tie.MeasureT-loop
 μ-loop w p q n found₀ k₀ found k = n - k
@@ -51,7 +54,7 @@ loop-again c =
     let word = c .before in
     let l = word .before .before .loop in
     let start = word .before .before .before .before .before in
-    let e = c .one-if .ensures .0 ∙ ap (λ x. oneIf (eqb (start .args .p) (x % 64))) (word .word2 .ensures) in
+    let e = c .one-if .ensures .0 ∙ ap (λ x. oneIf (eqb (start .args .p) (x % Word.PLACES))) (word .word2 .ensures) in
     (omega arith, omega (arith, c .one-if .ensures .1), tally-on _ (l .k) _ _ e (l .inv .2))
 
 returns : tie.Need-returns Inv-loop μ-loop

@@ -3,6 +3,7 @@ use Prim.Native.Nat.{_+_, _-_, _*_, _≤_}
 use native.Mathlib.Omega.{arith}
 use mathlib.Core.Path.{_≡_}
 use borrow.Author.Needs.{needs}
+use Rattle.base_numbers.specs.Row as Row
 use Rattle.row_sound_lists.specs.Tests.{tally, inQueue}
 use Rattle.row_sound_lists.proofs.Loops.{tally-none, tally-on, tally-done, waiting-lined}
 use Rattle.row_sound_lists.proofs.in_waiting.Statement.{statement}
@@ -10,7 +11,8 @@ use Rattle.row_sound_lists.proofs.in_waiting.Tie as tie
 
 abbrev Inv-loop : tie.InvT-loop
 Inv-loop w syncs p found₀ i₀ found i =
-    (i ≤ syncs) × (found ≤ 64 * i) × (found ≡ tally i (λ j. inQueue w (456 + 64 * j) (104 + j) p))
+    (i ≤ syncs) × (found ≤ Row.WAITERS_MOST * i) × (found
+    ≡ tally i (λ j. inQueue w (Row.WAITING + Row.WAITERS_MOST * j) (Row.WAITS + j) p))
 
 abbrev μ-loop : tie.MeasureT-loop
 μ-loop w syncs p found₀ i₀ found i = syncs - i

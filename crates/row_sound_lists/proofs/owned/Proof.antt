@@ -3,16 +3,17 @@ use Prim.Native.Nat.{_-_, _*_, _≤_}
 use native.Mathlib.Omega.{arith}
 use mathlib.Core.Path.{_≡_}
 use borrow.Author.Needs.{needs}
+use Rattle.semantics.specs.Numbers as No
 use Rattle.row_sound_lists.specs.Tests.{tally, inSlaves}
 use Rattle.row_sound_lists.proofs.Loops.{tally-none, tally-on, tally-done}
 use Rattle.row_sound_lists.proofs.owned.Statement.{statement}
 use Rattle.row_sound_lists.proofs.owned.Tie as tie
 
 abbrev Inv-loop : tie.InvT-loop
-Inv-loop w p found₀ q₀ found q = (q ≤ 64) × (found ≤ 64 * q) × (found ≡ tally q (inSlaves w p))
+Inv-loop w p found₀ q₀ found q = (q ≤ No.places) × (found ≤ No.places * q) × (found ≡ tally q (inSlaves w p))
 
 abbrev μ-loop : tie.MeasureT-loop
-μ-loop w p found₀ q₀ found q = 64 - q
+μ-loop w p found₀ q₀ found q = No.places - q
 
 loop-holds : tie.Need-loop-holds Inv-loop μ-loop
 loop-holds c = (omega arith, omega arith, tally-none _)

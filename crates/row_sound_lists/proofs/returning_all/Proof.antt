@@ -3,13 +3,14 @@ use Prim.Native.Nat.{_-_, _*_, _≤_}
 use native.Mathlib.Omega.{arith}
 use mathlib.Core.Path.{_≡_}
 use borrow.Author.Needs.{needs}
+use Rattle.base_numbers.specs.Word as Word
 use Rattle.row_sound_lists.specs.Tests.{tally, returningAt}
 use Rattle.row_sound_lists.proofs.Loops.{tally-none, tally-on, tally-done}
 use Rattle.row_sound_lists.proofs.returning_all.Statement.{statement}
 use Rattle.row_sound_lists.proofs.returning_all.Tie as tie
 
 abbrev Inv-loop : tie.InvT-loop
-Inv-loop w i n found₀ k₀ found k = (k ≤ n) × (found ≤ 1_048_576 * k) × (found ≡ tally k (returningAt w i))
+Inv-loop w i n found₀ k₀ found k = (k ≤ n) × (found ≤ Word.AMOUNTS * k) × (found ≡ tally k (returningAt w i))
 
 abbrev μ-loop : tie.MeasureT-loop
 μ-loop w i n found₀ k₀ found k = n - k

@@ -4,13 +4,15 @@ use native.Mathlib.Omega.{arith}
 use mathlib.Core.Path.{_≡_, ap}
 use borrow.Author.Needs.{needs}
 use lib.Dec.{ltb}
+use Rattle.base_numbers.specs.Process as Process
+use Rattle.base_numbers.specs.Word as Word
 use Rattle.row_sound_lists.specs.Tests.{each, wordOf}
 use Rattle.row_sound_lists.proofs.Loops.{each-none, each-on, each-done}
 use Rattle.row_sound_lists.proofs.slaves_known.Statement.{statement}
 use Rattle.row_sound_lists.proofs.slaves_known.Tie as tie
 
 abbrev Inv-loop : tie.InvT-loop
-Inv-loop w syncs p n ok₀ k₀ ok k = (k ≤ n) × (ok ≡ each k (λ j. ltb (wordOf w p (52 + j) / 64) syncs))
+Inv-loop w syncs p n ok₀ k₀ ok k = (k ≤ n) × (ok ≡ each k (λ j. ltb (wordOf w p (Process.OWNED + j) / Word.SYNC) syncs))
 
 abbrev μ-loop : tie.MeasureT-loop
 μ-loop w syncs p n ok₀ k₀ ok k = n - k
@@ -44,7 +46,7 @@ loop-again : tie.Need-loop-again Inv-loop μ-loop
 loop-again c =
     let l = c .before .before .loop in
     let start = c .before .before .before .before .before in
-    (omega arith, each-on _ (l .k) _ _ (ap (λ x. ltb (x / 64) (start .args .syncs)) (c .word2 .ensures)) (l .inv .1))
+    (omega arith, each-on _ (l .k) _ _ (ap (λ x. ltb (x / Word.SYNC) (start .args .syncs)) (c .word2 .ensures)) (l .inv .1))
 
 returns : tie.Need-returns Inv-loop μ-loop
 returns c = let l = c .before .loop in

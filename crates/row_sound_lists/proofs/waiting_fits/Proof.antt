@@ -3,13 +3,14 @@ use Prim.Native.Nat.{_+_, _-_, _*_, _≤_}
 use native.Mathlib.Omega.{arith}
 use mathlib.Core.Path.{_≡_}
 use borrow.Author.Needs.{needs}
+use Rattle.base_numbers.specs.Row as Row
 use Rattle.row_sound_lists.specs.Tests.{each, queueFits}
 use Rattle.row_sound_lists.proofs.Loops.{each-none, each-on, each-done, waiting-lined}
 use Rattle.row_sound_lists.proofs.waiting_fits.Statement.{statement}
 use Rattle.row_sound_lists.proofs.waiting_fits.Tie as tie
 
 abbrev Inv-loop : tie.InvT-loop
-Inv-loop w syncs ok₀ i₀ ok i = (i ≤ syncs) × (ok ≡ each i (λ j. queueFits w (456 + 64 * j) (104 + j)))
+Inv-loop w syncs ok₀ i₀ ok i = (i ≤ syncs) × (ok ≡ each i (λ j. queueFits w (Row.WAITING + Row.WAITERS_MOST * j) (Row.WAITS + j)))
 
 abbrev μ-loop : tie.MeasureT-loop
 μ-loop w syncs ok₀ i₀ ok i = syncs - i
