@@ -1,25 +1,23 @@
 -- The records of a file that the first pass accepts, one after the other: each is whole, of a kind, and judged.
 -- Assumes nothing.
-use mathlib.Core.Path.{_≡_, refl, _∙_, ap}
+use mathlib.Core.Path.{_≡_, refl}
 use mathlib.Core.List.{List, [], _∷_}
 use mathlib.Core.Bool.{Bool, true, false, _&&_}
-use Prim.Native.Nat.{ℕ, _+_, _-_, _≤_, _<_}
-use native.Mathlib.Omega.{arith}
+use Prim.Native.Nat.{ℕ, _≤_, _<_}
 use borrow.Author.Tests.{leb-true, ltb-true}
 use lib.Dec.{leb, ltb}
-use lib.ListN.{length, getD, take, drop, length-drop}
+use lib.ListN.{length, getD, drop}
 use Rattle.semantics.specs.Words.{Outcome, ok, fails, Passed, passed, need, _>>_}
 use Rattle.semantics.specs.Numbers as No
-use Rattle.semantics.specs.Bytes.{Raw, raw, torn, recordsFrom, whole, spans, u16}
+use Rattle.semantics.specs.Bytes.{Raw, raw, torn, recordsFrom}
 use Rattle.semantics.specs.Record.{Row, sized, valid, inSet, rowOf, bodyJudged}
 use Rattle.semantics.specs.Decode.{refused, accepted, placed, judged, saw, firstPass, noneSeen}
 use Rattle.promises.specs.Laws.{and-true, not-ok, needed-two}
 use Rattle.promises.specs.Passes.{not-accepted}
 use Rattle.file_reader.specs.Reads.{recordAt}
 use Rattle.file_reader.specs.Records.{bodyAt}
-use Rattle.file_reader.specs.Walk.{records-none, records-torn, records-whole, onward, Step, reads-torn, reads-step}
+use Rattle.file_reader.specs.Walk.{onward, Step, reads-torn, reads-step}
 use Rattle.file_reader.specs.declared.Record.{Record}
-use Rattle.file_check_parts.proofs.Laws.{rest-of}
 use Rattle.file_index.specs.Index.{Judged, Readable}
 
 -- FINE RECORDS.
@@ -83,70 +81,6 @@ sized-by r bs e =
     let s = and-true (leb (r .head) (length bs)) _ (a .0) in
     let v = and-true (inSet (r .field) bs) _ (t .0) in
     record { head-there = leb-true (r .head) (length bs) (s .0); tail-sized = s .1; tail-valid = v .1 }
-
--- ROUND A LOOP over the file s: what is left of it, and its records.
-abbrev pub left : List ℕ → List ℕ → List Raw
-left s rest = recordsFrom (length s - length rest) rest
-
-pub record On (s rest : List ℕ) : Type 0 where
-  pub short : length rest ≤ length s
-  pub fine : Fine (left s rest)
-
-whole-by : (at : ℕ) (bs : List ℕ) (t : Bool) → 0 < length bs → whole bs ≡ t → Fine (recordsFrom at bs) → t ≡ true
-whole-by at bs true h e f = refl
-whole-by at bs false h e f = absurd (rw (records-torn at bs h e) at f)
-
-pub left-all : (s : List ℕ) → left s s ≡ recordsFrom 0 s
-left-all s = let z : length s - length s ≡ 0 = omega arith in ap (λ at. recordsFrom at s) z
-
-pub left-none : (s rest : List ℕ) → length rest ≡ 0 → left s rest ≡ []
-left-none s rest h = records-none (length s - length rest) rest h
-
-pub on-all : (s : List ℕ) → Readable s → On s s
-on-all s r =
-    record {
-      short = omega arith;
-      fine = rw (left-all s) (fine-all noneSeen (recordsFrom 0 s) (r .accepts .0) (r .accepts .1));
-    }
-
--- A record stands at the front of the rest.
-module _ {s rest : List ℕ} (h : 0 < length rest) (o : On s rest) where
-  pub whole-is : whole rest ≡ true
-  whole-is = whole-by (length s - length rest) rest (whole rest) h refl (o .fine)
-
-  span-is : (2 ≤ u16 rest 0) × (spans rest ≤ length rest)
-  span-is =
-      let a = and-true (leb 2 (u16 rest 0)) _ whole-is in
-      (leb-true 2 (u16 rest 0) (a .0), leb-true (spans rest) (length rest) (a .1))
-
-  pub four-there : 4 ≤ length rest
-  four-there = let w = span-is in omega arith
-
-  -- It has z bytes.
-  module _ {z : ℕ} (e : z ≡ spans rest) where
-    abbrev rest′ : List ℕ
-    rest′ = take (length rest - z) (drop z rest)
-
-    pub span-fits : (4 ≤ z) × (z ≤ length rest)
-    span-fits = let w = span-is in (omega arith, omega arith)
-
-    pub shorter : 4 + length rest′ ≤ length rest
-    shorter = let w = span-fits in rw (rest-of z rest) (omega (arith, length-drop z rest))
-
-    -- It is of kind k.
-    module _ {k : ℕ} (i : k ≡ u16 rest 2) where
-      pub here : left s rest ≡ raw (length s - length rest) k (take (z - 4) (drop 4 rest)) ∷ left s rest′
-      here =
-          let w = span-fits in
-          let y : ℕ = spans rest in
-          let j : length s - length rest + y ≡ length s - length (drop y rest) = omega (arith, length-drop y rest, o .short) in
-          rw (rest-of z rest, e, i) (records-whole (length s - length rest) rest h whole-is ∙ rw j)
-
-      pub judged-here : Judged k (take (z - 4) (drop 4 rest))
-      judged-here = (rw here at (o .fine)) .0
-
-      pub on-next : On s rest′
-      on-next = record { short = omega (arith, shorter, o .short); fine = (rw here at (o .fine)) .1 }
 
 -- BY A READER, from the first byte of the file on.
 pub fine-first : (s : List ℕ) → Readable s → Fine (onward s 0)

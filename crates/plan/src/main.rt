@@ -40,7 +40,7 @@ fn print_run(s: &[u8], bound: u64, out: &mut [u8])
     let map = file_map::map_of(s);
     let mut w = [0u64; 10696];
     let mut journal = [0u8; 65536];
-    row_begin_end::fresh(s, &map.words, &mut w);
+    run_fresh::fresh(s, &map.words, &mut w);
     let mut steps: u32 = 0;
     let mut answer: u32 = LIMIT;
     while (answer == LIMIT) & (steps < 1000000) {

@@ -2,12 +2,3 @@ pub mod Filling
 pub mod Rows
 pub mod Standing
 pub mod Beginning
-pub mod Amounts
-pub mod Vacating
-pub mod Declared
-pub mod Partly
-pub mod Declaring
-pub mod Entering
-pub mod Ready
-pub mod Running
-pub mod Loading

@@ -22,7 +22,7 @@ use Rattle.row_work.specs.Work.{workOf}
 use Rattle.row_work.specs.Sized.{IsByte}
 use Rattle.file_map.specs.Map.{Mapped}
 use Rattle.file_map.specs.MapOf.{mapOf}
-use Rattle.row_begin_end.specs.Fresh.{Loaded}
+use Rattle.run_fresh.specs.Fresh.{Loaded}
 use Rattle.act_floor.specs.Acting.{Open}
 use Rattle.act_floor.proofs.Fresh.{fresh-open}
 use Rattle.run_limit.specs.declared.Answer.{Answer}

@@ -23,7 +23,7 @@ pub fn run_whole<'a>(s: &'a [u8], limit: u32, journal: &'a mut [u8]) -> Whole
     }
     let map = file_map::map_of(s);
     let mut w = [0u64; row::WORDS];
-    row_begin_end::fresh(s, &map.words, &mut w);
+    run_fresh::fresh(s, &map.words, &mut w);
     let ran = run_limit::run(s, &map.words, &mut w, limit, journal);
     let answer = ran.answer;
     Whole::Ran(answer, ran.steps)

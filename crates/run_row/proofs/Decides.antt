@@ -28,7 +28,7 @@ use Rattle.row_work.specs.Sized.{Rounds, accepted-rounds}
 use Rattle.file_map.specs.Map.{Mapped}
 use Rattle.file_map.specs.MapOf.{mapOf}
 use Rattle.file_map.proofs.Mapped.{mapped as mapped-by}
-use Rattle.row_begin_end.specs.Fresh.{Loaded}
+use Rattle.run_fresh.specs.Fresh.{Loaded}
 use Rattle.row_view.specs.View.{cut, viewIn, soundRow}
 use Rattle.row_view.specs.Fits.{Counted, Few, Showing}
 use Rattle.row_view.specs.Rows.{says-sound-row, shows-none, counted-by, few-by}

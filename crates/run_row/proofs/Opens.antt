@@ -16,7 +16,7 @@ use Rattle.file_check.specs.declared.Refusal.{Refusal}
 use Rattle.file_check.proofs.Answer.{refuses}
 use Rattle.row_work.specs.Work.{workOf}
 use Rattle.file_map.specs.MapOf.{mapOf}
-use Rattle.row_begin_end.specs.Fresh.{Loaded}
+use Rattle.run_fresh.specs.Fresh.{Loaded}
 use Rattle.run_row.specs.Handed.{Passing}
 use Rattle.run_row.specs.Open.{Opened, openedAs, opensAs, openRow, TellsOpened}
 use Rattle.run_row.proofs.Decides.{loaded}

@@ -29,7 +29,7 @@ pub fn open_row<'a>(s: &'a [u8], w: &'a mut [u64]) -> Refusal
     }
     let map = file_map::map_of(s);
     let mut begun = [0u64; row::WORDS];
-    row_begin_end::fresh(s, &map.words, &mut begun);
+    run_fresh::fresh(s, &map.words, &mut begun);
     row_struct::copy_words(&begun, w);
     answer
 }
@@ -50,7 +50,7 @@ fn sound_of<'a>(s: &'a [u8], map: &'a [u32], w: &'a [u64]) -> bool
     }
     let index = file_index::index_of(s);
     let mut aside = [0u64; row::WORDS];
-    row_begin_end::fresh(s, map, &mut aside);
+    run_fresh::fresh(s, map, &mut aside);
     row_sound::sound_in(
         s,
         map,

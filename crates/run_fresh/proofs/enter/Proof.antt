@@ -1,11 +1,11 @@
--- `row_begin_end::enter` meets its contract: an ENTITY's process begins, and at any other record nothing changes.
+-- `run_fresh::enter` meets its contract: an ENTITY's process begins, and at any other record nothing changes.
 -- Assumes nothing.
 use native.Mathlib.Omega.{arith}
 use Prim.Native.Nat.{_+_}
-use Rattle.row_begin_end.proofs.Entering.{stays, bytes-there, class-there, beginning, entered}
+use Rattle.run_fresh.proofs.Entering.{stays, bytes-there, class-there, beginning, entered}
 use borrow.Author.Needs.{needs}
-use Rattle.row_begin_end.proofs.enter.Statement.{statement}
-use Rattle.row_begin_end.proofs.enter.Tie as tie
+use Rattle.run_fresh.proofs.enter.Statement.{statement}
+use Rattle.run_fresh.proofs.enter.Tie as tie
 
 u16-at-requires : tie.Need-u16-at-requires
 u16-at-requires c κs = omega (arith, bytes-there (c .before .before .before .before .pre) (c .if1 .taken))

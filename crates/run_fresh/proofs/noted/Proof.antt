@@ -1,9 +1,9 @@
--- `row_begin_end::noted` meets its contract: one number written, or none. Assumes nothing.
+-- `run_fresh::noted` meets its contract: one number written, or none. Assumes nothing.
 use native.Mathlib.Omega.{arith}
 use mathlib.Core.Path.{refl}
 use borrow.Author.Needs.{needs}
-use Rattle.row_begin_end.proofs.noted.Statement.{statement}
-use Rattle.row_begin_end.proofs.noted.Tie as tie
+use Rattle.run_fresh.proofs.noted.Statement.{statement}
+use Rattle.run_fresh.proofs.noted.Tie as tie
 
 mul-w : tie.Need-mul-w
 mul-w c = search needs

@@ -1,12 +1,12 @@
--- `row_begin_end::amount` meets its contract, by the kinds. Assumes nothing.
+-- `run_fresh::amount` meets its contract, by the kinds. Assumes nothing.
 use native.Mathlib.Omega.{arith}
 use mathlib.Core.Path.{_∙_, sym, ap}
 use Rattle.semantics.specs.Bytes.{signed}
 use Rattle.base_i32.specs.Code.{code}
-use Rattle.row_begin_end.proofs.Amounts.{var-there, var-is, amount-there, amount-is, none-is}
+use Rattle.run_fresh.proofs.Amounts.{var-there, var-is, amount-there, amount-is, none-is}
 use borrow.Author.Needs.{needs}
-use Rattle.row_begin_end.proofs.amount.Statement.{statement}
-use Rattle.row_begin_end.proofs.amount.Tie as tie
+use Rattle.run_fresh.proofs.amount.Statement.{statement}
+use Rattle.run_fresh.proofs.amount.Tie as tie
 
 u32-at-requires : tie.Need-u32-at-requires
 u32-at-requires c κs = let o = c .before .before in var-there (o .args .kind) (o .args .bs .now) (o .pre) (c .match .keys1)

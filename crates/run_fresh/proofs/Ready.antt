@@ -16,9 +16,9 @@ use Rattle.promises.specs.Keep.{livingIn, al-none, FreeAt, some-free, enter-all
 use Rattle.promises.specs.Moves.{nobody-ok}
 use Rattle.promises.specs.FreshSound.{bare-sound, begin-all-sound}
 use Rattle.row_work.specs.Work.{ProcessSized, EventSized, Sized}
 use Rattle.row_begin_end.specs.Begins.{newcomerIn, Roomy, begins, numbered}
 use Rattle.row_begin_end.specs.Laws.{begin-is, begun-there}
-use Rattle.row_begin_end.proofs.Partly.{bare-sized}
+use Rattle.run_fresh.proofs.Partly.{bare-sized}
 
 -- The entities es of m are still to begin.
 pub record Ready (m : Model) (es : List Entity) (s : State) : Type 0 where

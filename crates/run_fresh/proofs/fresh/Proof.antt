@@ -1,8 +1,8 @@
--- `row_begin_end::fresh` meets its contract: what each part leaves is what the next one asks for. Assumes nothing.
-use Rattle.row_begin_end.proofs.Loading.{beginning, begun}
+-- `run_fresh::fresh` meets its contract: what each part leaves is what the next one asks for. Assumes nothing.
+use Rattle.run_fresh.proofs.Loading.{beginning, begun}
 use borrow.Author.Needs.{needs}
-use Rattle.row_begin_end.proofs.fresh.Statement.{statement}
-use Rattle.row_begin_end.proofs.fresh.Tie as tie
+use Rattle.run_fresh.proofs.fresh.Statement.{statement}
+use Rattle.run_fresh.proofs.fresh.Tie as tie
 
 vacate-all-requires : tie.Need-vacate-all-requires
 vacate-all-requires c κs = search needs

@@ -7,9 +7,9 @@ use borrow.Author.Tests.{eq-eqb, ne-eqb}
 use lib.ListN.{length, getD}
 use Rattle.semantics.specs.Bytes.{u16, u32}
 use Rattle.row_work.specs.Work.{workOf, Sized, Doing, Done}
 use Rattle.row_begin_end.specs.Begins.{Roomy, begins}
-use Rattle.row_begin_end.specs.Fresh.{entersBy, Entering}
-use Rattle.row_begin_end.proofs.Amounts.{entity-there}
+use Rattle.run_fresh.specs.Fresh.{entersBy, Entering}
+use Rattle.run_fresh.proofs.Amounts.{entity-there}
 
 module _ {w map : List ℕ} {k : ℕ} {bs : List ℕ} (d : Doing w (Entering map k bs) (λ s. entersBy map k bs s)) where
   -- At any other record nothing changes.

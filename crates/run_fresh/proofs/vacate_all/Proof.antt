@@ -1,11 +1,11 @@
--- `row_begin_end::vacate_all` meets its contract. The loop's invariant: the places from p on are free. Assumes nothing.
+-- `run_fresh::vacate_all` meets its contract. The loop's invariant: the places from p on are free. Assumes nothing.
 use Prim.Native.Nat.{_+_, _-_, _*_, _≤_, _<_}
 use native.Mathlib.Omega.{arith}
 use mathlib.Core.Path.{_≡_, sym, _∙_, ap}
 use lib.ListN.{length, set}
-use Rattle.row_begin_end.proofs.Vacating.{freeFrom, none-free, free-long, one-more-free, all-free}
-use Rattle.row_begin_end.proofs.vacate_all.Statement.{statement}
-use Rattle.row_begin_end.proofs.vacate_all.Tie as tie
+use Rattle.run_fresh.proofs.Vacating.{freeFrom, none-free, free-long, one-more-free, all-free}
+use Rattle.run_fresh.proofs.vacate_all.Statement.{statement}
+use Rattle.run_fresh.proofs.vacate_all.Tie as tie
 
 abbrev Inv-loop : tie.InvT-loop
 Inv-loop w₀ p₀ w p = (p ≤ 64) × (w ≡ freeFrom p)

@@ -4,7 +4,7 @@ use mathlib.Core.List.{List}
 use Prim.Native.Nat.{ℕ}
 use Rattle.semantics.specs.State.{bare, fresh}
 use Rattle.row_work.specs.Work.{workOf}
-use Rattle.row_begin_end.specs.Fresh.{Loaded, vacantWork, Declaring, Beginning}
+use Rattle.run_fresh.specs.Fresh.{Loaded, vacantWork, Declaring, Beginning}
 
 module _ {bs map w : List ℕ} (d : Loaded bs map w) {x y : List ℕ} (vacant : x ≡ vacantWork)
     (declared : (e : Declaring bs x) → y ≡ workOf (bare (e .model))) where

@@ -1,22 +1,26 @@
 -- What one more record adds to the model, by its kind and its bytes. Assumes nothing.
-use Prim.Native.Nat.{ℕ, _-_, _<_}
+use Prim.Native.Nat.{ℕ, _<_}
 use mathlib.Core.Path.{_≡_, sym, subst}
 use mathlib.Core.List.{List, _∷_, _++_, map}
 use mathlib.Core.Bool.{Bool}
 use lib.Dec.{eqb}
-use lib.ListN.{length, take, drop}
+use lib.ListN.{length}
 use Rattle.semantics.specs.Words.{if_then_else_}
 use Rattle.semantics.specs.Model.{Entity}
-use Rattle.semantics.specs.Bytes.{Raw, raw, spans, u16, u32}
+use Rattle.semantics.specs.Bytes.{Raw, raw, u16, u32}
 use Rattle.semantics.specs.Record.{Row, table, rowOf}
 use Rattle.semantics.specs.Decode.{Gathered, adds, gather}
 use Rattle.promises.specs.Laws.{AllOf, _&_}
 use Rattle.promises.specs.Passes.{its-row}
 use Rattle.base_i32.specs.Code.{code}
+use Rattle.file_reader.specs.Reads.{recordAt}
+use Rattle.file_reader.specs.Records.{bodyAt}
+use Rattle.file_reader.specs.Walk.{onward}
+use Rattle.file_reader.specs.declared.Record.{Record}
 use Rattle.file_index.specs.Index.{Judged, given}
 use Rattle.file_index.proofs.Gathered.{gather-more}
-use Rattle.file_index.proofs.Records.{On, left, here, judged-here}
-use Rattle.row_begin_end.specs.Fresh.{amountIn}
+use Rattle.file_index.proofs.Records.{Fine, step-there, judged-there}
+use Rattle.run_fresh.specs.Fresh.{amountIn}
 
 abbrev pub entityIn : List ℕ → Entity
 entityIn bs = record { class = u16 bs 0; offset = u32 bs 2 }
@@ -46,10 +50,9 @@ record-adds at k bs rs j =
     let r = its-row (RowAdds bs (gather rs)) (rows-add bs (gather rs)) k (j .grouped) in
     rw (gather-more at k bs rs) (subst (λ i. Adds i bs (gather rs) (adds (gather rs) (rowOf k .says bs))) (sym (r .1)) (r .0))
 
--- The record in front of what is left: it has z bytes and is of kind k.
-pub front-adds : {bs rest : List ℕ} → 0 < length rest → On bs rest → {z : ℕ} → z ≡ spans rest → {k : ℕ} → k ≡ u16 rest 2
-    → Adds k (take (z - 4) (drop 4 rest)) (gather (left bs (take (length rest - z) (drop z rest)))) (gather (left bs rest))
-front-adds {bs} {rest} h o {z} e {k} q =
-    rw (here h o e q)
-    (record-adds (length bs - length rest) k (take (z - 4) (drop 4 rest)) (left bs (take (length rest - z) (drop z rest)))
-    (judged-here h o e q))
+-- The record x stands at byte place `at`, and the next one at n.
+pub front-adds : (bs : List ℕ) (at : ℕ) → at < length bs → Fine (onward bs at) → {x : Record} → x ≡ recordAt bs at
+    → {n : ℕ} → n ≡ recordAt bs at .next → Adds (x .kind) (bodyAt bs at n) (gather (onward bs n)) (gather (onward bs at))
+front-adds bs at h f {x} e {n} i =
+    rw (step-there bs at h f e i .here)
+    (record-adds at (x .kind) (bodyAt bs at n) (onward bs n) (judged-there bs at h f e i))

@@ -1,36 +1,40 @@
 -- Round the loop that begins the entities. Assumes nothing.
-use Prim.Native.Nat.{ℕ, _+_, _-_, _<_}
+use Prim.Native.Nat.{ℕ, _+_, _≤_, _<_}
 use native.Mathlib.Omega.{arith}
 use mathlib.Core.Path.{_≡_, refl, sym, subst, _∙_, ap}
 use mathlib.Core.List.{List, [], _∷_}
 use mathlib.Core.Bool.{Bool, true, false}
 use lib.Dec.{eqb}
 use borrow.Author.Tests.{eq-eqb}
-use lib.ListN.{length, getD, take, drop}
+use lib.ListN.{length, getD}
 use Rattle.semantics.specs.Words.{if_then_else_}
 use Rattle.semantics.specs.Model.{Model, Entity, body}
-use Rattle.semantics.specs.Bytes.{spans, u16, u32}
+use Rattle.semantics.specs.Bytes.{u16, u32}
 use Rattle.semantics.specs.Decode.{gather}
 use Rattle.semantics.specs.State.{State, bare, beginAll, fresh}
 use Rattle.promises.specs.Fit.{Fit, Nested}
 use Rattle.promises.specs.Accepted.{accepted-fit, accepted-nested}
+use Rattle.file_reader.specs.Reads.{recordAt}
+use Rattle.file_reader.specs.Records.{bodyAt}
+use Rattle.file_reader.specs.Walk.{onward, onward-ends}
+use Rattle.file_reader.specs.declared.Record.{Record}
 use Rattle.row_work.specs.Work.{workOf, Doing, Done}
 use Rattle.row_work.specs.Shown.{work-long}
 use Rattle.file_index.proofs.Gathered.{gather-none}
-use Rattle.file_index.proofs.Records.{On, on-all, left, left-all, left-none, judged-here, on-next}
+use Rattle.file_index.proofs.Records.{Fine, fine-first, judged-there, fine-there}
 use Rattle.file_index.proofs.Standing.{accepted-by}
 use Rattle.row_begin_end.specs.Begins.{begins}
-use Rattle.row_begin_end.specs.Fresh.{Beginning, entersBy, Entering}
-use Rattle.row_begin_end.proofs.Declared.{entityIn, entities, front-adds}
-use Rattle.row_begin_end.proofs.Ready.{Ready, ready-starts, is-roomy, is-begun, ready-next}
+use Rattle.run_fresh.specs.Fresh.{Beginning, entersBy, Entering}
+use Rattle.run_fresh.proofs.Declared.{entityIn, entities, front-adds}
+use Rattle.run_fresh.proofs.Ready.{Ready, ready-starts, is-roomy, is-begun, ready-next}
 
 -- The entities of the records that are left are still to begin, and then the run is fresh.
-pub record Running (m : Model) (bs w rest : List ℕ) : Type 0 where
-  pub on : On bs rest
+pub record Running (m : Model) (bs w : List ℕ) (at : ℕ) : Type 0 where
+  pub fine : Fine (onward bs at)
   pub is : State
   pub shows : w ≡ workOf is
-  pub ready : Ready m (gather (left bs rest) .model .entities) is
-  pub leads : beginAll m (gather (left bs rest) .model .entities) is ≡ fresh m
+  pub ready : Ready m (gather (onward bs at) .model .entities) is
+  pub leads : beginAll m (gather (onward bs at) .model .entities) is ≡ fresh m
 
 module _ {bs map w : List ℕ} (d : Beginning bs map w) where
   fits : Fit (d .model)
@@ -39,15 +43,14 @@ module _ {bs map w : List ℕ} (d : Beginning bs map w) where
   nests : Nested (d .model)
   nests = accepted-nested bs (d .model) (d .is-accepted)
 
-  pub run-starts : Running (d .model) bs w bs
+  pub run-starts : Running (d .model) bs w 0
   unfolding fresh
   run-starts =
       let a = accepted-by bs (d .model) (d .is-accepted) in
       let m = d .model in
-      let g : m .entities ≡ gather (left bs bs) .model .entities =
-      ap (λ x. x .entities) (sym (ap (λ rs. gather rs .model) (left-all bs) ∙ a .is)) in
+      let g : m .entities ≡ gather (onward bs 0) .model .entities = ap (λ x. x .entities) (sym (a .is)) in
       record {
-        on = on-all bs (a .readable);
+        fine = fine-first bs (a .readable);
         is = bare m;
         shows = d .shows;
         ready = subst (λ es. Ready m es (bare m)) g (ready-starts m fits);
@@ -55,32 +58,32 @@ module _ {bs map w : List ℕ} (d : Beginning bs map w) where
       }
 
 -- ROUND THE LOOP.
-module _ {bs map w₀ : List ℕ} (d : Beginning bs map w₀) {w rest : List ℕ} (v : Running (d .model) bs w rest) where
+module _ {bs map w₀ : List ℕ} (d : Beginning bs map w₀) {w : List ℕ} {at : ℕ} (v : Running (d .model) bs w at) where
   abbrev m : Model
   m = d .model
 
   pub run-long : length w ≡ 10_696
   run-long = ap length (v .shows) ∙ work-long (v .is) (v .ready .is-sized)
 
-  pub run-ends : length rest ≡ 0 → w ≡ workOf (fresh m)
+  pub run-ends : length bs ≤ at → w ≡ workOf (fresh m)
   unfolding beginAll
   run-ends h =
-      let g : gather (left bs rest) .model .entities ≡ [] = rw (left-none bs rest h, gather-none) in
+      let g : gather (onward bs at) .model .entities ≡ [] = rw (onward-ends bs at h, gather-none) in
       v .shows ∙ ap workOf (ap (λ es. beginAll m es (v .is)) (sym g) ∙ v .leads)
 
-  -- A record of z bytes and kind k stands in front.
-  module _ (h : 0 < length rest) {z : ℕ} (e : z ≡ spans rest) {k : ℕ} (q : k ≡ u16 rest 2) where
-    abbrev next : List ℕ
-    next = take (length rest - z) (drop z rest)
+  -- The record q stands here, and the next one at z.
+  module _ (h : at < length bs) {q : Record} (e : q ≡ recordAt bs at) {z : ℕ} (o : z ≡ recordAt bs at .next) where
+    abbrev k : ℕ
+    k = q .kind
 
     abbrev bytes : List ℕ
-    bytes = take (z - 4) (drop 4 rest)
+    bytes = bodyAt bs at z
 
     abbrev es : List Entity
-    es = gather (left bs next) .model .entities
+    es = gather (onward bs z) .model .entities
 
-    same : gather (left bs rest) .model .entities ≡ entities (eqb k 7) (entityIn bytes) es
-    same = front-adds h (v .on) e q .entities-are
+    same : gather (onward bs at) .model .entities ≡ entities (eqb k 7) (entityIn bytes) es
+    same = front-adds bs at h (v .fine) e o .entities-are
 
     readied : Ready m (entities (eqb k 7) (entityIn bytes) es) (v .is)
     readied = subst (λ l. Ready m l (v .is)) same (v .ready)
@@ -119,18 +122,18 @@ module _ {bs map w₀ : List ℕ} (d : Beginning bs map w₀) {w rest : List ℕ
           given =
               record {
                 long = d .is-mapped .long;
-                judged = judged-here h (v .on) e q;
+                judged = judged-there bs at h (v .fine) e o;
                 class-low = λ i. class-low (of-entity i);
                 roomy = λ i. is-roomy m (fits d) (nests d) (entityIn bytes) es (v .is) (of-entity i);
               };
         }
 
-    pub run-turn : {x : List ℕ} → Done w (Entering map k bytes) (λ s. entersBy map k bytes s) x → Running m bs x next
+    pub run-turn : {x : List ℕ} → Done w (Entering map k bytes) (λ s. entersBy map k bytes s) x → Running m bs x z
     unfolding entering after
     run-turn done =
         let a = stepped (eqb k 7) readied in
         record {
-          on = on-next h (v .on) e q;
+          fine = fine-there bs at h (v .fine) e o;
           is = entersBy map k bytes (v .is);
           shows = done entering;
           ready = a .0;

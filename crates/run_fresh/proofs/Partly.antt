@@ -20,8 +20,8 @@ use Rattle.row_work.specs.Laid.{laid, laid-set, even-length}
 use Rattle.row_work.specs.Work.{processRow, workParts, workWidths, workOf, waitersRow, ProcessSized, WaitersSized, Sized}
 use Rattle.row_work.specs.Shown.{work-wide}
 use Rattle.file_index.specs.Index.{given}
-use Rattle.row_begin_end.specs.Fresh.{vacantWork}
+use Rattle.run_fresh.specs.Fresh.{vacantWork}
 use Rattle.row_begin_end.proofs.Rows.{zeros-padded}
 
 -- The first resources, bins and variables of m.
 abbrev pub partly : Model → ℕ → ℕ → ℕ → State

@@ -11,7 +11,7 @@ use Rattle.base_i32.specs.Code.{code}
 use Rattle.row_work.specs.Laid.{laid, set-append-add, even-length}
 use Rattle.row_work.specs.Work.{stacked, processRow}
 use Rattle.row_work.specs.Shown.{process-long}
-use Rattle.row_begin_end.specs.Fresh.{vacantWork}
+use Rattle.run_fresh.specs.Fresh.{vacantWork}
 
 -- The places from p on are free.
 abbrev pub freeFrom : ℕ → List ℕ

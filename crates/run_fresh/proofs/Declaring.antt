@@ -1,34 +1,37 @@
 -- Round the loop that writes what is declared. Assumes nothing.
-use Prim.Native.Nat.{ℕ, _+_, _-_, _≤_, _<_}
+use Prim.Native.Nat.{ℕ, _+_, _≤_, _<_}
 use native.Mathlib.Omega.{arith}
 use mathlib.Core.Path.{_≡_, refl, sym, subst, _∙_, ap}
 use mathlib.Core.List.{List, [], _++_, map}
 use mathlib.Core.Bool.{Bool}
 use lib.Dec.{eqb}
-use lib.ListN.{length, take, drop, length-map}
+use lib.ListN.{length, length-map}
 use lib.Seq.{sets, length-sets}
 use Rattle.semantics.specs.Model.{Model}
-use Rattle.semantics.specs.Bytes.{spans, u16}
 use Rattle.semantics.specs.Decode.{gather}
 use Rattle.semantics.specs.State.{bare}
 use Rattle.promises.specs.Fit.{Fit}
 use Rattle.promises.specs.Accepted.{accepted-fit}
 use Rattle.base_i32.specs.Code.{code}
+use Rattle.file_reader.specs.Reads.{recordAt}
+use Rattle.file_reader.specs.Records.{bodyAt}
+use Rattle.file_reader.specs.Walk.{onward, onward-ends}
+use Rattle.file_reader.specs.declared.Record.{Record}
 use Rattle.row_work.specs.Work.{workOf}
 use Rattle.row_work.specs.Shown.{work-long}
 use Rattle.file_index.specs.Index.{given, Wrote}
 use Rattle.file_index.proofs.Filled.{given-few}
 use Rattle.file_index.proofs.Gathered.{gather-none}
-use Rattle.file_index.proofs.Records.{On, on-all, left, left-all, left-none, on-next}
+use Rattle.file_index.proofs.Records.{Fine, fine-first, fine-there}
 use Rattle.file_index.proofs.Standing.{accepted-by}
-use Rattle.row_begin_end.specs.Fresh.{amountIn, Declaring}
-use Rattle.row_begin_end.proofs.Declared.{Adds, front-adds}
-use Rattle.row_begin_end.proofs.Partly.{partly, Left, left-next, partly-sized, nothing-yet, all-declared}
-use Rattle.row_begin_end.proofs.Partly.{free-noted, bins-noted, vars-noted}
+use Rattle.run_fresh.specs.Fresh.{amountIn, Declaring}
+use Rattle.run_fresh.proofs.Declared.{Adds, front-adds}
+use Rattle.run_fresh.proofs.Partly.{partly, Left, left-next, partly-sized, nothing-yet, all-declared}
+use Rattle.run_fresh.proofs.Partly.{free-noted, bins-noted, vars-noted}
 
 -- The first i resources, j bins and k variables are written, and the records of the rest declare the others.
-pub record Declared (m : Model) (bs w : List ℕ) (free bins vars : ℕ) (rest : List ℕ) : Type 0 where
-  pub on : On bs rest
+pub record Declared (m : Model) (bs w : List ℕ) (free bins vars at : ℕ) : Type 0 where
+  pub fine : Fine (onward bs at)
   pub i : ℕ
   pub j : ℕ
   pub k : ℕ
@@ -36,21 +39,21 @@ pub record Declared (m : Model) (bs w : List ℕ) (free bins vars : ℕ) (rest :
   pub bins-is : bins ≡ 40 + j
   pub vars-is : vars ≡ 72 + k
   pub shows : w ≡ workOf (partly m i j k)
-  pub totals-left : Left (m .totals) i (gather (left bs rest) .model .totals)
-  pub amounts-left : Left (m .amounts) j (gather (left bs rest) .model .amounts)
-  pub vars-left : Left (map code (m .vars)) k (map code (gather (left bs rest) .model .vars))
+  pub totals-left : Left (m .totals) i (gather (onward bs at) .model .totals)
+  pub amounts-left : Left (m .amounts) j (gather (onward bs at) .model .amounts)
+  pub vars-left : Left (map code (m .vars)) k (map code (gather (onward bs at) .model .vars))
 
 module _ {bs w : List ℕ} (d : Declaring bs w) where
   fits : Fit (d .model)
   fits = accepted-fit bs (d .model) (d .is-accepted)
 
-  pub declare-starts : Declared (d .model) bs w 8 40 72 bs
+  pub declare-starts : Declared (d .model) bs w 8 40 72 0
   declare-starts =
       let a = accepted-by bs (d .model) (d .is-accepted) in
       let m = d .model in
-      let g : gather (left bs bs) .model ≡ m = ap (λ rs. gather rs .model) (left-all bs) ∙ a .is in
+      let g : gather (onward bs 0) .model ≡ m = a .is in
       record {
-        on = on-all bs (a .readable);
+        fine = fine-first bs (a .readable);
         i = 0;
         j = 0;
         k = 0;
@@ -64,8 +67,8 @@ module _ {bs w : List ℕ} (d : Declaring bs w) where
       }
 
 -- ROUND THE LOOP.
-module _ {bs w₀ : List ℕ} (d : Declaring bs w₀) {w : List ℕ} {free bins vars : ℕ} {rest : List ℕ}
-    (v : Declared (d .model) bs w free bins vars rest) where
+module _ {bs w₀ : List ℕ} (d : Declaring bs w₀) {w : List ℕ} {free bins vars at : ℕ}
+    (v : Declared (d .model) bs w free bins vars at) where
   abbrev m : Model
   m = d .model
 
@@ -94,30 +97,30 @@ module _ {bs w₀ : List ℕ} (d : Declaring bs w₀) {w : List ℕ} {free bins 
         let l : length y ≡ length x = ap length (s .after-is) ∙ length-sets x bins ys in
         omega (arith, given-few b a, v .vars-left .few, few-vars, v .vars-is, declared-long, first-long)
 
-  -- A record of z bytes and kind k stands in front, and a is what it declares.
-  module _ (h : 0 < length rest) {z : ℕ} (e : z ≡ spans rest) {k : ℕ} (q : k ≡ u16 rest 2) {a : ℕ}
-      (g : a ≡ amountIn k (take (z - 4) (drop 4 rest))) where
-    abbrev next : List ℕ
-    next = take (length rest - z) (drop z rest)
+  -- The record q stands here, and the next one at z; a is what it declares.
+  module _ (h : at < length bs) {q : Record} (e : q ≡ recordAt bs at) {z : ℕ} (o : z ≡ recordAt bs at .next) {a : ℕ}
+      (g : a ≡ amountIn (q .kind) (bodyAt bs at z)) where
+    abbrev k : ℕ
+    k = q .kind
 
     abbrev body : List ℕ
-    body = take (z - 4) (drop 4 rest)
+    body = bodyAt bs at z
 
-    adding : Adds k body (gather (left bs next)) (gather (left bs rest))
-    adding = front-adds h (v .on) e q
+    adding : Adds k body (gather (onward bs z)) (gather (onward bs at))
+    adding = front-adds bs at h (v .fine) e o
 
-    totals : Left (m .totals) (v .i) (given (eqb k 1) a ++ gather (left bs next) .model .totals)
+    totals : Left (m .totals) (v .i) (given (eqb k 1) a ++ gather (onward bs z) .model .totals)
     totals = rw g (subst (Left (m .totals) (v .i)) (adding .totals-are) (v .totals-left))
 
-    amounts : Left (m .amounts) (v .j) (given (eqb k 2) a ++ gather (left bs next) .model .amounts)
+    amounts : Left (m .amounts) (v .j) (given (eqb k 2) a ++ gather (onward bs z) .model .amounts)
     amounts = rw g (subst (Left (m .amounts) (v .j)) (adding .amounts-are) (v .amounts-left))
 
-    values : Left (map code (m .vars)) (v .k) (given (eqb k 4) a ++ map code (gather (left bs next) .model .vars))
+    values : Left (map code (m .vars)) (v .k) (given (eqb k 4) a ++ map code (gather (onward bs z) .model .vars))
     values = rw g (subst (Left (map code (m .vars)) (v .k)) (adding .vars-are) (v .vars-left))
 
     pub declare-turn : {free' bins' vars' : ℕ} {x y u : List ℕ} → Wrote free (given (eqb k 1) a) w free' x
         → Wrote bins (given (eqb k 2) a) x bins' y → Wrote vars (given (eqb k 4) a) y vars' u
-        → Declared m bs u free' bins' vars' next
+        → Declared m bs u free' bins' vars' z
     declare-turn {x = x} {y = y} {u = u} r s t =
         let i' : ℕ = v .i + length (given (eqb k 1) a) in
         let j' : ℕ = v .j + length (given (eqb k 2) a) in
@@ -135,7 +138,7 @@ module _ {bs w₀ : List ℕ} (d : Declaring bs w₀) {w : List ℕ} {free bins 
         ∙ ap (λ l. sets l (72 + v .k) (given (eqb k 4) a)) y-is
         ∙ vars-noted m f i' j' (v .k) (eqb k 4) a _ values in
         record {
-          on = on-next h (v .on) e q;
+          fine = fine-there bs at h (v .fine) e o;
           i = i';
           j = j';
           k = k';
@@ -148,11 +151,11 @@ module _ {bs w₀ : List ℕ} (d : Declaring bs w₀) {w : List ℕ} {free bins 
           vars-left = left-next (map code (m .vars)) (v .k) (given (eqb k 4) a) _ values;
         }
 
-  pub declare-ends : length rest ≡ 0 → w ≡ workOf (bare m)
+  pub declare-ends : length bs ≤ at → w ≡ workOf (bare m)
   declare-ends h =
-      let g : gather (left bs rest) .model .totals ≡ [] = rw (left-none bs rest h, gather-none) in
-      let n : gather (left bs rest) .model .amounts ≡ [] = rw (left-none bs rest h, gather-none) in
-      let c : map code (gather (left bs rest) .model .vars) ≡ [] = rw (left-none bs rest h, gather-none) in
+      let g : gather (onward bs at) .model .totals ≡ [] = rw (onward-ends bs at h, gather-none) in
+      let n : gather (onward bs at) .model .amounts ≡ [] = rw (onward-ends bs at h, gather-none) in
+      let c : map code (gather (onward bs at) .model .vars) ≡ [] = rw (onward-ends bs at h, gather-none) in
       v .shows
       ∙ ap workOf
       (all-declared m f (v .i) (v .j) (v .k) (subst (Left (m .totals) (v .i)) g (v .totals-left))

@@ -13,7 +13,7 @@ use Rattle.semantics.specs.Record.{rowOf}
 use Rattle.base_i32.specs.Code.{code}
 use Rattle.file_index.specs.Index.{Judged}
 use Rattle.file_index.proofs.Bodies.{head-at}
-use Rattle.row_begin_end.specs.Fresh.{amountIn}
+use Rattle.run_fresh.specs.Fresh.{amountIn}
 
 head-1 : rowOf 1 .head ≡ 4
 unfolding rowOf

@@ -1,0 +1,9 @@
+pub mod Amounts
+pub mod Vacating
+pub mod Declared
+pub mod Partly
+pub mod Declaring
+pub mod Entering
+pub mod Ready
+pub mod Running
+pub mod Loading
