@@ -116,6 +116,8 @@ CHANGES = [
 
 # Must-fail edits that the prover refuses and no call of a C function can show, and why.
 UNSEEN = {
+    'run_row/no_room_told_as_21': 'the desk opens a run in a row of its length, and tests its own row itself',
+    'run_row/opened_in_a_longer_row': 'the desk opens a run in a row of its length, and tests its own row itself',
     'base_places/flipped': 'whoever comes finds the place free',
     'row_sound_lists/nobody_listed': 'a place without a block has number 0, by another clause',
     'file_weight/block_weight_capped_lower': 'a class weighs one more than its body, and so is OVER all the same',
