@@ -19,7 +19,7 @@ use Rattle.file_actions.specs.Bodies.{ReadsExpression, Says, told}
 use Rattle.act_floor.specs.Acting.{Acting, Stepped}
 use Rattle.act_floor.specs.Running.{on}
 use Rattle.act_alone.specs.Alone.{Told, SteppedQuietly, quietly}
-use Rattle.act_walk.specs.Walking.{Setting}
+use Rattle.act_set_become.specs.Setting.{Setting}
 use Rattle.act_req_try_while.specs.Asks.{Asked, passes, enters, Requesting, Looping}
 use Rattle.act_puts_start.specs.Hands.{Starting}
 use Rattle.act_step.specs.Steps.{Meets, MeetsAt, doing}

@@ -11,7 +11,7 @@ use Rattle.promises.specs.Sound.{noticed, gives, ReturnOk, NoticeOk, Held}
 use Rattle.base_ordered.specs.Order.{number-packed, amount-packed, giver-packed}
 use Rattle.base_ordered.specs.Lines.{packed, kindOf, numberOf, amountOf, giverOf, dataOf}
 use Rattle.row_work.specs.Work.{NoticeSized, FloorSized}
-use Rattle.act_walk.specs.Walking.{Returning}
+use Rattle.act_return.specs.Returning.{Returning}
 use Rattle.act_step.specs.Steps.{Waking, Occurring}
 
 -- A NOTICE is told by its word.

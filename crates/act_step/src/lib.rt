@@ -42,7 +42,7 @@ fn act_on_value<'a>(
     let i = file_fields::u16_at(body, 0) as usize;
     let rest = &body[2..];
     if kind == 18 {
-        return act_walk::set_global(rest, i, s, map, w, out, at, p);
+        return act_set_become::set_global(rest, i, s, map, w, out, at, p);
     }
     act_alone::set_local(rest, i, w, p)
 }
@@ -66,7 +66,7 @@ fn act_on_number<'a>(
 {
     let first = file_fields::u16_at(body, 0);
     if kind == 24 {
-        return act_walk::become_slave(first as usize, s, map, w, out, at, p);
+        return act_set_become::become_slave(first as usize, s, map, w, out, at, p);
     }
     if kind == 20 {
         let block = file_fields::u16_at(body, 2);
@@ -247,9 +247,9 @@ fn occurs<'a>(
     let n = base_ordered::amount_of(word);
     let g = base_ordered::giver_of(word);
     if kind == 1 {
-        return act_walk::resource_back(i, n, g, s, map, w, out, at);
+        return act_return::resource_back(i, n, g, s, map, w, out, at);
     }
-    act_walk::bin_back(i, n, g, s, map, w, out, at)
+    act_return::bin_back(i, n, g, s, map, w, out, at)
 }
 
 // Nobody has the floor: the first of the event list leaves it, and comes back where its step faults.

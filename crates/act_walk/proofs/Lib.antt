@@ -1,7 +1,5 @@
 pub mod Reading
+pub mod Lines
 pub mod Going
 pub mod Visiting
 pub mod Turns
-pub mod Returning
-pub mod Becoming
-pub mod Setting

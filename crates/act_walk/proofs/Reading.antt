@@ -1,25 +1,21 @@
 -- What is read of the work and of the map. Assumes nothing.
-use Prim.Native.Nat.{ℕ, _+_, _≤_, _<_}
-use native.Mathlib.Omega.{arith}
+use Prim.Native.Nat.{ℕ, _+_, _≤_}
 use mathlib.Core.Path.{_≡_, refl, _∙_, ap}
 use mathlib.Core.List.{List, [], _∷_, map}
 use mathlib.Core.Bool.{not}
 use mathlib.Core.Option.{some}
 use lib.Dec.{eqb}
 use lib.ListN.{length, getD, getElem?}
-use Rattle.semantics.specs.Numbers as No
 use Rattle.semantics.specs.Model.{Branch, Action, HOLD, PRIO, TRACE, SET, LSET, DO, PUTR, PUTB, PUTS, BECOME, REQ, TRY, WHILE}
 use Rattle.semantics.specs.Model.{START, CLOSE}
 use Rattle.semantics.specs.Bytes.{u16}
 use Rattle.semantics.specs.State.{State}
 use Rattle.semantics.specs.Claim.{Offer, enterBlock, offers}
-use Rattle.promises.specs.Laws.{AllOf, all-get, all-at}
+use Rattle.promises.specs.Laws.{AllOf, all-at}
 use Rattle.file_actions.specs.Kinds.{kind-of}
-use Rattle.row_work.specs.Shown.{bins-at}
 use Rattle.row_work.specs.Blocked.{blocked-count}
 use Rattle.row_process.specs.Process.{Shown}
 use Rattle.row_grant.specs.Grant.{intoBlock}
-use Rattle.act_floor.proofs.Reading.{is-long}
 use Rattle.act_walk.specs.Walking.{AtAction, enteredBy}
 
 -- A WORK that shows a state.
@@ -29,17 +25,6 @@ module _ {w : List ℕ} {P : State → Type 0} (v : Shown w P) where
 
   pub count-low : getD w 6 0 ≤ 64
   count-low = rw count-is (v .sized .blocked-ok .few)
-
--- It has a bin i.
-module _ {w : List ℕ} {i : ℕ} (v : Shown w (λ s. i < length (s .bins))) where
-  pub bin-in : 40 + i < length w
-  bin-in = omega (arith, is-long v, v .given, v .sized .bins-few)
-
-  pub bin-is : getD w (40 + i) 0 ≡ getD (v .is .bins) i 0
-  bin-is = ap (λ l. getD l (40 + i) 0) (v .shows) ∙ bins-at (v .is) (v .sized) i (v .given)
-
-  pub bin-low : getD w (40 + i) 0 ≤ No.fullBin
-  bin-low = rw bin-is (all-get (λ x. x ≤ No.fullBin) (v .is .bins) i 0 (v .sized .bins-low) (omega arith))
 
 -- AN ACTION of the map, by its kind;
 pub entered : {bs row : List ℕ} {a : ℕ} (v : AtAction bs row a) (place kind : ℕ) → place ≡ getD row (257 + a) 0

@@ -8,23 +8,20 @@ use lib.Dec.{eqb}
 use lib.ListN.{length, getD, getElem?, take}
 use lib.IntN.{pos}
 use Rattle.semantics.specs.Numbers as No
-use Rattle.semantics.specs.Numbers.{ofReturns}
-use Rattle.semantics.specs.Model.{Expr, Action, SET, kindOf, Model}
-use Rattle.semantics.specs.State.{State, Notice, process, wake}
+use Rattle.semantics.specs.Model.{Action, kindOf, Model}
+use Rattle.semantics.specs.State.{State, process, wake}
 use Rattle.semantics.specs.Claim.{Offer, asks, Choice, waits, goes, choice, grant}
 use Rattle.semantics.specs.Walk.{Next, Line, line, quiet, after}
 use Rattle.promises.specs.Fit.{Fit, Nested}
-use Rattle.promises.specs.Sound.{gives, NoticeOk, Held}
+use Rattle.promises.specs.Sound.{Held}
 use Rattle.base_journal.specs.Wrote.{wroteAt}
 use Rattle.file_index.specs.Ties.{ActionAt}
-use Rattle.file_actions.specs.Bodies.{ReadsExpression}
 use Rattle.row_work.specs.Work.{workOf, FloorSized}
 use Rattle.row_work.specs.Sized.{Rounds}
 use Rattle.file_map.specs.Map.{OfferAt, Mapped}
 use Rattle.row_lists.specs.Lists.{unblocked}
 use Rattle.row_grant.specs.Grant.{intoBlock}
 use Rattle.row_grant.specs.Standing.{placeAt}
-use Rattle.act_floor.specs.Acting.{Acting}
 
 -- A run in the middle of a step that walks: w shows its state, and map and bs are its model's.
 pub record Walking (bs map w : List ℕ) : Type 0 where
@@ -38,20 +35,6 @@ pub record Walking (bs map w : List ℕ) : Type 0 where
   pub in-hand : ℕ → ℕ
   pub holds : Held model is (is .blocked) in-hand (λ j. 0)
   pub floor-ok : FloorSized (is .floor)
-
--- A return notice e was first in the event list and is out of it: what it returns is in hand.
-pub record Returning (bs map w : List ℕ) (e : Notice) : Type 0 where
-  pub model : Model
-  pub fits : Fit model
-  pub nested : Nested model
-  pub few-rounds : Rounds model
-  pub mapped : Mapped bs model map
-  pub is : State
-  pub shows : w ≡ workOf is
-  pub in-hand : ℕ → ℕ
-  pub holds : Held model is (is .blocked) in-hand (λ j. gives j e)
-  pub floor-ok : FloorSized (is .floor)
-  pub tells : NoticeOk model (is .last) (is .processes) ofReturns e
 
 -- What a walk comes to: the work shows its state, and its lines, r of them, are written from line `at` on.
 abbrev pub Walked : Next → (r : ℕ) (w′ : List ℕ) (at : ℕ) (out out′ : List ℕ) → Type 0
@@ -107,9 +90,3 @@ visits m (suc n) k s =
       | waits ↦ visits m n (suc k) s
       | goes i o ↦ after (grantedLine s k i) (visits m n k (went k o s))
     ]
-
--- The process in place p, on the floor, sets variable i to the value of the expression in `body`.
-pub record Setting (body bs map w : List ℕ) (p i : ℕ) : Type 0 where
-  pub expression : Expr
-  pub reads : ReadsExpression body expression
-  pub acting : Acting bs map w p (SET i expression)

@@ -1,11 +1,11 @@
--- `act_walk::set_global` meets its contract. Assumes nothing.
+-- `act_set_become::set_global` meets its contract. Assumes nothing.
 use native.Mathlib.Omega.{arith}
 use borrow.Author.Tests.{not-true, not-false}
 use Rattle.act_floor.specs.Onward.{passing}
-use Rattle.act_walk.proofs.Setting.{here, valued, passed-long, global-low, no-value, placed-walking, value-set}
+use Rattle.act_set_become.proofs.Setting.{here, valued, passed-long, global-low, no-value, placed-walking, value-set}
 use borrow.Author.Needs.{needs}
-use Rattle.act_walk.proofs.set_global.Statement.{statement}
-use Rattle.act_walk.proofs.set_global.Tie as tie
+use Rattle.act_set_become.proofs.set_global.Statement.{statement}
+use Rattle.act_set_become.proofs.set_global.Tie as tie
 
 value-in-requires : tie.Need-value-in-requires
 value-in-requires c κs = valued (c .before .before .before .before .before .before .pre .0)

@@ -23,8 +23,8 @@ use Rattle.act_floor.specs.Acting.{Acting, Stepped}
 use Rattle.act_floor.specs.Running.{On, on}
 use Rattle.act_floor.specs.Onward.{m, s, q, is-sized, shown, still-sized, hand-is, in-hand, low, action-fits, after-it, passes}
 use Rattle.act_floor.specs.Onward.{after-sized, passing}
 use Rattle.act_walk.specs.Walking.{Walking, Walked}
-use Rattle.act_walk.proofs.Returning.{stepped}
+use Rattle.act_walk.proofs.Lines.{stepped}
 
 module _ {bs row w : List ℕ} {i p : ℕ} (v : Acting bs row w p (BECOME i)) where
   abbrev pub here : On w p (BECOME i)

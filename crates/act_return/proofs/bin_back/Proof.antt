@@ -1,10 +1,11 @@
--- `act_walk::bin_back` meets its contract. Assumes nothing.
+-- `act_return::bin_back` meets its contract. Assumes nothing.
 use native.Mathlib.Omega.{arith}
-use Rattle.act_walk.proofs.Returning.{noted-long, shown, is-long, bin-known, bin-few, too-full, bin-fits, fills-walking}
-use Rattle.act_walk.proofs.Returning.{bin-stepped}
+use Rattle.act_walk.proofs.Lines.{noted-long}
+use Rattle.act_return.proofs.Returning.{shown, is-long, bin-known, bin-few, too-full, bin-fits, fills-walking}
+use Rattle.act_return.proofs.Returning.{bin-stepped}
 use borrow.Author.Needs.{needs}
-use Rattle.act_walk.proofs.bin_back.Statement.{statement}
-use Rattle.act_walk.proofs.bin_back.Tie as tie
+use Rattle.act_return.proofs.bin_back.Statement.{statement}
+use Rattle.act_return.proofs.bin_back.Tie as tie
 
 bin-of-requires : tie.Need-bin-of-requires
 bin-of-requires c κs = let v = c .before .before .before .before .before .pre .0 in shown v (bin-known v)

@@ -1,8 +1,8 @@
--- `act_walk::bin_of` meets its contract. Assumes nothing.
-use Rattle.act_walk.proofs.Reading.{bin-in, bin-is, bin-low}
+-- `act_return::bin_of` meets its contract. Assumes nothing.
+use Rattle.act_return.proofs.Bins.{bin-in, bin-is, bin-low}
 use borrow.Author.Needs.{needs}
-use Rattle.act_walk.proofs.bin_of.Statement.{statement}
-use Rattle.act_walk.proofs.bin_of.Tie as tie
+use Rattle.act_return.proofs.bin_of.Statement.{statement}
+use Rattle.act_return.proofs.bin_of.Tie as tie
 
 add-result : tie.Need-add-result
 add-result c = search needs

@@ -11,30 +11,22 @@ use lib.IntN.{pos}
 use Rattle.semantics.specs.Words.{ok, _>>_, need, more}
 use Rattle.semantics.specs.Numbers as No
 use Rattle.semantics.specs.State.{State, Notice, returnsR, returnsB, with-free, with-bins}
-use Rattle.semantics.specs.Walk.{Next, Line, line, after, walk}
+use Rattle.semantics.specs.Walk.{Line, line, after, walk}
 use Rattle.semantics.specs.Step.{occurs}
 use Rattle.promises.specs.Laws.{all-get, more-at}
 use Rattle.promises.specs.Sound.{Held}
 use Rattle.promises.specs.Moves.{frees, bin-is}
 use Rattle.base_journal.specs.Wrote.{wroteAt}
-use Rattle.base_journal.specs.Laws.{wrote-length}
 use Rattle.row_work.specs.Work.{workOf, FloorSized, Sized}
 use Rattle.row_work.specs.Sized.{held-sized}
 use Rattle.row_work.specs.Shown.{work-long, free-at, free-set, bins-set}
 use Rattle.row_process.specs.Process.{Shown}
 use Rattle.row_lists.specs.Lists.{Any}
 use Rattle.act_floor.specs.Acting.{Stepped}
-use Rattle.act_walk.specs.Walking.{Walking, Returning, Walked}
-use Rattle.act_walk.proofs.Reading.{bin-is as bin-at}
-
--- A LINE, and then the walk's.
-pub stepped : (l : Line) (n : Next) (at : ℕ) (w out : List ℕ) {r : ℕ} {w′ out′ out″ : List ℕ} → out′ ≡ wroteAt at (l ∷ []) out
-    → Walked n r w′ (at + 1) out′ out″ → Stepped (ok (after l n)) 0 (r + 1) w w′ at out out″
-unfolding wroteAt
-stepped l n at w out e h = (refl, (omega (arith, h .0), (h .1 .0, h .1 .1 ∙ ap (wroteAt (at + 1) (n .lines)) e)))
-
-pub noted-long : (at : ℕ) (l : Line) (out out′ : List ℕ) → out′ ≡ wroteAt at (l ∷ []) out → length out′ ≡ length out
-noted-long at l out out′ e = ap length e ∙ wrote-length (l ∷ []) at out
+use Rattle.act_walk.specs.Walking.{Walking, Walked}
+use Rattle.act_walk.proofs.Lines.{stepped}
+use Rattle.act_return.specs.Returning.{Returning}
+use Rattle.act_return.proofs.Bins.{bin-is as bin-at}
 
 module _ {bs row w : List ℕ} {e : Notice} (v : Returning bs row w e) where
   pub is-sized : Sized (v .is)

@@ -1,9 +1,10 @@
--- `act_walk::resource_back` meets its contract. Assumes nothing.
+-- `act_return::resource_back` meets its contract. Assumes nothing.
 use native.Mathlib.Omega.{arith}
-use Rattle.act_walk.proofs.Returning.{noted-long, shown, is-long, few, free-low, frees-walking, resource-stepped}
+use Rattle.act_walk.proofs.Lines.{noted-long}
+use Rattle.act_return.proofs.Returning.{shown, is-long, few, free-low, frees-walking, resource-stepped}
 use borrow.Author.Needs.{needs}
-use Rattle.act_walk.proofs.resource_back.Statement.{statement}
-use Rattle.act_walk.proofs.resource_back.Tie as tie
+use Rattle.act_return.proofs.resource_back.Statement.{statement}
+use Rattle.act_return.proofs.resource_back.Tie as tie
 
 note-requires : tie.Need-note-requires
 note-requires c κs = let v = c .before .before .before .before .before .before .pre .0 in (

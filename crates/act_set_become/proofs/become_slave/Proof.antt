@@ -1,12 +1,12 @@
--- `act_walk::become_slave` meets its contract. Assumes nothing.
+-- `act_set_become::become_slave` meets its contract. Assumes nothing.
 use native.Mathlib.Omega.{arith}
-use Rattle.act_walk.proofs.Returning.{noted-long}
+use Rattle.act_walk.proofs.Lines.{noted-long}
 use Rattle.act_floor.specs.Onward.{shown, low, passing}
-use Rattle.act_walk.proofs.Becoming.{here, number-fits, sync-low, leaving, joining}
-use Rattle.act_walk.proofs.Becoming.{joined-walking, became}
+use Rattle.act_set_become.proofs.Becoming.{here, number-fits, sync-low, leaving, joining}
+use Rattle.act_set_become.proofs.Becoming.{joined-walking, became}
 use borrow.Author.Needs.{needs}
-use Rattle.act_walk.proofs.become_slave.Statement.{statement}
-use Rattle.act_walk.proofs.become_slave.Tie as tie
+use Rattle.act_set_become.proofs.become_slave.Statement.{statement}
+use Rattle.act_set_become.proofs.become_slave.Tie as tie
 
 number-of-requires : tie.Need-number-of-requires
 number-of-requires c κs = let v = c .before .before .before .before .before .pre .0 in shown (here v) (low (here v))

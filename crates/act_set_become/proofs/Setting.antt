@@ -24,7 +24,8 @@ use Rattle.act_floor.specs.Running.{On, on}
 use Rattle.act_floor.specs.Onward.{m, s, q, hand, is-sized, lives, action-fits, after-it, passes, after-sized, passing}
 use Rattle.act_alone.specs.Alone.{Valued}
 use Rattle.act_alone.proofs.Values.{tells}
-use Rattle.act_walk.specs.Walking.{Walking, Walked, Setting}
+use Rattle.act_walk.specs.Walking.{Walking, Walked}
+use Rattle.act_set_become.specs.Setting.{Setting}
 
 module _ {body bs row w : List ℕ} {p i : ℕ} (v : Setting body bs row w p i) where
   abbrev pub here : On w p (SET i (v .expression))
