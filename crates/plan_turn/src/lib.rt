@@ -1,4 +1,5 @@
 // One turn of a run that is printed: a call with an empty journal, and its lines as text.
+use base_numbers::answer;
 use run_limit::Answer;
 ghost use mathlib.Core.Path.{_≡_};
 ghost use Prim.Native.Nat.{_*_, _/_, _≤_};
@@ -20,9 +21,9 @@ fn number_of(answer: Answer) -> u32
     ensures { λ r. ⌜ r ≡ numberOf (answerOf answer) ⌝ }
 {
     match answer {
-        Answer::Closed => 0,
-        Answer::Idle => 1,
-        Answer::Limit => 2,
+        Answer::Closed => answer::CLOSED,
+        Answer::Idle => answer::IDLE,
+        Answer::Limit => answer::LIMIT,
         Answer::Fault(number) => number,
     }
 }
