@@ -98,10 +98,10 @@ CHANGES = [
     ('slaves may be left behind', 'row_process', ' & (row_work::word(w, p, process::SLAVES) == 0)', ''),
     ('30 one line too late', 'run_limit', 'if left < lines {', 'if left + 1 < lines {'),
     # ---- checks and the bound
-    ('the place of the record after', 'file_check', 'place: f.place,', 'place: f.place + span(&s[f.place..]),'),
+    ('the place of the record after', 'file_check', 'place: f.place,', 'place: file_reader::next(s, f.place),'),
     ('8 and 9 at the place of the record after', 'file_check',
-     'number: x,\n                place: at,',
-     'number: x,\n                place: at + size,'),
+     'number: r,\n                place: at,',
+     'number: r,\n                place: end,'),
     ('a branch may name a thing twice', 'file_check_tails', '2 => !all_branches(1, [0u32; 17], 0, bs),', '2 => false,'),
     ('PUTR weighs 1', 'file_index', '[1, 1, 1, 1, 1, 2, 2, 1,', '[1, 1, 1, 1, 1, 1, 2, 1,'),
     ('a TRY weighs its last branch', 'file_weight', 'top = larger(top, v);', 'top = v;'),

@@ -27,7 +27,8 @@ first-requires c κs = search needs
 loop-holds : tie.Need-loop-holds Inv-loop μ-loop
 loop-holds c = let o = c .before .before .before .before .before .before .before .before .before .before in
     rw (c .first2 .ensures) (going-begun (o .args .s .now) (o .pre) (arrays (o .args .s .now) (o .pre)
-    (c .before .before .before .before .before .before .before .before .index-of .ensures) (c .before .before .before .before .before .before .graph-of .ensures)))
+    (c .before .before .before .before .before .before .before .before .index-of .ensures)
+    (c .before .before .before .before .before .before .graph-of .ensures)))
 
 read-requires : tie.Need-read-requires Inv-loop μ-loop
 read-requires c κs = search needs

@@ -33,26 +33,31 @@ read-requires c κs = search needs
 
 returns : tie.Need-returns Inv-loop μ-loop
 returns c = let l = c .before .before .before .before .loop in
-    ap firstOf (sym (first-torn _ (l .at) (l .seen) (c .before .before .before .loop-test .taken) (c .before .before .read .ensures)
+    ap firstOf (sym (first-torn _ (l .at) (l .seen) (c .before .before .before .loop-test .taken)
+    (c .before .before .read .ensures)
     (not-true _ (c .if1 .taken))) ∙ l .inv .1)
 
 next-requires : tie.Need-next-requires Inv-loop μ-loop
 next-requires c κs = search needs
 
 add-judge : tie.Need-add-judge Inv-loop μ-loop
-add-judge c = let p = reads-step _ _ (c .before .before .before .before .loop-test .taken) (c .before .before .before .read .ensures)
+add-judge c = let p = reads-step _ _ (c .before .before .before .before .loop-test .taken)
+    (c .before .before .before .read .ensures)
     (not-false _ (c .before .if1 .left)) (c .next .ensures) in omega (arith, p .far, p .within)
 
 sub-judge : tie.Need-sub-judge Inv-loop μ-loop
-sub-judge c = let p = reads-step _ _ (c .before .before .before .before .loop-test .taken) (c .before .before .before .read .ensures)
+sub-judge c = let p = reads-step _ _ (c .before .before .before .before .loop-test .taken)
+    (c .before .before .before .read .ensures)
     (not-false _ (c .before .if1 .left)) (c .next .ensures) in omega (arith, p .far, p .within)
 
 part-judge-start : tie.Need-part-judge-start Inv-loop μ-loop
-part-judge-start c = let p = reads-step _ _ (c .before .before .before .before .loop-test .taken) (c .before .before .before .read .ensures)
+part-judge-start c = let p = reads-step _ _ (c .before .before .before .before .loop-test .taken)
+    (c .before .before .before .read .ensures)
     (not-false _ (c .before .if1 .left)) (c .next .ensures) in omega (arith, p .far, p .within)
 
 part-judge-end : tie.Need-part-judge-end Inv-loop μ-loop
-part-judge-end c = let p = reads-step _ _ (c .before .before .before .before .loop-test .taken) (c .before .before .before .read .ensures)
+part-judge-end c = let p = reads-step _ _ (c .before .before .before .before .loop-test .taken)
+    (c .before .before .before .read .ensures)
     (not-false _ (c .before .if1 .left)) (c .next .ensures) in omega (arith, p .far, p .within)
 
 judge-requires : tie.Need-judge-requires Inv-loop μ-loop
@@ -60,7 +65,8 @@ judge-requires c κs = search needs
 
 returns-2 : tie.Need-returns-2 Inv-loop μ-loop
 returns-2 c = let l = c .before .before .before .before .before .before .before .before .loop in
-    let p = reads-step _ _ (c .before .before .before .before .before .before .before .loop-test .taken) (c .before .before .before .before .before .before .read .ensures)
+    let p = reads-step _ _ (c .before .before .before .before .before .before .before .loop-test .taken)
+    (c .before .before .before .before .before .before .read .ensures)
     (not-false _ (c .before .before .before .before .if1 .left)) (c .before .before .before .next .ensures) in
     ap firstOf (sym (first-refused p (l .seen) (c .before .judge .ensures) (c .if2 .taken)) ∙ l .inv .1)
 
@@ -87,12 +93,15 @@ array-write-seen : tie.Need-array-write-seen Inv-loop μ-loop
 array-write-seen c = omega (arith, c .group-of .ensures .1)
 
 loop-less : tie.Need-loop-less Inv-loop μ-loop
-loop-less c = let p = reads-step _ _ (c .before .before .before .before .before .before .before .before .loop-test .taken) (c .before .before .before .before .before .before .before .read .ensures)
-    (not-false _ (c .before .before .before .before .before .if1 .left)) (c .before .before .before .before .next .ensures) in omega (arith, p .far, p .within)
+loop-less c = let p = reads-step _ _ (c .before .before .before .before .before .before .before .before .loop-test .taken)
+    (c .before .before .before .before .before .before .before .read .ensures)
+    (not-false _ (c .before .before .before .before .before .if1 .left))
+    (c .before .before .before .before .next .ensures) in omega (arith, p .far, p .within)
 
 loop-again : tie.Need-loop-again Inv-loop μ-loop
 loop-again c = let l = c .before .before .before .before .before .before .before .before .before .loop in
-    let p = reads-step _ _ (c .before .before .before .before .before .before .before .before .loop-test .taken) (c .before .before .before .before .before .before .before .read .ensures)
+    let p = reads-step _ _ (c .before .before .before .before .before .before .before .before .loop-test .taken)
+    (c .before .before .before .before .before .before .before .read .ensures)
     (not-false _ (c .before .before .before .before .before .if1 .left)) (c .before .before .before .before .next .ensures) in (
       length-set (l .seen) _ _ ∙ l .inv .0,
       rw (c .group-of .ensures .0)

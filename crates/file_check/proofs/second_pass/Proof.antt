@@ -35,35 +35,44 @@ next-requires : tie.Need-next-requires Inv-loop μ-loop
 next-requires c κs = search needs
 
 add-name : tie.Need-add-name Inv-loop μ-loop
-add-name c = let p = step-there _ _ (c .before .before .loop-test .taken) (c .before .before .before .loop .inv .0) (c .before .read .ensures)
+add-name c = let p = step-there _ _ (c .before .before .loop-test .taken) (c .before .before .before .loop .inv .0)
+    (c .before .read .ensures)
     (c .next .ensures) in omega (arith, p .far, p .within)
 
 sub-name : tie.Need-sub-name Inv-loop μ-loop
-sub-name c = let p = step-there _ _ (c .before .before .loop-test .taken) (c .before .before .before .loop .inv .0) (c .before .read .ensures)
+sub-name c = let p = step-there _ _ (c .before .before .loop-test .taken) (c .before .before .before .loop .inv .0)
+    (c .before .read .ensures)
     (c .next .ensures) in omega (arith, p .far, p .within)
 
 part-name-start : tie.Need-part-name-start Inv-loop μ-loop
-part-name-start c = let p = step-there _ _ (c .before .before .loop-test .taken) (c .before .before .before .loop .inv .0) (c .before .read .ensures)
+part-name-start c = let p = step-there _ _ (c .before .before .loop-test .taken) (c .before .before .before .loop .inv .0)
+    (c .before .read .ensures)
     (c .next .ensures) in omega (arith, p .far, p .within)
 
 part-name-end : tie.Need-part-name-end Inv-loop μ-loop
-part-name-end c = let p = step-there _ _ (c .before .before .loop-test .taken) (c .before .before .before .loop .inv .0) (c .before .read .ensures)
+part-name-end c = let p = step-there _ _ (c .before .before .loop-test .taken) (c .before .before .before .loop .inv .0)
+    (c .before .read .ensures)
     (c .next .ensures) in omega (arith, p .far, p .within)
 
 name-requires : tie.Need-name-requires Inv-loop μ-loop
-name-requires c κs = sized-on (judged-there _ _ (c .before .before .before .loop-test .taken) (c .before .before .before .before .loop .inv .0)
+name-requires c κs = sized-on (judged-there _ _ (c .before .before .before .loop-test .taken)
+    (c .before .before .before .before .loop .inv .0)
     (c .before .before .read .ensures) (c .before .next .ensures))
 
 returns : tie.Need-returns Inv-loop μ-loop
 returns c = let l = c .before .before .before .before .before .before .loop in
-    let p = step-there _ _ (c .before .before .before .before .before .loop-test .taken) (l .inv .0) (c .before .before .before .before .read .ensures) (c .before .before .before .next .ensures) in
+    let p = step-there _ _ (c .before .before .before .before .before .loop-test .taken) (l .inv .0)
+    (c .before .before .before .before .read .ensures) (c .before .before .before .next .ensures) in
     ap refusalOf (sym (second-refused p _ (l .own) (c .before .name .ensures) (c .if1 .taken)) ∙ l .inv .1 .1 .1)
 
 opened-requires : tie.Need-opened-requires Inv-loop μ-loop
-opened-requires c κs = let l = c .before .before .before .before .before .before .loop in omega (arith, l .inv .1 .0, l .inv .1 .1 .0, c .before .before .before .before .before .loop-test .taken)
+opened-requires c κs = let l = c .before .before .before .before .before .before .loop in omega
+    (arith, l .inv .1 .0, l .inv .1 .1 .0, c .before .before .before .before .before .loop-test .taken)
 
 loop-less : tie.Need-loop-less Inv-loop μ-loop
-loop-less c = let p = step-there _ _ (c .before .before .before .before .before .before .loop-test .taken) (c .before .before .before .before .before .before .before .loop .inv .0) (c .before .before .before .before .before .read .ensures)
+loop-less c = let p = step-there _ _ (c .before .before .before .before .before .before .loop-test .taken)
+    (c .before .before .before .before .before .before .before .loop .inv .0)
+    (c .before .before .before .before .before .read .ensures)
     (c .before .before .before .before .next .ensures) in omega (arith, p .far, p .within)
 
 loop-again : tie.Need-loop-again Inv-loop μ-loop

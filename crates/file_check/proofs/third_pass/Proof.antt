@@ -27,7 +27,9 @@ first-requires c κs = search needs
 
 loop-holds : tie.Need-loop-holds Inv-loop μ-loop
 loop-holds c = rw (c .first2 .ensures)
-    (begun _ (c .before .before .before .before .before .before .before .before .pre) _ (c .before .before .before .before .before .before .index-of .ensures) _ (c .before .before .before .before .graph-of .ensures))
+    (begun _ (c .before .before .before .before .before .before .before .before .pre) _
+    (c .before .before .before .before .before .before .index-of .ensures) _
+    (c .before .before .before .before .graph-of .ensures))
 
 read-requires : tie.Need-read-requires Inv-loop μ-loop
 read-requires c κs = search needs
@@ -36,41 +38,54 @@ next-requires : tie.Need-next-requires Inv-loop μ-loop
 next-requires c κs = search needs
 
 add-too-deep : tie.Need-add-too-deep Inv-loop μ-loop
-add-too-deep c = let p = step _ (c .before .before .before .loop .inv) (c .before .before .loop-test .taken) (c .before .read .ensures)
+add-too-deep c = let p = step _ (c .before .before .before .loop .inv) (c .before .before .loop-test .taken)
+    (c .before .read .ensures)
     (c .next .ensures) in omega (arith, p .far, p .within)
 
 sub-too-deep : tie.Need-sub-too-deep Inv-loop μ-loop
-sub-too-deep c = let p = step _ (c .before .before .before .loop .inv) (c .before .before .loop-test .taken) (c .before .read .ensures)
+sub-too-deep c = let p = step _ (c .before .before .before .loop .inv) (c .before .before .loop-test .taken)
+    (c .before .read .ensures)
     (c .next .ensures) in omega (arith, p .far, p .within)
 
 part-too-deep-start : tie.Need-part-too-deep-start Inv-loop μ-loop
-part-too-deep-start c = let p = step _ (c .before .before .before .loop .inv) (c .before .before .loop-test .taken) (c .before .read .ensures)
+part-too-deep-start c = let p = step _ (c .before .before .before .loop .inv) (c .before .before .loop-test .taken)
+    (c .before .read .ensures)
     (c .next .ensures) in omega (arith, p .far, p .within)
 
 part-too-deep-end : tie.Need-part-too-deep-end Inv-loop μ-loop
-part-too-deep-end c = let p = step _ (c .before .before .before .loop .inv) (c .before .before .loop-test .taken) (c .before .read .ensures)
+part-too-deep-end c = let p = step _ (c .before .before .before .loop .inv) (c .before .before .loop-test .taken)
+    (c .before .read .ensures)
     (c .next .ensures) in omega (arith, p .far, p .within)
 
 too-deep-requires : tie.Need-too-deep-requires Inv-loop μ-loop
 too-deep-requires c κs = let w = c .before .before .before .before .before .before .before .before .loop .inv in (
   w .graph,
   (
-    class-is _ w (c .before .before .before .before .before .before .before .loop-test .taken) (c .before .before .before .before .before .before .read .ensures) (c .before .before .before .before .before .next .ensures),
+    class-is _ w (c .before .before .before .before .before .before .before .loop-test .taken)
+    (c .before .before .before .before .before .before .read .ensures) (c .before .before .before .before .before .next .ensures),
     w .known,
   ),
 )
 
 returns : tie.Need-returns Inv-loop μ-loop
-returns c = ap refusalOf (sym (third-refused _ (c .before .before .before .before .before .before .before .before .before .before .loop .inv) (c .before .before .before .before .before .before .before .before .before .loop-test .taken)
-    (c .before .before .before .before .before .before .before .before .read .ensures) (c .before .before .before .before .before .before .before .next .ensures) (c .before .too-deep .ensures .1 .1) (c .if1 .taken)))
+returns c = ap refusalOf (sym (third-refused _
+    (c .before .before .before .before .before .before .before .before .before .before .loop .inv)
+    (c .before .before .before .before .before .before .before .before .before .loop-test .taken)
+    (c .before .before .before .before .before .before .before .before .read .ensures)
+    (c .before .before .before .before .before .before .before .next .ensures) (c .before .too-deep .ensures .1 .1)
+    (c .if1 .taken)))
 
 loop-less : tie.Need-loop-less Inv-loop μ-loop
-loop-less c = let p = step _ (c .before .before .before .before .before .before .before .before .before .before .loop .inv) (c .before .before .before .before .before .before .before .before .before .loop-test .taken) (c .before .before .before .before .before .before .before .before .read .ensures)
+loop-less c = let p = step _ (c .before .before .before .before .before .before .before .before .before .before .loop .inv)
+    (c .before .before .before .before .before .before .before .before .before .loop-test .taken)
+    (c .before .before .before .before .before .before .before .before .read .ensures)
     (c .before .before .before .before .before .before .before .next .ensures) in omega (arith, p .far, p .within)
 
 loop-again : tie.Need-loop-again Inv-loop μ-loop
 loop-again c = let d = c .before .too-deep .ensures in
-    turned _ (c .before .before .before .before .before .before .before .before .before .before .loop .inv) (c .before .before .before .before .before .before .before .before .before .loop-test .taken) (c .before .before .before .before .before .before .before .before .read .ensures)
+    turned _ (c .before .before .before .before .before .before .before .before .before .before .loop .inv)
+    (c .before .before .before .before .before .before .before .before .before .loop-test .taken)
+    (c .before .before .before .before .before .before .before .before .read .ensures)
     (c .before .before .before .before .before .before .before .next .ensures) (d .1 .1) (c .if1 .left) (d .0)
 
 returns-2 : tie.Need-returns-2 Inv-loop μ-loop
