@@ -4,7 +4,7 @@ use mathlib.Core.Path.{_≡_}
 use mathlib.Core.List.{List}
 use Rattle.semantics.specs.Model.{Model}
 use Rattle.semantics.specs.State.{State, Notice}
-use Rattle.semantics.specs.Step.{ofReturns}
+use Rattle.semantics.specs.Numbers.{ofReturns}
 use Rattle.promises.specs.Fit.{Fit, Nested}
 use Rattle.promises.specs.Sound.{gives, NoticeOk, Held}
 use Rattle.row_work.specs.Work.{workOf, FloorSized}
