@@ -18,3 +18,9 @@ same-moves-on r x x′ h k = h ∙ sym k
 
 pub same-read : (s : List ℕ) (at : ℕ) (x x′ : Record) → x ≡ recordAt s at → x′ ≡ recordAt s at → x ≡ x′
 same-read s at x x′ h k = h ∙ sym k
+
+pub same-first : (src : RefT (List ℕ)) (r r′ : ℕ) → r ≡ start src .at → r′ ≡ start src .at → r ≡ r′
+same-first src r r′ h k = h ∙ sym k
+
+pub same-next : (s : List ℕ) (at r r′ : ℕ) → r ≡ recordAt s at .next → r′ ≡ recordAt s at .next → r ≡ r′
+same-next s at r r′ h k = h ∙ sym k

@@ -1,5 +1,4 @@
 pub mod Asking
 pub mod Items
 pub mod Laid
-pub mod Same
 pub mod Choices

@@ -1,8 +1,7 @@
 -- One answer: the contracts of a run that is kept and lent admit one, and one run and journal left. Assumes nothing.
 use Prim.Native.Nat.{ℕ}
-use mathlib.Core.Path.{_≡_, sym, _∙_}
+use mathlib.Core.Path.{_≡_}
 use mathlib.Core.List.{List}
-use lib.ListN.{getD}
 use Rattle.semantics.specs.Decode.{decode}
 use Rattle.run_limit.specs.declared.Ran.{Ran}
 use Rattle.row_struct.specs.declared.State.{State}
@@ -37,9 +36,3 @@ pub same-moved-on : (s : List ℕ) (run : State) (limit : ℕ) (j : List ℕ) (r
     → TellsMoved (callRow s (asked limit j) (rowOf run)) r j k × Full run
     → TellsMoved (callRow s (asked limit j) (rowOf run)) r′ j k′ × Full run → (r ≡ r′) × (k ≡ k′)
 same-moved-on s run limit j r r′ k k′ t u = same-run-state s run limit j r r′ k k′ t u
-
-pub same-clock : (run : State) (r r′ : ℕ) → r ≡ run .clock → r′ ≡ run .clock → r ≡ r′
-same-clock run r r′ h k = h ∙ sym k
-
-pub same-free : (run : State) (resource r r′ : ℕ) → r ≡ getD (run .free) resource 0 → r′ ≡ getD (run .free) resource 0 → r ≡ r′
-same-free run resource r r′ h k = h ∙ sym k

@@ -2,9 +2,7 @@
 use Prim.Native.Nat.{ℕ}
 use mathlib.Core.Path.{_≡_, sym, _∙_, ap}
 use mathlib.Core.List.{List}
-use mathlib.Core.Bool.{Bool}
 use Rattle.file_check.specs.declared.Refusal.{Refusal}
-use Rattle.row_view.specs.View.{soundRow}
 use Rattle.run_limit.specs.declared.Ran.{Ran}
 use Rattle.run_limit.specs.Same.{same-parts}
 use Rattle.run_row.specs.Open.{openRow, TellsOpened}
@@ -20,9 +18,6 @@ same-open-row s w r r′ x x′ h k = (
       ∙ ap (refusedAs (r′ .number)) (h .place-is ∙ sym (k .place-is)),
   h .row-is ∙ sym (k .row-is),
 )
-
-pub same-sound-row : (s w : List ℕ) (r r′ : Bool) → r ≡ soundRow s w → r′ ≡ soundRow s w → r ≡ r′
-same-sound-row s w r r′ h k = h ∙ sym k
 
 -- Any call is told in one way only; so one on a row is.
 pub same-called : (d : Called) (r r′ : Ran) (x x′ j k k′ : List ℕ) → TellsCall d r x j k → TellsCall d r′ x′ j k′
