@@ -1,23 +1,36 @@
 // Reads a model from standard input, runs it for at most 1,000,000 steps and prints its plan.
 //
 // One byte more is read than a model may have, so that a file of over 65,535 bytes is refused like any other. The run is made in
-// turns of 62 steps: a step writes at most 66 lines and the journal has room for 4,096, so that 30 is never met. What a turn
-// wrote is printed in one piece, and the journal is empty again.
+// turns, each with an empty journal that has room for all that its steps may write, so that 30 is never met. What a turn wrote is
+// printed in one piece.
+use base_numbers::answer;
+use base_numbers::bound;
+use base_numbers::limit;
+use base_numbers::line;
+use base_numbers::row;
 use file_bound::Bounded;
 ghost use mathlib.Core.Path.{_≡_};
 ghost use Prim.Native.Nat.{min};
 ghost use lib.ListN.{length};
 ghost use Rattle.plan.specs.Given.{Accepted};
 
-// The number of the answer LIMIT.
-const LIMIT: u32 = 2;
+// The lines that the journal has room for, its bytes, and those of the lines as text.
+const LINES: usize = 4096;
+
+const JOURNAL: usize = LINES * line::BYTES;
+
+const TEXT: usize = LINES * line::TEXT;
+
+// The steps of a turn. Each writes at most 65 lines (`step-lines`), and a step that finds room for 66 writes straight into the
+// journal: 62 times 66 are within LINES.
+const TURN: u32 = 62;
 
 // The bound in one word, as `plan_text::ending` takes it.
 fn bound_word(bounded: Bounded) -> u64 {
     match bounded {
         Bounded::At(n) => n as u64,
-        Bounded::None => 4294967296,
-        _ => 8589934592,
+        Bounded::None => bound::NONE,
+        _ => bound::OVER,
     }
 }
 
@@ -29,7 +42,7 @@ fn print(text: &[u8]) {
 fn turn_steps(left: u32) -> u32
     ensures { λ r. ⌜ r ≡ min left 62 ⌝ }
 {
-    if left < 62 { left } else { 62 }
+    if left < TURN { left } else { TURN }
 }
 
 // Runs an accepted model, and prints its lines and its last line.
@@ -38,13 +51,13 @@ fn print_run(s: &[u8], bound: u64, out: &mut [u8])
     requires { ⌜ length (now out) ≡ 163840 ⌝ }
 {
     let map = file_map::map_of(s);
-    let mut w = [0u64; 10696];
-    let mut journal = [0u8; 65536];
+    let mut w = [0u64; row::WORDS];
+    let mut journal = [0u8; JOURNAL];
     run_fresh::fresh(s, &map.words, &mut w);
     let mut steps: u32 = 0;
-    let mut answer: u32 = LIMIT;
-    while (answer == LIMIT) & (steps < 1000000) {
-        let limit = turn_steps(1000000 - steps);
+    let mut answer: u32 = answer::LIMIT;
+    while (answer == answer::LIMIT) & (steps < limit::PLAN_STEPS) {
+        let limit = turn_steps(limit::PLAN_STEPS - steps);
         let turn = plan_turn::turn(s, &map.words, &mut w, limit, &mut journal, out);
         let bytes = turn.bytes;
         print(&out[..bytes]);
@@ -70,8 +83,8 @@ fn plan(s: &[u8], out: &mut [u8])
 }
 
 fn main() {
-    let mut model = [0u8; 65536];
-    let mut out = [0u8; 163840];
+    let mut model = [0u8; limit::FILE + 1];
+    let mut out = [0u8; TEXT];
     let size = io::read_full(libc::STDIN_FILENO, &mut model);
     plan(&model[..size], &mut out);
 }
