@@ -41,7 +41,7 @@ fn added(w: u64, v: u64) -> u64
 }
 
 // The weight of an ENTITY record's class; 0 of every other record. The memo has what is found already, and gets what is found
-// here.
+// here; `plain` is `from` without the STARTs.
 fn entity_weight<'a>(
     kind: u32,
     bs: &'a [u8],
@@ -51,6 +51,7 @@ fn entity_weight<'a>(
     goes: &'a [u16; 4096],
     own: &'a [u16; 1024],
     times: &'a [u16; 1024],
+    plain: &'a [u16; 1025],
     blocks: usize,
     memo: &mut [u64; 256],
 ) -> u64
@@ -69,7 +70,7 @@ fn entity_weight<'a>(
 {
     if kind == 7 {
         let b = body_of(body, file_fields::u16_at(bs, 0));
-        return file_weight::block_weight(first, from, goes, own, times, blocks, memo, b);
+        return file_weight::class_weight(first, from, goes, own, times, plain, blocks, memo, b);
     }
     0
 }
@@ -87,6 +88,8 @@ fn total(s: &[u8]) -> u64
     let goes = g.goes;
     let own = g.own;
     let times = g.times;
+    let p = file_index::graph_of(s, false, body);
+    let plain = p.from;
     let blocks = i.blocks;
     let mut memo = [0u64; 256];
     let mut w: u64 = 0;
@@ -103,6 +106,7 @@ fn total(s: &[u8]) -> u64
             &goes,
             &own,
             &times,
+            &plain,
             blocks,
             &mut memo,
         );

@@ -12,13 +12,13 @@ body-of-requires : tie.Need-body-of-requires
 body-of-requires c κs =
     omega (arith, c .u16-at .ensures .0, c .before .before .before .pre .1 .0 (c .before .if1 .taken) .class-in)
 
-block-weight-requires : tie.Need-block-weight-requires
-block-weight-requires c κs = let o = c .before .before .before .before .before in
+class-weight-requires : tie.Need-class-weight-requires
+class-weight-requires c κs = let o = c .before .before .before .before .before in
     let b = o .pre .1 .0 (c .before .before .before .if1 .taken) in
     (o .pre .0, (rw (c .before .body-of .ensures, c .before .before .u16-at .ensures .0) (b .block-in), o .pre .1 .1))
 
 returns : tie.Need-returns
-returns c = let v = c .block-weight .ensures in
+returns c = let v = c .class-weight .ensures in
     let e = c .before .before .body-of .ensures in
     let u = c .before .before .before .u16-at .ensures .0 in
     rw (eq-eqb _ _ (c .before .before .before .before .if1 .taken)) (v .0, (rw (e, u) at (v .1 .0), rw (e, u) at (v .1 .1)))
@@ -28,4 +28,4 @@ returns-2 c = rw (ne-eqb _ _ (c .if1 .left)) (c .before .before .pre .1 .1, (ref
 
 pub entity-weight-spec : {M : Type 1} → statement M
 entity-weight-spec =
-    tie.close (tie.spec u16-at-requires body-of-requires block-weight-requires returns returns-2)
+    tie.close (tie.spec u16-at-requires body-of-requires class-weight-requires returns returns-2)

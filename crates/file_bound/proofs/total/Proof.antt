@@ -10,10 +10,11 @@ use Rattle.file_bound.proofs.total.Statement.{statement}
 use Rattle.file_bound.proofs.total.Tie as tie
 
 abbrev Inv-loop : tie.InvT-loop
-Inv-loop s body first from goes own times blocks memo₀ w₀ at₀ memo w at = Going s body first from goes own times blocks memo w at
+Inv-loop s body first from goes own times plain blocks memo₀ w₀ at₀ memo w at = Going s body first from goes own times blocks
+    memo w at
 
 abbrev μ-loop : tie.MeasureT-loop
-μ-loop s body first from goes own times blocks memo₀ w₀ at₀ memo w at = length s - at
+μ-loop s body first from goes own times plain blocks memo₀ w₀ at₀ memo w at = length s - at
 
 index-of-requires : tie.Need-index-of-requires Inv-loop μ-loop
 index-of-requires c κs = readable _ (c .before .pre)
@@ -21,14 +22,17 @@ index-of-requires c κs = readable _ (c .before .pre)
 graph-of-requires : tie.Need-graph-of-requires Inv-loop μ-loop
 graph-of-requires c κs = readable _ (c .before .before .before .pre)
 
+graph-of-requires-2 : tie.Need-graph-of-requires-2 Inv-loop μ-loop
+graph-of-requires-2 c κs = readable _ (c .before .before .before .before .before .before .before .before .before .pre)
+
 first-requires : tie.Need-first-requires Inv-loop μ-loop
 first-requires c κs = search needs
 
 loop-holds : tie.Need-loop-holds Inv-loop μ-loop
-loop-holds c = let o = c .before .before .before .before .before .before .before .before .before .before in
+loop-holds c = let o = c .before .before .before .before .before .before .before .before .before .before .before .before in
     rw (c .first2 .ensures) (going-begun (o .args .s .now) (o .pre) (arrays (o .args .s .now) (o .pre)
-    (c .before .before .before .before .before .before .before .before .index-of .ensures)
-    (c .before .before .before .before .before .before .graph-of .ensures)))
+    (c .before .before .before .before .before .before .before .before .before .before .index-of .ensures)
+    (c .before .before .before .before .before .before .before .before .graph-of .ensures)))
 
 read-requires : tie.Need-read-requires Inv-loop μ-loop
 read-requires c κs = search needs
@@ -57,14 +61,14 @@ part-entity-weight-end c = let u = c in
     (u .next .ensures) in omega (arith, p .far, p .within)
 
 entity-weight-requires : tie.Need-entity-weight-requires Inv-loop μ-loop
-entity-weight-requires c κs = let u = c .before .before .before .before .before .before .before in
+entity-weight-requires c κs = let u = c .before .before .before .before .before .before .before .before in
     let t = u .before .before .before .loop .inv in (
       t .made-for .graph,
       (going-bodied t (u .before .before .loop-test .taken) (u .before .read .ensures) (u .next .ensures), t .known),
     )
 
 added-requires : tie.Need-added-requires Inv-loop μ-loop
-added-requires c κs = let u = c .before .before .before .before .before .before .before .before in
+added-requires c κs = let u = c .before .before .before .before .before .before .before .before .before in
     let t = u .before .before .before .loop .inv in (
       t .small,
       going-small t (u .before .before .loop-test .taken) (u .before .read .ensures) (u .next .ensures)
@@ -72,12 +76,12 @@ added-requires c κs = let u = c .before .before .before .before .before .before
     )
 
 loop-less : tie.Need-loop-less Inv-loop μ-loop
-loop-less c = let u = c .before .before .before .before .before .before .before .before .before in
+loop-less c = let u = c .before .before .before .before .before .before .before .before .before .before in
     let p = step (u .before .before .before .loop .inv) (u .before .before .loop-test .taken) (u .before .read .ensures)
     (u .next .ensures) in omega (arith, p .far, p .within)
 
 loop-again : tie.Need-loop-again Inv-loop μ-loop
-loop-again c = let u = c .before .before .before .before .before .before .before .before .before in
+loop-again c = let u = c .before .before .before .before .before .before .before .before .before .before in
     let v = c .before .entity-weight .ensures in
     rw (c .added .ensures)
     (going-on (u .before .before .before .loop .inv) (u .before .before .loop-test .taken)
@@ -94,6 +98,7 @@ total-spec =
     μ-loop
     index-of-requires
     graph-of-requires
+    graph-of-requires-2
     first-requires
     loop-holds
     read-requires
