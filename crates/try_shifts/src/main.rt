@@ -4,13 +4,23 @@
 // writes: so calls end by LIMIT and by 30. After each of them its lines are printed, the journal is empty again and the run goes
 // on. A call that makes no step is the last: if it answers 30, an empty journal has no room for the next step. The model of
 // `stdin` takes 50 calls: fault 30 is answered thirty times, LIMIT nineteen times, and then IDLE.
-use base_numbers::answer::LIMIT;
-use base_numbers::fault::JOURNAL;
+use base_numbers::answer;
+use base_numbers::bound;
+use base_numbers::fault;
+use base_numbers::limit;
+use base_numbers::line;
 use file_bound::Bounded;
 use row_struct::State;
 ghost use Prim.Native.Nat.{_*_, _/_, _≤_};
 ghost use mathlib.Core.Path.{_≡_};
 ghost use lib.ListN.{length};
+
+// The lines that the journal has room for, its bytes, and those of the lines as text.
+const LINES: usize = 2;
+
+const JOURNAL: usize = LINES * line::BYTES;
+
+const TEXT: usize = LINES * line::TEXT;
 
 // What a call told, how many bytes its lines have as text, and the run that it left.
 struct Shift {
@@ -24,8 +34,8 @@ struct Shift {
 fn bound_word(bounded: Bounded) -> u64 {
     match bounded {
         Bounded::At(n) => n as u64,
-        Bounded::None => 4294967296,
-        _ => 8589934592,
+        Bounded::None => bound::NONE,
+        _ => bound::OVER,
     }
 }
 
@@ -81,14 +91,14 @@ fn one_shift<'a>(
 fn print_run(s: &[u8], opened: State, bound: u64, out: &mut [u8])
     requires { ⌜ length (now out) ≡ 80 ⌝ }
 {
-    let mut journal = [0u8; 32];
+    let mut journal = [0u8; JOURNAL];
     let mut run = opened;
     let mut steps: u32 = 0;
-    let mut answer: u32 = LIMIT;
+    let mut answer: u32 = answer::LIMIT;
     let mut limit: u32 = 1;
     let mut going = true;
-    while going & (steps < 1000000) {
-        let most = lesser(limit, 1000000 - steps);
+    while going & (steps < limit::PLAN_STEPS) {
+        let most = lesser(limit, limit::PLAN_STEPS - steps);
         let shift = one_shift(s, run, most, &mut journal, out);
         let bytes = shift.bytes;
         print(&out[..bytes]);
@@ -96,7 +106,7 @@ fn print_run(s: &[u8], opened: State, bound: u64, out: &mut [u8])
         steps += shift.steps;
         answer = shift.answer;
         limit = next_limit(limit);
-        going = (0 < shift.steps) & ((answer == LIMIT) | (answer == JOURNAL));
+        going = (0 < shift.steps) & ((answer == answer::LIMIT) | (answer == fault::JOURNAL));
     }
     let bytes = plan_text::ending(answer, steps, bound, out);
     print(&out[..bytes]);
@@ -118,8 +128,8 @@ fn plan(s: &[u8], out: &mut [u8])
 }
 
 fn main() {
-    let mut model = [0u8; 65536];
-    let mut out = [0u8; 80];
+    let mut model = [0u8; limit::FILE + 1];
+    let mut out = [0u8; TEXT];
     let size = io::read_full(libc::STDIN_FILENO, &mut model);
     plan(&model[..size], &mut out);
 }
