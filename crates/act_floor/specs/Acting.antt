@@ -1,7 +1,7 @@
 -- An open run in the engine's hands, and what a step makes of the work and the journal. Assumes nothing.
 use Prim.Native.Nat.{ℕ, _+_, _*_, _≤_}
-use mathlib.Core.Path.{_≡_}
-use mathlib.Core.List.{List}
+use mathlib.Core.Path.{_≡_, refl}
+use mathlib.Core.List.{List, []}
 use mathlib.Core.Option.{some}
 use lib.ListN.{length}
 use Rattle.semantics.specs.Words.{Outcome, ok, fails}
@@ -49,3 +49,16 @@ abbrev pub Stepped : Outcome Next → (fault lines : ℕ) (w w′ : List ℕ) (a
 Stepped (ok n) fault lines w w′ at out out′ =
     (fault ≡ 0) × ((lines ≡ length (n .lines)) × ((w′ ≡ workOf (n .state)) × (out′ ≡ wroteAt at (n .lines) out)))
 Stepped (fails k) fault lines w w′ at out out′ = (fault ≡ k) × ((lines ≡ 0) × ((w′ ≡ w) × (out′ ≡ out)))
+
+-- `Stepped`, of a step that writes no line: its journal isn't lent.
+abbrev pub SteppedQuietly : Outcome Next → (fault lines : ℕ) (w w′ : List ℕ) → Type 0
+SteppedQuietly (ok n) fault lines w w′ = (fault ≡ 0) × ((lines ≡ 0) × ((w′ ≡ workOf (n .state)) × (n .lines ≡ [])))
+SteppedQuietly (fails k) fault lines w w′ = (fault ≡ k) × ((lines ≡ 0) × (w′ ≡ w))
+
+-- Whatever the journal, it stays as it is.
+pub quietly : (o : Outcome Next) (fault lines : ℕ) (w w′ : List ℕ) (at : ℕ) (out : List ℕ)
+    → SteppedQuietly o fault lines w w′ → Stepped o fault lines w w′ at out out
+unfolding wroteAt
+quietly (ok n) fault lines w w′ at out h =
+    (h .0, (rw (h .1 .1 .1) (h .1 .0), (h .1 .1 .0, rw (h .1 .1 .1) refl)))
+quietly (fails k) fault lines w w′ at out h = (h .0, (h .1 .0, (h .1 .1, refl)))

@@ -1,7 +1,7 @@
 -- The process on the floor at its action x, and past it. Assumes nothing.
 use Prim.Native.Nat.{ℕ, _+_, _≤_, _<_}
 use native.Mathlib.Omega.{arith}
-use mathlib.Core.Path.{_≡_, refl}
+use mathlib.Core.Path.{_≡_, refl, sym, _∙_, ap}
 use mathlib.Core.List.{List}
 use lib.ListN.{getD}
 use Rattle.semantics.specs.Model.{Action, Model}
@@ -14,6 +14,8 @@ use Rattle.promises.specs.Parts.{fit-at}
 use Rattle.promises.specs.Takes.{goes-past}
 use Rattle.row_work.specs.Work.{workOf, FloorSized, Sized, Doing}
 use Rattle.row_process.specs.Process.{Shown, Lives, changed}
+use Rattle.row_process.specs.Put.{put-there, changed-twice}
+use Rattle.row_process.specs.Alive.{hand-lives}
 use Rattle.act_floor.specs.Running.{On}
 use Rattle.act_floor.specs.Floor as Floor
 
@@ -83,3 +85,32 @@ module _ {w : List ℕ} {p : ℕ} {x : Action} (v : On w p x) where
 
   abbrev pub passing : Doing w (Lives p) (changed p past)
   passing = passing-as (v .running .shows)
+
+  -- PAST THE ACTION, changed in another part than its slaves, with y of each resource in hand.
+  pub passes-so : {y : ℕ → ℕ} (r : Process) → Fine m (s .last) r → r .frames ≡ q .frames → r .number ≡ q .number
+      → r .slaves ≡ q .slaves → ((j : ℕ) → getD (r .held) j 0 + y j ≡ getD (q .held) j 0)
+      → Held m (put p (past r) s) (s .blocked) hand y
+  passes-so r f e n o ys = passes-as r f e n (λ k. ap (λ l. slaved k l + hand k) o) ys
+
+  -- Whoever is past it still lives there.
+  pub alive-after : Lives p after-it
+  alive-after = hand-lives {s = after-it} passes p in-hand
+
+  pub there-after : process after-it p ≡ past q
+  there-after = put-there s p (past q) (v .running .sound .places-64) low
+
+  -- Another change of it behind that, which could have come first.
+  module _ (f : Process → Process) (same : past (f q) ≡ f (past q)) where
+    pub then-is : changed p f after-it ≡ put p (past (f q)) s
+    then-is = changed-twice s p past f (v .running .sound .places-64) low ∙ ap (λ r. put p r s) (sym same)
+
+    abbrev pub then-doing : {y : ℕ → ℕ} → Held m (put p (past (f q)) s) (s .blocked) hand y → {w₁ : List ℕ}
+        → w₁ ≡ workOf after-it → {P : State → Type 0} → P after-it → Doing w₁ P (changed p f)
+    then-doing h e g =
+        record {
+          is = after-it;
+          shows = e;
+          before = after-sized;
+          after = rw then-is (still-sized (put p (past (f q)) s) h (is-sized .floor-ok));
+          given = g;
+        }

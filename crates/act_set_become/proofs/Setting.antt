@@ -22,8 +22,8 @@ use Rattle.row_process.specs.Process.{Lives, changed}
 use Rattle.act_floor.specs.Acting.{Stepped}
 use Rattle.act_floor.specs.Running.{On, on}
 use Rattle.act_floor.specs.Onward.{m, s, q, hand, is-sized, lives, action-fits, after-it, passes, after-sized, passing}
-use Rattle.act_alone.specs.Alone.{Valued}
-use Rattle.act_alone.proofs.Values.{tells}
+use Rattle.act_hold_prio_lset_trace.specs.Given.{Valued}
+use Rattle.act_hold_prio_lset_trace.proofs.Values.{tells}
 use Rattle.act_walk.specs.Walking.{Walking, Walked}
 use Rattle.act_set_become.specs.Setting.{Setting}
 

@@ -63,7 +63,7 @@ pub fn set_global<'a>(
         (process (v .acting .running .is) p) i (v .expression)) (r .fault) (r .lines)
         (now (w .entry)) (now (w .exit)) at (now (out .entry)) (now (out .exit))) ⌝ }
 {
-    let value = act_alone::value_in(body, w, p);
+    let value = act_hold_prio_lset_trace::value_in(body, w, p);
     if !value.ok {
         return Went {
             fault: 21,

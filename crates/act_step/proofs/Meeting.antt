@@ -16,9 +16,9 @@ use Rattle.semantics.specs.Step.{act}
 use Rattle.file_index.specs.Ties.{bodyAt}
 use Rattle.file_actions.specs.Kinds.{OfKind, kind-of, of-kind}
 use Rattle.file_actions.specs.Bodies.{ReadsExpression, Says, told}
-use Rattle.act_floor.specs.Acting.{Acting, Stepped}
+use Rattle.act_floor.specs.Acting.{Acting, Stepped, SteppedQuietly, quietly}
 use Rattle.act_floor.specs.Running.{on}
-use Rattle.act_alone.specs.Alone.{Told, SteppedQuietly, quietly}
+use Rattle.act_hold_prio_lset_trace.specs.Given.{Given}
 use Rattle.act_set_become.specs.Setting.{Setting}
 use Rattle.act_req_try_while.specs.Asks.{Asked, passes, enters, Requesting, Looping}
 use Rattle.act_puts_start.specs.Hands.{Starting}
@@ -76,16 +76,16 @@ module _ {body bs map w : List ℕ} {p k : ℕ} (v : Meets body bs map w p k) wh
       done-quietly h = done out (quietly o f l w w′ at out h)
 
   -- WITH AN EXPRESSION. HOLD, PRIO, TRACE;
-  abbrev told-of : (x : Expr → Action) (e : Expr) → v .action ≡ x e → ReadsExpression body e → Told body w p x
+  abbrev told-of : (x : Expr → Action) (e : Expr) → v .action ≡ x e → ReadsExpression body e → Given body w p x
   told-of x e is r = record { expression = e; reads = r; on = on (stands-at (x e) is) }
 
-  abbrev pub hold-told : k ≡ 16 → Told body w p HOLD
+  abbrev pub hold-told : k ≡ 16 → Given body w p HOLD
   hold-told e = let h = known 16 e in told-of HOLD (h .0) (h .1) (said (HOLD (h .0)) (h .1))
 
-  abbrev pub prio-told : k ≡ 17 → Told body w p PRIO
+  abbrev pub prio-told : k ≡ 17 → Given body w p PRIO
   prio-told e = let h = known 17 e in told-of PRIO (h .0) (h .1) (said (PRIO (h .0)) (h .1))
 
-  abbrev pub trace-told : k ≡ 29 → Told body w p TRACE
+  abbrev pub trace-told : k ≡ 29 → Given body w p TRACE
   trace-told e = let h = known 29 e in told-of TRACE (h .0) (h .1) (said (TRACE (h .0)) (h .1))
 
   -- SET and LSET of variable or local i, the number with which the body begins.
@@ -108,7 +108,7 @@ module _ {body bs map w : List ℕ} {p k : ℕ} (v : Meets body bs map w p k) wh
           let h = is-set e in
           record { expression = h .0; reads = rw rest-is (h .2); acting = stands-at (SET i (h .0)) (h .1) }
 
-      abbrev pub lset-told : k ≡ 19 → Told rest w p (LSET i)
+      abbrev pub lset-told : k ≡ 19 → Given rest w p (LSET i)
       lset-told e =
           let h = is-lset e in
           record { expression = h .0; reads = rw rest-is (h .2); on = on (stands-at (LSET i (h .0)) (h .1)) }

@@ -34,17 +34,17 @@ fn act_on_value<'a>(
         (now (w .entry)) (now (w .exit)) at (now (out .entry)) (now (out .exit))) ⌝ }
 {
     if kind == 16 {
-        return act_alone::hold(body, w, p);
+        return act_hold_prio_lset_trace::hold(body, w, p);
     }
     if kind == 17 {
-        return act_alone::prio(body, w, p);
+        return act_hold_prio_lset_trace::prio(body, w, p);
     }
     let i = file_fields::u16_at(body, 0) as usize;
     let rest = &body[2..];
     if kind == 18 {
         return act_set_become::set_global(rest, i, s, map, w, out, at, p);
     }
-    act_alone::set_local(rest, i, w, p)
+    act_hold_prio_lset_trace::set_local(rest, i, w, p)
 }
 
 // DO, PUTR, PUTB, PUTS, BECOME.
@@ -70,7 +70,7 @@ fn act_on_number<'a>(
     }
     if kind == 20 {
         let block = file_fields::u16_at(body, 2);
-        return act_alone::do_times(wide(first), wide(block), w, p);
+        return act_do_close::do_times(wide(first), wide(block), w, p);
     }
     if kind == 23 {
         let many = file_fields::u16_at(body, 2);
@@ -78,9 +78,9 @@ fn act_on_number<'a>(
     }
     let amount = wide(file_fields::u32_at(body, 2));
     if kind == 21 {
-        return act_alone::putr(first as usize, amount, w, p);
+        return act_putr_putb::putr(first as usize, amount, w, p);
     }
-    act_alone::putb(first as usize, amount, w, p)
+    act_putr_putb::putb(first as usize, amount, w, p)
 }
 
 // REQ, TRY, WHILE, START, TRACE, CLOSE.
@@ -114,9 +114,9 @@ fn act_on_claim<'a>(
         return act_puts_start::start(body, map, w, out, at, p);
     }
     if kind == 29 {
-        return act_alone::trace(body, w, out, at, p);
+        return act_hold_prio_lset_trace::trace(body, w, out, at, p);
     }
-    act_alone::close(w, out, at, p)
+    act_do_close::close(w, out, at, p)
 }
 
 fn act<'a>(
