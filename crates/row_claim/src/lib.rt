@@ -8,6 +8,12 @@ ghost use Rattle.base_i32.specs.Code.{valueOf};
 ghost use Rattle.row_claim.specs.Asking.{Meeting, Asking};
 ghost use Rattle.row_claim.specs.Choices.{choiceIn};
 ghost use Rattle.row_claim.specs.Items.{rowOf, MeetingItem};
+use base_numbers::item;
+use base_numbers::map;
+use base_numbers::row;
+
+// The branches before the action behind one stand so far into the map.
+const FROM_NEXT: usize = map::FROM + 1;
 
 // Which branch of an action is taken: none, or that of this number, from 0.
 pub enum Choice {
@@ -42,10 +48,10 @@ fn row_of(kind: u32) -> usize
     ensures { λ r. ⌜ (r ≡ rowOf kind) × (r ≤ 104) ⌝ }
 {
     match kind {
-        0 => 8,
-        1 => 40,
-        2 => 104,
-        _ => 72,
+        item::GET_R => row::FREE,
+        item::GET_B => row::BINS,
+        item::GET_S => row::WAITS,
+        _ => row::GLOBALS,
     }
 }
 
@@ -68,7 +74,7 @@ fn item_met<'a>(i: &'a [u8], w: &'a [u64]) -> bool
     let number = file_fields::u16_at(i, 2);
     let amount = file_fields::u32_at(i, 4);
     let has = there(w, kind, number);
-    if kind <= 2 {
+    if kind <= item::GET_S {
         return wide(amount) <= has;
     }
     let bound = wide(base_i32::from_twos(amount));
@@ -85,10 +91,10 @@ fn met<'a>(s: &'a [u8], at: usize, w: &'a [u64]) -> bool
     let mut left = file_fields::u16_at(s, at);
     let mut rest = &s[at + 2..];
     while 0 < left {
-        if !item_met(&rest[..8], w) {
+        if !item_met(&rest[..item::BYTES], w) {
             return false;
         }
-        rest = &rest[8..];
+        rest = &rest[item::BYTES..];
         left = left - 1;
     }
     true
@@ -102,11 +108,11 @@ pub fn first_met<'a>(s: &'a [u8], map: &'a [u32], w: &'a [u64], a: usize) -> Cho
     ensures { λ r. ⌜ ((v : Asking (now (s .entry)) (now (map .entry)) (now (w .entry)) a)
         → r ≡ choiceIn (firstMet (v .is) 0 (v .asks))) ⌝ }
 {
-    let from = file_map::number_at(map, 1345 + a);
-    let many = file_map::number_at(map, 1346 + a) - from;
+    let from = file_map::number_at(map, map::FROM + a);
+    let many = file_map::number_at(map, FROM_NEXT + a) - from;
     let mut k = 0;
     while k < many {
-        let at = file_map::number_at(map, 2370 + (from + k));
+        let at = file_map::number_at(map, map::CLAIM + (from + k));
         if met(s, at, w) {
             return Choice::Goes(k);
         }
