@@ -13,6 +13,9 @@ ghost use Rattle.row_claim.specs.Choices.{choiceIn};
 ghost use Rattle.row_grant.specs.Grant.{Takes, InBin, Taking, Granting, Facing, Faced};
 ghost use Rattle.row_grant.specs.Wants.{wantedBy};
 ghost use Rattle.row_grant.specs.Standing.{placeAt};
+use base_numbers::item;
+use base_numbers::map;
+use base_numbers::row;
 use row_claim::Choice;
 
 fn wide(x: u32) -> u64
@@ -34,8 +37,8 @@ fn take_resource(w: &mut [u64], p: usize, i: usize, n: u64)
     requires { ⌜ Doing (now w) (Takes p (get resource i n)) (takeItem p (get resource i n)) ⌝ }
     ensures { λ _. ⌜ Done (now (w .entry)) (Takes p (get resource i n)) (takeItem p (get resource i n)) (now (w .exit)) ⌝ }
 {
-    let free = w[8 + i];
-    w[8 + i] = free - n;
+    let free = w[row::FREE + i];
+    w[row::FREE + i] = free - n;
     row_process::take_up(w, p, i, n);
 }
 
@@ -44,8 +47,8 @@ fn take_bin(w: &mut [u64], i: usize, n: u64)
     requires { ⌜ Doing (now w) (InBin i n) (λ s. with-bins s (fewer (s .bins) i n)) ⌝ }
     ensures { λ _. ⌜ Done (now (w .entry)) (InBin i n) (λ s. with-bins s (fewer (s .bins) i n)) (now (w .exit)) ⌝ }
 {
-    let there = w[40 + i];
-    w[40 + i] = there - n;
+    let there = w[row::BINS + i];
+    w[row::BINS + i] = there - n;
 }
 
 // An item as its bytes say it: what kind of thing it names, the thing's number, and how much of it.
@@ -75,9 +78,9 @@ fn take_item<'a>(i: &'a [u8], w: &'a mut [u64], p: usize)
     let x = read_item(i);
     let kind = x.kind;
     match kind {
-        0 => take_resource(w, p, x.number, x.amount),
-        1 => take_bin(w, x.number, x.amount),
-        2 => row_slaves::claim_slaves(w, p, x.number, x.amount as usize),
+        item::GET_R => take_resource(w, p, x.number, x.amount),
+        item::GET_B => take_bin(w, x.number, x.amount),
+        item::GET_S => row_slaves::claim_slaves(w, p, x.number, x.amount as usize),
         _ => {}
     }
 }
@@ -91,8 +94,8 @@ fn take_all<'a>(s: &'a [u8], at: usize, w: &'a mut [u64], p: usize)
     let mut left = file_fields::u16_at(s, at);
     let mut rest = &s[at + 2..];
     while 0 < left {
-        take_item(&rest[..8], w, p);
-        rest = &rest[8..];
+        take_item(&rest[..item::BYTES], w, p);
+        rest = &rest[item::BYTES..];
         left = left - 1;
     }
 }
@@ -105,7 +108,7 @@ pub fn grant<'a>(s: &'a [u8], map: &'a [u32], w: &'a mut [u64], p: usize, n: usi
     ensures { λ _. ⌜ ((v : Granting (now (s .entry)) (now (map .entry)) (now (w .entry)) p n enters)
         → now (w .exit) ≡ workOf (grant p (v .offer) (v .is))) ⌝ }
 {
-    let at = file_map::number_at(map, 2370 + n);
+    let at = file_map::number_at(map, map::CLAIM + n);
     take_all(s, at, w, p);
     if enters {
         let block = wide(file_fields::u16_at(s, at - 2));
