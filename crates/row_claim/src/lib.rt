@@ -9,22 +9,12 @@ ghost use Rattle.row_claim.specs.Asking.{Meeting, Asking};
 ghost use Rattle.row_claim.specs.Choices.{choiceIn};
 ghost use Rattle.row_claim.specs.Items.{rowOf, MeetingItem};
 use base_numbers::item;
-use base_numbers::map;
 use base_numbers::row;
-
-// The branches before the action behind one stand so far into the map.
-const FROM_NEXT: usize = map::FROM + 1;
 
 // Which branch of an action is taken: none, or that of this number, from 0.
 pub enum Choice {
     Waits,
     Goes(usize),
-}
-
-fn wide(x: u32) -> u64
-    ensures { λ r. ⌜ r ≡ x ⌝ }
-{
-    x as u64
 }
 
 // ---- one item
@@ -75,9 +65,9 @@ fn item_met<'a>(i: &'a [u8], w: &'a [u64]) -> bool
     let amount = file_fields::u32_at(i, 4);
     let has = there(w, kind, number);
     if kind <= item::GET_S {
-        return wide(amount) <= has;
+        return base_wide::wide(amount) <= has;
     }
-    let bound = wide(base_i32::from_twos(amount));
+    let bound = base_wide::wide(base_i32::from_twos(amount));
     holds(relation, has, bound)
 }
 
@@ -108,11 +98,11 @@ pub fn first_met<'a>(s: &'a [u8], map: &'a [u32], w: &'a [u64], a: usize) -> Cho
     ensures { λ r. ⌜ ((v : Asking (now (s .entry)) (now (map .entry)) (now (w .entry)) a)
         → r ≡ choiceIn (firstMet (v .is) 0 (v .asks))) ⌝ }
 {
-    let from = file_map::number_at(map, map::FROM + a);
-    let many = file_map::number_at(map, FROM_NEXT + a) - from;
+    let from = file_map::branches_from(map, a);
+    let many = file_map::branches_from(map, a + 1) - from;
     let mut k = 0;
     while k < many {
-        let at = file_map::number_at(map, map::CLAIM + (from + k));
+        let at = file_map::claim_at(map, from + k);
         if met(s, at, w) {
             return Choice::Goes(k);
         }
