@@ -18,18 +18,6 @@ use base_numbers::map;
 use base_numbers::row;
 use row_claim::Choice;
 
-fn wide(x: u32) -> u64
-    ensures { λ r. ⌜ r ≡ x ⌝ }
-{
-    x as u64
-}
-
-fn index(x: u32) -> usize
-    ensures { λ r. ⌜ r ≡ x ⌝ }
-{
-    x as usize
-}
-
 // ---- a claim is taken
 
 // n of resource i.
@@ -64,8 +52,8 @@ fn read_item(i: &[u8]) -> Wanted
 {
     Wanted {
         kind: file_fields::u8_at(i, 0),
-        number: index(file_fields::u16_at(i, 2)),
-        amount: wide(file_fields::u32_at(i, 4)),
+        number: base_wide::index(file_fields::u16_at(i, 2)),
+        amount: base_wide::wide(file_fields::u32_at(i, 4)),
     }
 }
 
@@ -111,7 +99,7 @@ pub fn grant<'a>(s: &'a [u8], map: &'a [u32], w: &'a mut [u64], p: usize, n: usi
     let at = file_map::number_at(map, map::CLAIM + n);
     take_all(s, at, w, p);
     if enters {
-        let block = wide(file_fields::u16_at(s, at - 2));
+        let block = base_wide::wide(file_fields::u16_at(s, at - 2));
         row_process::into(w, p, 1, block);
         return;
     }
