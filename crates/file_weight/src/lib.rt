@@ -12,12 +12,6 @@ use base_numbers::limit;
 // The least weight that is OVER.
 pub const OVER: u64 = 4294967296;
 
-fn wide(x: u16) -> usize
-    ensures { λ r. ⌜ r ≡ x ⌝ }
-{
-    x as usize
-}
-
 fn long(x: u16) -> u64
     ensures { λ r. ⌜ (r ≡ x) × (r ≤ 65535) ⌝ }
 {
@@ -41,7 +35,7 @@ fn starts(plain: &[u16; limit::ACTIONS + 1], a: usize) -> bool
     requires { ⌜ a < 1024 ⌝ }
     ensures { λ r. ⌜ r ≡ eqb (getD (now (plain .entry)) a 0) (getD (now (plain .entry)) (a + 1) 0) ⌝ }
 {
-    wide(plain[a]) == wide(plain[a + 1])
+    base_wide::short_index(plain[a]) == base_wide::short_index(plain[a + 1])
 }
 
 // The weight of block b. The memo has what is found already, and gets what is found here.
@@ -74,8 +68,8 @@ fn block_weight<'a>(
         return known - 1;
     }
     let mut w = 0;
-    let mut a = wide(first[b]);
-    let end = wide(first[b + 1]);
+    let mut a = base_wide::short_index(first[b]);
+    let end = base_wide::short_index(first[b + 1]);
     while a < end {
         let v = action_weight(first, from, goes, own, times, plain, blocks, memo, b, a);
         w = capped(w + v);
@@ -113,10 +107,10 @@ fn action_weight<'a>(
 {
     let start = starts(plain, a);
     let mut top = 0;
-    let mut k = wide(from[a]);
-    let end = wide(from[a + 1]);
+    let mut k = base_wide::short_index(from[a]);
+    let end = base_wide::short_index(from[a + 1]);
     while k < end {
-        let x = wide(goes[k]);
+        let x = base_wide::short_index(goes[k]);
         let v = goes_weight(start, first, from, goes, own, times, plain, blocks, memo, x);
         top = larger(top, v);
         k = k + 1;
