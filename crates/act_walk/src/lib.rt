@@ -13,7 +13,6 @@ ghost use Rattle.act_walk.specs.Walking.{Walking, Walked, Visiting, choo
 use base_numbers::code;
 use base_numbers::kind;
 use base_numbers::line;
-use base_numbers::map;
 use base_numbers::row;
 use row_claim::Choice;
 
@@ -32,7 +31,7 @@ fn enters_at<'a>(s: &'a [u8], map: &'a [u32], a: usize) -> bool
     requires { ⌜ AtAction (now s) (now map) a ⌝ }
     ensures { λ r. ⌜ ((v : AtAction (now (s .entry)) (now (map .entry)) a) → r ≡ enteredBy (v .action)) ⌝ }
 {
-    let place = file_map::number_at(map, map::PLACE + a);
+    let place = file_map::place_of(map, a);
     file_fields::u16_at(s, place + 2) != kind::REQ
 }
 
