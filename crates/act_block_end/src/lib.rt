@@ -8,9 +8,11 @@ ghost use Rattle.act_floor.specs.Acting.{Roomy, Stepped};
 ghost use Rattle.act_floor.specs.Running.{made, runs};
 ghost use Rattle.act_block_end.specs.Leaving.{Exhausted, Ends, Leaves, Back};
 use act_floor::Went;
-
-// The code of 0.
-const ZERO: u32 = 2147483648;
+use base_numbers::code;
+use base_numbers::fault;
+use base_numbers::kind;
+use base_numbers::line;
+use base_numbers::map;
 
 // The class body is left.
 fn ends<'a>(w: &'a mut [u64], out: &'a mut [u8], at: usize, p: usize) -> Went
@@ -21,11 +23,11 @@ fn ends<'a>(w: &'a mut [u64], out: &'a mut [u8], at: usize, p: usize) -> Went
 {
     if !row_process::holds_nothing(w, p) {
         return Went {
-            fault: 26,
+            fault: fault::OWING,
             lines: 0,
         };
     }
-    act_floor::note(w, p, out, at, 2, ZERO);
+    act_floor::note(w, p, out, at, line::ENDED, code::ZERO);
     row_begin_end::end(w, p);
     act_floor::leave_floor(w);
     Went { fault: 0, lines: 1 }
@@ -38,8 +40,8 @@ fn at_while<'a>(s: &'a [u8], map: &'a [u32], w: &'a [u64], p: usize) -> bool
 {
     let first = file_map::number_at(map, row_process::block_at(w, p));
     let action = first + row_process::standing_at(w, p);
-    let place = file_map::number_at(map, 257 + action);
-    file_fields::u16_at(s, place + 2) == 27
+    let place = file_map::number_at(map, map::PLACE + action);
+    file_fields::u16_at(s, place + 2) == kind::WHILE
 }
 
 // The innermost block is left, back to the action that named it; then past that, unless it is met again.

@@ -10,6 +10,7 @@ ghost use Rattle.base_journal.specs.Wrote.{wroteAt};
 ghost use Rattle.row_work.specs.Work.{Doing, Done};
 ghost use Rattle.row_process.specs.Process.{Shown};
 ghost use Rattle.row_lists.specs.Lists.{Any};
+use base_numbers::row;
 
 // 0 or its fault, and how many lines it wrote.
 pub struct Went {
@@ -21,7 +22,7 @@ pub fn clock_of(w: &[u64]) -> u64
     requires { ⌜ Shown (now w) Any ⌝ }
     ensures { λ r. ⌜ ((v : Shown (now (w .entry)) Any) → r ≡ v .is .clock) × (r ≤ 2000000000) ⌝ }
 {
-    w[0]
+    w[row::CLOCK]
 }
 
 // Nobody has the floor.
@@ -29,7 +30,7 @@ pub fn leave_floor(w: &mut [u64])
     requires { ⌜ Doing (now w) Any (λ s. with-floor s empty) ⌝ }
     ensures { λ _. ⌜ Done (now (w .entry)) Any (λ s. with-floor s empty) (now (w .exit)) ⌝ }
 {
-    w[3] = 0;
+    w[row::FLOOR] = 0;
 }
 
 // A line of the process in place p.

@@ -23,15 +23,16 @@ ghost use Rattle.act_puts_start.specs.Freeing.{Freeing};
 ghost use Rattle.act_puts_start.specs.Shares.{has, Offering, Moves, moves, Moving};
 ghost use Rattle.act_puts_start.specs.Hands.{Starting};
 use act_floor::Went;
+use base_numbers::code;
+use base_numbers::fault;
+use base_numbers::limit;
+use base_numbers::line;
+use base_numbers::map;
+use base_numbers::part;
+use base_numbers::row;
 
-// The code of 0.
-const ZERO: u32 = 2147483648;
-
-fn wide(x: u32) -> u64
-    ensures { λ r. ⌜ (r ≡ x) × (r < 4294967296) ⌝ }
-{
-    x as u64
-}
+// Living processes at most, as they are counted.
+const PLACES: u32 = limit::PLACES as u32;
 
 // ---- what is read
 
@@ -40,7 +41,7 @@ fn last_of(w: &[u64]) -> u64
     requires { ⌜ Shown (now w) Any ⌝ }
     ensures { λ r. ⌜ ((v : Shown (now (w .entry)) Any) → r ≡ v .is .last) × (r ≤ 2147483647) ⌝ }
 {
-    w[2]
+    w[row::LAST]
 }
 
 // ---- shares
@@ -52,7 +53,7 @@ fn has_share<'a>(i: &'a [u8], w: &'a [u64], p: usize) -> bool
         → r ≡ has (process (v .is) p) (shareOf (now (i .entry)))) ⌝ }
 {
     let of = file_fields::u16_at(i, 0) as usize;
-    let amount = wide(file_fields::u32_at(i, 2));
+    let amount = base_wide::wide(file_fields::u32_at(i, 2));
     amount <= row_process::held_of(w, p, of)
 }
 
@@ -65,10 +66,10 @@ fn has_shares<'a>(body: &'a [u8], w: &'a [u64], p: usize) -> bool
     let mut left = file_fields::u16_at(body, 6);
     let mut rest = &body[8..];
     while 0 < left {
-        if !has_share(&rest[..6], w, p) {
+        if !has_share(&rest[..part::SHARE_BYTES], w, p) {
             return false;
         }
-        rest = &rest[6..];
+        rest = &rest[part::SHARE_BYTES..];
         left = left - 1;
     }
     true
@@ -81,7 +82,7 @@ fn move_share<'a>(i: &'a [u8], w: &'a mut [u64], p: usize, away: bool)
         (now (w .exit)) ⌝ }
 {
     let of = file_fields::u16_at(i, 0) as usize;
-    let amount = wide(file_fields::u32_at(i, 2));
+    let amount = base_wide::wide(file_fields::u32_at(i, 2));
     if away {
         row_process::give_back(w, p, of, amount);
         return;
@@ -97,8 +98,8 @@ fn move_shares<'a>(body: &'a [u8], w: &'a mut [u64], p: usize, away: bool)
     let mut left = file_fields::u16_at(body, 6);
     let mut rest = &body[8..];
     while 0 < left {
-        move_share(&rest[..6], w, p, away);
-        rest = &rest[6..];
+        move_share(&rest[..part::SHARE_BYTES], w, p, away);
+        rest = &rest[part::SHARE_BYTES..];
         left = left - 1;
     }
 }
@@ -110,7 +111,7 @@ fn time_of<'a>(body: &'a [u8], w: &'a [u64]) -> u64
     requires { ⌜ Shown (now w) Any × (6 ≤ length (now body)) ⌝ }
     ensures { λ r. ⌜ ((v : Shown (now (w .entry)) Any) → r ≡ v .is .clock + u32 (now (body .entry)) 2) ⌝ }
 {
-    act_floor::clock_of(w) + wide(file_fields::u32_at(body, 2))
+    act_floor::clock_of(w) + base_wide::wide(file_fields::u32_at(body, 2))
 }
 
 // Whether one more can begin: there is a place and a number for it.
@@ -118,7 +119,7 @@ fn can_begin(w: &[u64]) -> bool
     requires { ⌜ Shown (now w) Any ⌝ }
     ensures { λ r. ⌜ ((v : Shown (now (w .entry)) Any) → r ≡ (ltb (living (v .is)) 64 && ltb (v .is .last) 2147483647)) ⌝ }
 {
-    (base_places::living_count(w[4]) < 64) & (last_of(w) < 2147483647)
+    (base_places::living_count(w[row::LIVING]) < PLACES) & (last_of(w) < limit::LAST_NUMBER)
 }
 
 // The line of the one that begins next.
@@ -129,7 +130,7 @@ fn note_start<'a>(w: &'a [u64], out: &'a mut [u8], at: usize, class: u32)
 {
     let clock = act_floor::clock_of(w) as u32;
     let number = last_of(w) as u32 + 1;
-    base_journal::write_line(out, at, 1, clock, number, ZERO + class);
+    base_journal::write_line(out, at, line::STARTED, clock, number, code::ZERO + class);
 }
 
 // The body block of a class.
@@ -137,7 +138,7 @@ fn body_of(map: &[u32], class: u32) -> u64
     requires { ⌜ 1281 + class < length (now map) ⌝ }
     ensures { λ r. ⌜ r ≡ getD (now (map .entry)) (1281 + class) 0 ⌝ }
 {
-    wide(map[1281 + class as usize])
+    base_wide::wide(map[map::BODY + class as usize])
 }
 
 pub fn start<'a>(
@@ -155,21 +156,21 @@ pub fn start<'a>(
         (r .fault) (r .lines) (now (w .entry)) (now (w .exit)) at (now (out .entry)) (now (out .exit))) ⌝ }
 {
     let time = time_of(body, w);
-    if 2000000000 < time {
+    if limit::LATEST < time {
         return Went {
-            fault: 23,
+            fault: fault::LATE,
             lines: 0,
         };
     }
     if !has_shares(body, w, p) {
         return Went {
-            fault: 24,
+            fault: fault::HELD,
             lines: 0,
         };
     }
     if !can_begin(w) {
         return Went {
-            fault: 27,
+            fault: fault::FULL,
             lines: 0,
         };
     }
@@ -194,7 +195,7 @@ fn free_one<'a>(w: &'a mut [u64], out: &'a mut [u8], at: usize, i: u64, r: usize
 {
     let clock = act_floor::clock_of(w);
     let number = row_process::number_of(w, r) as u32;
-    base_journal::write_line(out, at, 8, clock as u32, number, ZERO + i as u32);
+    base_journal::write_line(out, at, line::FREED, clock as u32, number, code::ZERO + i as u32);
     row_lists::wake(w, clock, r);
 }
 
@@ -222,11 +223,11 @@ pub fn puts<'a>(w: &'a mut [u64], out: &'a mut [u8], at: usize, p: usize, i: u64
 {
     if row_slaves::owned(w, p, i) < n {
         return Went {
-            fault: 25,
+            fault: fault::OWNED,
             lines: 0,
         };
     }
-    let mut places = [0u64; 64];
+    let mut places = [0u64; limit::PLACES];
     row_slaves::release(w, p, i, n, &mut places);
     row_process::past(w, p);
     free_all(w, out, at, i, &places, n);

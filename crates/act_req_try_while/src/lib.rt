@@ -4,10 +4,9 @@ ghost use Rattle.semantics.specs.Step.{request, while};
 ghost use Rattle.act_floor.specs.Acting.{Roomy, Stepped};
 ghost use Rattle.act_req_try_while.specs.Asks.{Requesting, Looping, Branching, Branched, state, made, taken};
 use act_floor::Went;
+use base_numbers::code;
+use base_numbers::line;
 use row_claim::Choice;
-
-// The code of 0.
-const ZERO: u32 = 2147483648;
 
 // The branch of action a that the process in place p may take is taken, if there is one; whether there was.
 fn take_branch<'a>(
@@ -31,8 +30,8 @@ fn take_branch<'a>(
     let Choice::Goes(n) = chosen else {
         return false;
     };
-    act_floor::note(w, p, out, at, 4, ZERO + n as u32);
-    let first = file_map::number_at(map, 1345 + a);
+    act_floor::note(w, p, out, at, line::GRANTED, code::ZERO + n as u32);
+    let first = file_map::branches_from(map, a);
     row_grant::grant(s, map, w, p, first + n, enters);
     true
 }
@@ -57,7 +56,7 @@ pub fn request<'a>(
     if take_branch(s, map, w, out, at, p, a, enters) {
         return Went { fault: 0, lines: 1 };
     }
-    act_floor::note(w, p, out, at, 3, ZERO);
+    act_floor::note(w, p, out, at, line::BLOCKED, code::ZERO);
     row_lists::join_blocked(w, p);
     act_floor::leave_floor(w);
     Went { fault: 0, lines: 1 }

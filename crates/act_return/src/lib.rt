@@ -8,6 +8,10 @@ ghost use Rattle.row_process.specs.Process.{Shown};
 ghost use Rattle.act_floor.specs.Acting.{Roomy, Stepped};
 ghost use Rattle.act_return.specs.Returning.{Returning};
 use act_floor::Went;
+use base_numbers::fault;
+use base_numbers::limit;
+use base_numbers::line;
+use base_numbers::row;
 
 // What is in bin i.
 fn bin_of(w: &[u64], i: usize) -> u64
@@ -15,7 +19,7 @@ fn bin_of(w: &[u64], i: usize) -> u64
     ensures { λ r. ⌜ ((v : Shown (now (w .entry)) (λ s. i < length (s .bins))) → r ≡ getD (v .is .bins) i 0)
         × (r ≤ 1000000000) ⌝ }
 {
-    w[40 + i]
+    w[row::BINS + i]
 }
 
 // The number at `at` becomes n more.
@@ -44,8 +48,8 @@ pub fn resource_back<'a>(
         → Stepped (occurs (v .model) (v .is) (returnsR i n g)) (r .fault) (r .lines)
         (now (w .entry)) (now (w .exit)) at (now (out .entry)) (now (out .exit))) ⌝ }
 {
-    act_walk::note(w, out, at, 5, g, i);
-    add_at(w, 8 + i, n);
+    act_walk::note(w, out, at, line::RESOURCE_RETURNED, g, i);
+    add_at(w, row::FREE + i, n);
     let lines = act_walk::walk(s, map, w, out, at + 1);
     Went {
         fault: 0,
@@ -70,14 +74,14 @@ pub fn bin_back<'a>(
         → Stepped (occurs (v .model) (v .is) (returnsB i n g)) (r .fault) (r .lines)
         (now (w .entry)) (now (w .exit)) at (now (out .entry)) (now (out .exit))) ⌝ }
 {
-    if 1000000000 < bin_of(w, i) + n {
+    if limit::FULL_BIN < bin_of(w, i) + n {
         return Went {
-            fault: 28,
+            fault: fault::BIN,
             lines: 0,
         };
     }
-    act_walk::note(w, out, at, 6, g, i);
-    add_at(w, 40 + i, n);
+    act_walk::note(w, out, at, line::BIN_RETURNED, g, i);
+    add_at(w, row::BINS + i, n);
     let lines = act_walk::walk(s, map, w, out, at + 1);
     Went {
         fault: 0,

@@ -8,6 +8,9 @@ ghost use Rattle.semantics.specs.Step.{setGlobal, become};
 ghost use Rattle.act_floor.specs.Acting.{Acting, Roomy, Stepped};
 ghost use Rattle.act_set_become.specs.Setting.{Setting};
 use act_floor::Went;
+use base_numbers::fault;
+use base_numbers::line;
+use base_numbers::row;
 
 // The number at `at` becomes v.
 fn set_at(w: &mut [u64], at: usize, v: u64)
@@ -34,7 +37,7 @@ pub fn become_slave<'a>(
         (now (w .entry)) (now (w .exit)) at (now (out .entry)) (now (out .exit))) ⌝ }
 {
     let number = row_process::number_of(w, p);
-    act_walk::note(w, out, at, 7, number, i);
+    act_walk::note(w, out, at, line::WAITING_AS_SLAVE, number, i);
     row_process::past(w, p);
     act_floor::leave_floor(w);
     row_lists::join_waiting(w, i, p);
@@ -66,12 +69,12 @@ pub fn set_global<'a>(
     let value = act_hold_prio_lset_trace::value_in(body, w, p);
     if !value.ok {
         return Went {
-            fault: 21,
+            fault: fault::SUM,
             lines: 0,
         };
     }
     row_process::past(w, p);
-    set_at(w, 72 + i, value.code as u64);
+    set_at(w, row::GLOBALS + i, value.code as u64);
     let lines = act_walk::walk(s, map, w, out, at);
     Went {
         fault: 0,

@@ -10,6 +10,8 @@ ghost use Rattle.base_i32.specs.Code.{valueOf, valueIn};
 ghost use Rattle.act_value.specs.Parts.{evalIn};
 ghost use Rattle.act_value.specs.Reading.{Readable, Stands, Read, HasCode, leafCode, ofTwo, given};
 use base_i32::Value;
+use base_numbers::code;
+use base_numbers::op;
 
 struct Node {
     op: u32,
@@ -26,8 +28,8 @@ fn node_at(bs: &[u8], k: usize) -> Node
     requires { ⌜ k < length (now bs) / 6 ⌝ }
     ensures { λ r. ⌜ Stands (now (bs .entry)) k r ⌝ }
 {
-    let from = 6 * k;
-    let to = from + 6;
+    let from = op::NODE_BYTES * k;
+    let to = from + op::NODE_BYTES;
     let node = &bs[from..to];
     let op = file_fields::u16_at(node, 0);
     let operand = file_fields::u32_at(node, 2);
@@ -48,10 +50,10 @@ fn leaf<'a>(globals: &'a [u64], locals: &'a [u64], clock: u32, op: u32, operand:
     ensures { λ r. ⌜ r ≡ leafCode (now (globals .entry)) (now (locals .entry)) clock op operand ⌝ }
 {
     match op {
-        0 => base_i32::from_twos(operand),
-        1 => code_at(globals, operand),
-        2 => code_at(locals, operand),
-        _ => 2147483648 + clock,
+        op::LITERAL => base_i32::from_twos(operand),
+        op::GLOBAL => code_at(globals, operand),
+        op::LOCAL => code_at(locals, operand),
+        _ => code::ZERO + clock,
     }
 }
 
@@ -64,10 +66,10 @@ fn of_two(op: u32, both: bool, x: u32, y: u32) -> Value
         return Value { ok: false, code: 0 };
     }
     match op {
-        3 => base_i32::add(x, y),
-        4 => base_i32::subtract(x, y),
-        5 => base_i32::multiply(x, y),
-        6 => Value {
+        op::ADD => base_i32::add(x, y),
+        op::SUBTRACT => base_i32::subtract(x, y),
+        op::MULTIPLY => base_i32::multiply(x, y),
+        op::LESSER => Value {
             ok: true,
             code: base_i32::lesser(x, y),
         },

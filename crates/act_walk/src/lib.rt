@@ -10,6 +10,10 @@ ghost use Rattle.row_work.specs.Work.{workOf};
 ghost use Rattle.row_process.specs.Process.{Shown};
 ghost use Rattle.row_lists.specs.Lists.{Any};
 ghost use Rattle.act_walk.specs.Walking.{Walking, Walked, Visiting, chooses, went, Visited, Going, AtAction, enteredBy};
+use base_numbers::code;
+use base_numbers::kind;
+use base_numbers::line;
+use base_numbers::row;
 use row_claim::Choice;
 
 // ---- what is read
@@ -19,7 +23,7 @@ fn blocked_count(w: &[u64]) -> usize
     requires { ⌜ Shown (now w) Any ⌝ }
     ensures { λ r. ⌜ ((v : Shown (now (w .entry)) Any) → r ≡ length (v .is .blocked)) × (r ≤ 64) ⌝ }
 {
-    w[6] as usize
+    w[row::BLOCKED] as usize
 }
 
 // Whether the branches of action a enter a block.
@@ -27,8 +31,8 @@ fn enters_at<'a>(s: &'a [u8], map: &'a [u32], a: usize) -> bool
     requires { ⌜ AtAction (now s) (now map) a ⌝ }
     ensures { λ r. ⌜ ((v : AtAction (now (s .entry)) (now (map .entry)) a) → r ≡ enteredBy (v .action)) ⌝ }
 {
-    let place = file_map::number_at(map, 257 + a);
-    file_fields::u16_at(s, place + 2) != 25
+    let place = file_map::place_of(map, a);
+    file_fields::u16_at(s, place + 2) != kind::REQ
 }
 
 // ---- what is written
@@ -47,7 +51,7 @@ pub fn note<'a>(w: &'a [u64], out: &'a mut [u8], at: usize, kind: u32, number: u
         kind,
         clock,
         number as u32,
-        2147483648 + value as u32,
+        code::ZERO + value as u32,
     );
 }
 
@@ -95,8 +99,8 @@ fn visit<'a>(
         return 0;
     };
     let number = row_process::number_of(w, place);
-    note(w, out, at, 4, number, which);
-    let first = file_map::number_at(map, 1345 + action);
+    note(w, out, at, line::GRANTED, number, which);
+    let first = file_map::branches_from(map, action);
     let enters = enters_at(s, map, action);
     release(s, map, w, k, place, first + which, enters);
     1

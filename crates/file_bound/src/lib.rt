@@ -12,6 +12,8 @@ ghost use Rattle.file_depth.specs.Deep.{Graph, Known};
 ghost use Rattle.file_weight.specs.Weigh.{actsIn, cap, told, weighed};
 ghost use Rattle.file_bound.specs.Endable.{Endable, Bodied};
 ghost use Rattle.file_bound.specs.Answer.{boundedOf};
+use base_numbers::kind;
+use base_numbers::limit;
 
 // The number and the place of a refusal, NONE, OVER, or the number.
 pub enum Bounded {
@@ -22,7 +24,7 @@ pub enum Bounded {
 }
 
 // The body block of a class.
-fn body_of(body: [u16; 64], class: u32) -> usize
+fn body_of(body: [u16; limit::CLASSES], class: u32) -> usize
     requires { ⌜ class < 64 ⌝ }
     ensures { λ r. ⌜ r ≡ getD body class 0 ⌝ }
 {
@@ -37,7 +39,7 @@ fn added(w: u64, v: u64) -> u64
     ensures { λ r. ⌜ r ≡ cap (w + v) ⌝ }
 {
     let x = w + v;
-    if x < 4294967296 { x } else { 4294967296 }
+    if x < file_weight::OVER { x } else { file_weight::OVER }
 }
 
 // The weight of an ENTITY record's class; 0 of every other record. The memo has what is found already, and gets what is found
@@ -45,15 +47,15 @@ fn added(w: u64, v: u64) -> u64
 fn entity_weight<'a>(
     kind: u32,
     bs: &'a [u8],
-    body: [u16; 64],
-    first: &'a [u16; 257],
-    from: &'a [u16; 1025],
-    goes: &'a [u16; 4096],
-    own: &'a [u16; 1024],
-    times: &'a [u16; 1024],
-    plain: &'a [u16; 1025],
+    body: [u16; limit::CLASSES],
+    first: &'a [u16; limit::BLOCKS + 1],
+    from: &'a [u16; limit::ACTIONS + 1],
+    goes: &'a [u16; limit::BRANCHES],
+    own: &'a [u16; limit::ACTIONS],
+    times: &'a [u16; limit::ACTIONS],
+    plain: &'a [u16; limit::ACTIONS + 1],
     blocks: usize,
-    memo: &mut [u64; 256],
+    memo: &mut [u64; limit::BLOCKS],
 ) -> u64
     requires { ⌜ Graph (now first) (now from) (now goes) blocks ⌝ }
     requires { ⌜ (kind ≡ 7 → Bodied (now bs) body blocks) ⌝ }
@@ -68,7 +70,7 @@ fn entity_weight<'a>(
         (actsIn (now (first .entry)) (now (from .entry)) (now (goes .entry)) (now (own .entry)) (now (times .entry)))
         blocks (getD body (u16 (now (bs .entry)) 0) 0) else 0) ⌝ }
 {
-    if kind == 7 {
+    if kind == kind::ENTITY {
         let b = body_of(body, file_fields::u16_at(bs, 0));
         return file_weight::class_weight(first, from, goes, own, times, plain, blocks, memo, b);
     }
@@ -91,7 +93,7 @@ fn total(s: &[u8]) -> u64
     let p = file_index::graph_of(s, false, body);
     let plain = p.from;
     let blocks = i.blocks;
-    let mut memo = [0u64; 256];
+    let mut memo = [0u64; limit::BLOCKS];
     let mut w: u64 = 0;
     let mut at = file_reader::first(s);
     while at < s.len() {
@@ -129,7 +131,7 @@ pub fn bound(s: &[u8]) -> Bounded
         return Bounded::None;
     }
     let w = total(s);
-    if w < 4294967296 {
+    if w < file_weight::OVER {
         return Bounded::At(w as u32);
     }
     Bounded::Over

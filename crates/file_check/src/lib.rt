@@ -11,6 +11,13 @@ ghost use Rattle.file_index.specs.Index.{Readable};
 ghost use Rattle.file_depth.specs.Deep.{Graph, Known, namesIn, depthOf, measured};
 ghost use Rattle.semantics.specs.Words.{if_then_else_};
 ghost use Rattle.file_check.specs.Check.{refusalOf, firstOf, Named};
+use base_numbers::group;
+use base_numbers::kind;
+use base_numbers::limit;
+use base_numbers::refusal;
+
+// The blocks that nest at most, as a depth is told.
+const DEPTH: u16 = limit::DEPTH as u16;
 
 // The number, 1 to 10, and the byte place of the record; 0 and 0: accepted.
 pub struct Refusal {
@@ -21,7 +28,7 @@ pub struct Refusal {
 pub struct First {
     pub number: u32,
     pub place: usize,
-    pub seen: [u32; 17],
+    pub seen: [u32; group::MANY],
 }
 
 // Record by record: 1 to 7.
@@ -29,14 +36,14 @@ fn first_pass(s: &[u8]) -> First
     ensures { λ r. ⌜ r ≡ firstOf (firstPass noneSeen (recordsFrom 0 (now (s .entry)))) ⌝ }
 {
     let mut at = file_reader::first(s);
-    let mut seen = [0u32; 17];
+    let mut seen = [0u32; group::MANY];
     while at < s.len() {
         let x = file_reader::read(s, at);
         if !x.whole {
             return First {
-                number: 1,
+                number: refusal::SHORT,
                 place: at,
-                seen: [0u32; 17],
+                seen: [0u32; group::MANY],
             };
         }
         let end = file_reader::next(s, at);
@@ -45,7 +52,7 @@ fn first_pass(s: &[u8]) -> First
             return First {
                 number: n,
                 place: at,
-                seen: [0u32; 17],
+                seen: [0u32; group::MANY],
             };
         }
         let g = file_check_record::group_of(x.kind);
@@ -64,11 +71,11 @@ fn opened(own: u32, kind: u32) -> u32
     requires { ⌜ own < 65536 ⌝ }
     ensures { λ r. ⌜ (r ≡ blocksAfter own kind) × (r ≤ own + 1) ⌝ }
 {
-    if kind == 6 { own + 1 } else { own }
+    if kind == kind::BLOCK { own + 1 } else { own }
 }
 
 // If all pass, record by record: 8 and 9; `n` has how many records of each group there are.
-fn second_pass(s: &[u8], n: [u32; 17]) -> Refusal
+fn second_pass(s: &[u8], n: [u32; group::MANY]) -> Refusal
     requires { ⌜ Readable (now s) ⌝ }
     ensures { λ r. ⌜ r ≡ refusalOf (secondPass n 0 (recordsFrom 0 (now (s .entry)))) ⌝ }
 {
@@ -97,11 +104,11 @@ fn second_pass(s: &[u8], n: [u32; 17]) -> Refusal
 fn too_deep<'a>(
     kind: u32,
     bs: &'a [u8],
-    first: &'a [u16; 257],
-    from: &'a [u16; 1025],
-    goes: &'a [u16; 4096],
+    first: &'a [u16; limit::BLOCKS + 1],
+    from: &'a [u16; limit::ACTIONS + 1],
+    goes: &'a [u16; limit::BRANCHES],
     blocks: usize,
-    memo: &mut [u16; 256],
+    memo: &mut [u16; limit::BLOCKS],
 ) -> bool
     requires { ⌜ Graph (now first) (now from) (now goes) blocks ⌝ }
     requires { ⌜ (kind ≡ 5 → (2 ≤ length (now bs)) × (u16 (now bs) 0 < blocks)) ⌝ }
@@ -115,10 +122,10 @@ fn too_deep<'a>(
     ensures { λ r. ⌜ r ≡ (eqb kind 5 && ltb 8
         (depthOf (namesIn (now (first .entry)) (now (from .entry)) (now (goes .entry))) blocks (u16 (now (bs .entry)) 0))) ⌝ }
 {
-    if kind == 5 {
+    if kind == kind::CLASS {
         let b = file_fields::u16_at(bs, 0) as usize;
         let d = file_depth::depth(first, from, goes, blocks, memo, b);
-        return 8 < d;
+        return DEPTH < d;
     }
     false
 }
@@ -136,7 +143,7 @@ fn third_pass(s: &[u8]) -> Refusal
     let from = g.from;
     let goes = g.goes;
     let blocks = i.blocks;
-    let mut memo = [0u16; 256];
+    let mut memo = [0u16; limit::BLOCKS];
     let mut at = file_reader::first(s);
     while at < s.len() {
         let x = file_reader::read(s, at);
@@ -151,7 +158,7 @@ fn third_pass(s: &[u8]) -> Refusal
             &mut memo,
         ) {
             return Refusal {
-                number: 10,
+                number: refusal::DEEP,
                 place: at,
             };
         }
@@ -167,9 +174,9 @@ fn third_pass(s: &[u8]) -> Refusal
 pub fn check(s: &[u8]) -> Refusal
     ensures { λ r. ⌜ r ≡ refusalOf (decode (now (s .entry))) ⌝ }
 {
-    if 65535 < s.len() {
+    if limit::FILE < s.len() {
         return Refusal {
-            number: 4,
+            number: refusal::MANY,
             place: 0,
         };
     }

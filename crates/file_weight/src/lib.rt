@@ -7,12 +7,10 @@ ghost use lib.ListN.{getD};
 ghost use Rattle.file_depth.specs.Deep.{Graph, Known};
 ghost use Rattle.file_weight.specs.Weigh.{actionWeightOf, weightOf, cap, told, weighed, actionWeighed};
 ghost use Rattle.file_weight.specs.Weigh.{actsIn, Stands};
+use base_numbers::limit;
 
-fn wide(x: u16) -> usize
-    ensures { λ r. ⌜ r ≡ x ⌝ }
-{
-    x as usize
-}
+// The least weight that is OVER.
+pub const OVER: u64 = 4294967296;
 
 fn long(x: u16) -> u64
     ensures { λ r. ⌜ (r ≡ x) × (r ≤ 65535) ⌝ }
@@ -29,27 +27,27 @@ fn larger(x: u64, y: u64) -> u64
 fn capped(x: u64) -> u64
     ensures { λ r. ⌜ r ≡ cap x ⌝ }
 {
-    if x < 4294967296 { x } else { 4294967296 }
+    if x < OVER { x } else { OVER }
 }
 
 // Whether action a goes nowhere by `plain`, which is `from` without the STARTs.
-fn starts(plain: &[u16; 1025], a: usize) -> bool
+fn starts(plain: &[u16; limit::ACTIONS + 1], a: usize) -> bool
     requires { ⌜ a < 1024 ⌝ }
     ensures { λ r. ⌜ r ≡ eqb (getD (now (plain .entry)) a 0) (getD (now (plain .entry)) (a + 1) 0) ⌝ }
 {
-    wide(plain[a]) == wide(plain[a + 1])
+    base_wide::short_index(plain[a]) == base_wide::short_index(plain[a + 1])
 }
 
 // The weight of block b. The memo has what is found already, and gets what is found here.
 fn block_weight<'a>(
-    first: &'a [u16; 257],
-    from: &'a [u16; 1025],
-    goes: &'a [u16; 4096],
-    own: &'a [u16; 1024],
-    times: &'a [u16; 1024],
-    plain: &'a [u16; 1025],
+    first: &'a [u16; limit::BLOCKS + 1],
+    from: &'a [u16; limit::ACTIONS + 1],
+    goes: &'a [u16; limit::BRANCHES],
+    own: &'a [u16; limit::ACTIONS],
+    times: &'a [u16; limit::ACTIONS],
+    plain: &'a [u16; limit::ACTIONS + 1],
     blocks: usize,
-    memo: &mut [u64; 256],
+    memo: &mut [u64; limit::BLOCKS],
     b: usize,
 ) -> u64
     requires { ⌜ Graph (now first) (now from) (now goes) blocks ⌝ }
@@ -70,8 +68,8 @@ fn block_weight<'a>(
         return known - 1;
     }
     let mut w = 0;
-    let mut a = wide(first[b]);
-    let end = wide(first[b + 1]);
+    let mut a = base_wide::short_index(first[b]);
+    let end = base_wide::short_index(first[b + 1]);
     while a < end {
         let v = action_weight(first, from, goes, own, times, plain, blocks, memo, b, a);
         w = capped(w + v);
@@ -83,14 +81,14 @@ fn block_weight<'a>(
 
 // The weight of action a, which stands in block b, so that the blocks it goes to are later than b.
 fn action_weight<'a>(
-    first: &'a [u16; 257],
-    from: &'a [u16; 1025],
-    goes: &'a [u16; 4096],
-    own: &'a [u16; 1024],
-    times: &'a [u16; 1024],
-    plain: &'a [u16; 1025],
+    first: &'a [u16; limit::BLOCKS + 1],
+    from: &'a [u16; limit::ACTIONS + 1],
+    goes: &'a [u16; limit::BRANCHES],
+    own: &'a [u16; limit::ACTIONS],
+    times: &'a [u16; limit::ACTIONS],
+    plain: &'a [u16; limit::ACTIONS + 1],
     blocks: usize,
-    memo: &mut [u64; 256],
+    memo: &mut [u64; limit::BLOCKS],
     b: usize,
     a: usize,
 ) -> u64
@@ -109,10 +107,10 @@ fn action_weight<'a>(
 {
     let start = starts(plain, a);
     let mut top = 0;
-    let mut k = wide(from[a]);
-    let end = wide(from[a + 1]);
+    let mut k = base_wide::short_index(from[a]);
+    let end = base_wide::short_index(from[a + 1]);
     while k < end {
-        let x = wide(goes[k]);
+        let x = base_wide::short_index(goes[k]);
         let v = goes_weight(start, first, from, goes, own, times, plain, blocks, memo, x);
         top = larger(top, v);
         k = k + 1;
@@ -125,14 +123,14 @@ fn action_weight<'a>(
 // The weight of what an action goes to: of a START its class, of any other block b, and 1.
 fn goes_weight<'a>(
     start: bool,
-    first: &'a [u16; 257],
-    from: &'a [u16; 1025],
-    goes: &'a [u16; 4096],
-    own: &'a [u16; 1024],
-    times: &'a [u16; 1024],
-    plain: &'a [u16; 1025],
+    first: &'a [u16; limit::BLOCKS + 1],
+    from: &'a [u16; limit::ACTIONS + 1],
+    goes: &'a [u16; limit::BRANCHES],
+    own: &'a [u16; limit::ACTIONS],
+    times: &'a [u16; limit::ACTIONS],
+    plain: &'a [u16; limit::ACTIONS + 1],
     blocks: usize,
-    memo: &mut [u64; 256],
+    memo: &mut [u64; limit::BLOCKS],
     b: usize,
 ) -> u64
     requires { ⌜ Graph (now first) (now from) (now goes) blocks ⌝ }
@@ -156,14 +154,14 @@ fn goes_weight<'a>(
 
 // The weight of the class whose body is block b: the block and 1.
 pub fn class_weight<'a>(
-    first: &'a [u16; 257],
-    from: &'a [u16; 1025],
-    goes: &'a [u16; 4096],
-    own: &'a [u16; 1024],
-    times: &'a [u16; 1024],
-    plain: &'a [u16; 1025],
+    first: &'a [u16; limit::BLOCKS + 1],
+    from: &'a [u16; limit::ACTIONS + 1],
+    goes: &'a [u16; limit::BRANCHES],
+    own: &'a [u16; limit::ACTIONS],
+    times: &'a [u16; limit::ACTIONS],
+    plain: &'a [u16; limit::ACTIONS + 1],
     blocks: usize,
-    memo: &mut [u64; 256],
+    memo: &mut [u64; limit::BLOCKS],
     b: usize,
 ) -> u64
     requires { ⌜ Graph (now first) (now from) (now goes) blocks ⌝ }

@@ -1,17 +1,14 @@
 // Processes come and end in the work.
+use base_numbers::code;
 use base_numbers::process;
 use base_numbers::row;
+use base_numbers::word;
 ghost use mathlib.Core.Path.{_≡_};
 ghost use mathlib.Core.List.{[]};
 ghost use lib.ListN.{length, replicate};
 ghost use Rattle.semantics.specs.State.{nobody, put, freePlace};
 ghost use Rattle.row_work.specs.Work.{processRow, Doing, Done};
 ghost use Rattle.row_begin_end.specs.Begins.{Ending, Leaving, newcomerIn, Roomy, Vacant, comes, begins, Answers};
-
-// The code of 0, and one round of a block as its word has it.
-const ZERO: u64 = 2147483648;
-
-const ROUND: u64 = 4294967296;
 
 // ---- one row
 
@@ -32,7 +29,7 @@ fn vacate(row: &mut [u64])
     ensures { λ _. ⌜ now (row .exit) ≡ processRow nobody ⌝ }
 {
     fill(&mut row[0..process::HELD], 0);
-    row[process::PRIORITY] = ZERO;
+    row[process::PRIORITY] = code::ZERO_WORD;
     row[process::BLOCKS] = 0;
 }
 
@@ -43,8 +40,8 @@ fn furnish(row: &mut [u64], n: u64, b: u64)
 {
     row[process::NUMBER] = n;
     row[process::DEPTH] = 1;
-    fill(&mut row[process::LOCALS..process::HELD], ZERO);
-    row[process::BLOCKS] = b + ROUND;
+    fill(&mut row[process::LOCALS..process::HELD], code::ZERO_WORD);
+    row[process::BLOCKS] = b + word::ROUND;
 }
 
 // ---- who comes and who ends

@@ -45,11 +45,10 @@ module _ (bs map w : List ℕ) (a : ℕ) (v : Asking bs map w a) where
   FirstFrom k = firstMet (v .is) 0 (v .asks) ≡ firstMet (v .is) k (drop k (v .asks))
 
   -- Where the map has its branches.
-  module _ (from to : ℕ) (p : from ≡ getD map (1_345 + a) 0) (q : to ≡ getD map (1_346 + a) 0) where
+  module _ (from to : ℕ) (p : from ≡ getD map (1_345 + a) 0) (q : to ≡ getD map (1_345 + (a + 1)) 0) where
     pub many-are : to ≡ from + length (v .asks)
     many-are =
-        let e : 1_346 + a ≡ 1_345 + (a + 1) = omega arith in
-        let t = ap (λ i. getD map i 0) e ∙ v .asks-at .to-is in
+        let t = v .asks-at .to-is in
         omega (arith, t)
 
     pub few-are : to ≤ 4_096

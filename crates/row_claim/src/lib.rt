@@ -8,17 +8,13 @@ ghost use Rattle.base_i32.specs.Code.{valueOf};
 ghost use Rattle.row_claim.specs.Asking.{Meeting, Asking};
 ghost use Rattle.row_claim.specs.Choices.{choiceIn};
 ghost use Rattle.row_claim.specs.Items.{rowOf, MeetingItem};
+use base_numbers::item;
+use base_numbers::row;
 
 // Which branch of an action is taken: none, or that of this number, from 0.
 pub enum Choice {
     Waits,
     Goes(usize),
-}
-
-fn wide(x: u32) -> u64
-    ensures { λ r. ⌜ r ≡ x ⌝ }
-{
-    x as u64
 }
 
 // ---- one item
@@ -42,10 +38,10 @@ fn row_of(kind: u32) -> usize
     ensures { λ r. ⌜ (r ≡ rowOf kind) × (r ≤ 104) ⌝ }
 {
     match kind {
-        0 => 8,
-        1 => 40,
-        2 => 104,
-        _ => 72,
+        item::GET_R => row::FREE,
+        item::GET_B => row::BINS,
+        item::GET_S => row::WAITS,
+        _ => row::GLOBALS,
     }
 }
 
@@ -68,10 +64,10 @@ fn item_met<'a>(i: &'a [u8], w: &'a [u64]) -> bool
     let number = file_fields::u16_at(i, 2);
     let amount = file_fields::u32_at(i, 4);
     let has = there(w, kind, number);
-    if kind <= 2 {
-        return wide(amount) <= has;
+    if kind <= item::GET_S {
+        return base_wide::wide(amount) <= has;
     }
-    let bound = wide(base_i32::from_twos(amount));
+    let bound = base_wide::wide(base_i32::from_twos(amount));
     holds(relation, has, bound)
 }
 
@@ -85,10 +81,10 @@ fn met<'a>(s: &'a [u8], at: usize, w: &'a [u64]) -> bool
     let mut left = file_fields::u16_at(s, at);
     let mut rest = &s[at + 2..];
     while 0 < left {
-        if !item_met(&rest[..8], w) {
+        if !item_met(&rest[..item::BYTES], w) {
             return false;
         }
-        rest = &rest[8..];
+        rest = &rest[item::BYTES..];
         left = left - 1;
     }
     true
@@ -102,11 +98,11 @@ pub fn first_met<'a>(s: &'a [u8], map: &'a [u32], w: &'a [u64], a: usize) -> Cho
     ensures { λ r. ⌜ ((v : Asking (now (s .entry)) (now (map .entry)) (now (w .entry)) a)
         → r ≡ choiceIn (firstMet (v .is) 0 (v .asks))) ⌝ }
 {
-    let from = file_map::number_at(map, 1345 + a);
-    let many = file_map::number_at(map, 1346 + a) - from;
+    let from = file_map::branches_from(map, a);
+    let many = file_map::branches_from(map, a + 1) - from;
     let mut k = 0;
     while k < many {
-        let at = file_map::number_at(map, 2370 + (from + k));
+        let at = file_map::claim_at(map, from + k);
         if met(s, at, w) {
             return Choice::Goes(k);
         }

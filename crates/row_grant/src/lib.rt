@@ -13,19 +13,10 @@ ghost use Rattle.row_claim.specs.Choices.{choiceIn};
 ghost use Rattle.row_grant.specs.Grant.{Takes, InBin, Taking, Granting, Facing, Faced};
 ghost use Rattle.row_grant.specs.Wants.{wantedBy};
 ghost use Rattle.row_grant.specs.Standing.{placeAt};
+use base_numbers::item;
+use base_numbers::map;
+use base_numbers::row;
 use row_claim::Choice;
-
-fn wide(x: u32) -> u64
-    ensures { λ r. ⌜ r ≡ x ⌝ }
-{
-    x as u64
-}
-
-fn index(x: u32) -> usize
-    ensures { λ r. ⌜ r ≡ x ⌝ }
-{
-    x as usize
-}
 
 // ---- a claim is taken
 
@@ -34,8 +25,8 @@ fn take_resource(w: &mut [u64], p: usize, i: usize, n: u64)
     requires { ⌜ Doing (now w) (Takes p (get resource i n)) (takeItem p (get resource i n)) ⌝ }
     ensures { λ _. ⌜ Done (now (w .entry)) (Takes p (get resource i n)) (takeItem p (get resource i n)) (now (w .exit)) ⌝ }
 {
-    let free = w[8 + i];
-    w[8 + i] = free - n;
+    let free = w[row::FREE + i];
+    w[row::FREE + i] = free - n;
     row_process::take_up(w, p, i, n);
 }
 
@@ -44,8 +35,8 @@ fn take_bin(w: &mut [u64], i: usize, n: u64)
     requires { ⌜ Doing (now w) (InBin i n) (λ s. with-bins s (fewer (s .bins) i n)) ⌝ }
     ensures { λ _. ⌜ Done (now (w .entry)) (InBin i n) (λ s. with-bins s (fewer (s .bins) i n)) (now (w .exit)) ⌝ }
 {
-    let there = w[40 + i];
-    w[40 + i] = there - n;
+    let there = w[row::BINS + i];
+    w[row::BINS + i] = there - n;
 }
 
 // An item as its bytes say it: what kind of thing it names, the thing's number, and how much of it.
@@ -61,8 +52,8 @@ fn read_item(i: &[u8]) -> Wanted
 {
     Wanted {
         kind: file_fields::u8_at(i, 0),
-        number: index(file_fields::u16_at(i, 2)),
-        amount: wide(file_fields::u32_at(i, 4)),
+        number: base_wide::index(file_fields::u16_at(i, 2)),
+        amount: base_wide::wide(file_fields::u32_at(i, 4)),
     }
 }
 
@@ -75,9 +66,9 @@ fn take_item<'a>(i: &'a [u8], w: &'a mut [u64], p: usize)
     let x = read_item(i);
     let kind = x.kind;
     match kind {
-        0 => take_resource(w, p, x.number, x.amount),
-        1 => take_bin(w, x.number, x.amount),
-        2 => row_slaves::claim_slaves(w, p, x.number, x.amount as usize),
+        item::GET_R => take_resource(w, p, x.number, x.amount),
+        item::GET_B => take_bin(w, x.number, x.amount),
+        item::GET_S => row_slaves::claim_slaves(w, p, x.number, x.amount as usize),
         _ => {}
     }
 }
@@ -91,8 +82,8 @@ fn take_all<'a>(s: &'a [u8], at: usize, w: &'a mut [u64], p: usize)
     let mut left = file_fields::u16_at(s, at);
     let mut rest = &s[at + 2..];
     while 0 < left {
-        take_item(&rest[..8], w, p);
-        rest = &rest[8..];
+        take_item(&rest[..item::BYTES], w, p);
+        rest = &rest[item::BYTES..];
         left = left - 1;
     }
 }
@@ -105,10 +96,10 @@ pub fn grant<'a>(s: &'a [u8], map: &'a [u32], w: &'a mut [u64], p: usize, n: usi
     ensures { λ _. ⌜ ((v : Granting (now (s .entry)) (now (map .entry)) (now (w .entry)) p n enters)
         → now (w .exit) ≡ workOf (grant p (v .offer) (v .is))) ⌝ }
 {
-    let at = file_map::number_at(map, 2370 + n);
+    let at = file_map::number_at(map, map::CLAIM + n);
     take_all(s, at, w, p);
     if enters {
-        let block = wide(file_fields::u16_at(s, at - 2));
+        let block = base_wide::wide(file_fields::u16_at(s, at - 2));
         row_process::into(w, p, 1, block);
         return;
     }

@@ -1,4 +1,5 @@
 // A fresh run of an accepted model file: all places are free, what is declared is written, and the ENTITY processes begin.
+use base_numbers::code;
 use base_numbers::kind;
 use base_numbers::limit;
 use base_numbers::map;
@@ -12,9 +13,6 @@ ghost use Rattle.file_index.specs.Index.{Judged, given, Wrote};
 ghost use Rattle.row_work.specs.Work.{workOf, Doing, Done};
 ghost use Rattle.run_fresh.specs.Fresh.{Loaded, vacantWork, amountIn, Declaring, Beginning, entersBy, Entering};
 
-// The code of 0.
-const ZERO: u64 = 2147483648;
-
 // All places are free.
 fn vacate_all(w: &mut [u64])
     requires { ⌜ now w ≡ replicate 10696 0 ⌝ }
@@ -23,7 +21,7 @@ fn vacate_all(w: &mut [u64])
     let mut p = limit::PLACES;
     while 0 < p {
         p -= 1;
-        row_work::set_word(w, p, process::PRIORITY, ZERO);
+        row_work::set_word(w, p, process::PRIORITY, code::ZERO_WORD);
     }
 }
 

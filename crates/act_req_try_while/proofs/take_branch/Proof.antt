@@ -61,41 +61,35 @@ note-requires c κs =
     let v = start .pre .0 .asked in
     (shown v (v .acting .running .shows), (omega (arith, start .pre .1), omega arith))
 
-add-number-at : tie.Need-add-number-at
-add-number-at c =
-    let start = c .before .before .before .before .before .before .before .before .before .before .before .before .before
-    .before .before .before in
-    omega (arith, few (start .pre .0 .asked))
-
-number-at-requires : tie.Need-number-at-requires
-number-at-requires c κs =
+branches-from-requires : tie.Need-branches-from-requires
+branches-from-requires c κs =
     let start = c .before .before .before .before .before .before .before .before .before .before .before .before .before
     .before .before .before in
     let v = start .pre .0 .asked in
-    omega (arith, few v, map-long v)
+    (map-long v, omega (arith, few v))
 
 add-grant : tie.Need-add-grant
 add-grant c =
-    let at-number-at = c .before in
-    let at-chosen = at-number-at .before .before .before .before .before .before .before in
+    let at-branches-from = c .before in
+    let at-chosen = at-branches-from .before .before .before .before .before .before .before in
     let at-choice = at-chosen .before .before in
     let at-place-in-front = at-choice .before .before in
     let start = at-place-in-front .before .before .before .before .before .before in
     let front = at-place-in-front .place-in-front .ensures in
     let told = at-choice .choice .ensures in
     let f = few-branches (start .pre .0 .asked) _ front told (at-chosen .chosen .given .1) in
-    omega (arith, f, at-number-at .number-at .ensures)
+    omega (arith, f, at-branches-from .branches-from .ensures)
 
 grant-requires : tie.Need-grant-requires
 grant-requires c κs =
-    let at-number-at = c .before in
-    let at-chosen = at-number-at .before .before .before .before .before .before .before in
+    let at-branches-from = c .before in
+    let at-chosen = at-branches-from .before .before .before .before .before .before .before in
     let at-choice = at-chosen .before .before in
     let at-place-in-front = at-choice .before .before in
     let start = at-place-in-front .before .before .before .before .before .before in
     let v = start .pre .0 in
     granting (v .asked) _ (at-place-in-front .place-in-front .ensures) (at-choice .choice .ensures)
-    (at-chosen .chosen .given .1) (at-number-at .number-at .ensures) _ (v .enters-all)
+    (at-chosen .chosen .given .1) (at-branches-from .branches-from .ensures) _ (v .enters-all)
 
 same-length-2 : tie.Need-same-length-2
 same-length-2 c = search needs
@@ -106,8 +100,8 @@ same-length-3 c = search needs
 returns-2 : tie.Need-returns-2
 returns-2 c =
     let at-grant = c .before .before in
-    let at-number-at = at-grant .before .before in
-    let at-note = at-number-at .before .before .before in
+    let at-branches-from = at-grant .before .before in
+    let at-note = at-branches-from .before .before .before in
     let at-chosen = at-note .before .before .before .before in
     let at-choice = at-chosen .before .before in
     let at-place-in-front = at-choice .before .before in
@@ -115,7 +109,7 @@ returns-2 c =
     let front = at-place-in-front .place-in-front .ensures in
     let told = at-choice .choice .ensures in
     let taken = at-chosen .chosen .given .1 in
-    let g = granting (v .asked) _ front told taken (at-number-at .number-at .ensures) _ (v .enters-all) in
+    let g = granting (v .asked) _ front told taken (at-branches-from .branches-from .ensures) _ (v .enters-all) in
     one-taken (v .asked) _ front told taken (at-grant .grant .ensures g) _ _
     (at-note .note .ensures (shown (v .asked) (v .asked .acting .running .shows)))
 
@@ -132,8 +126,7 @@ take-branch-spec =
     cast-note
     add-note
     note-requires
-    add-number-at
-    number-at-requires
+    branches-from-requires
     add-grant
     grant-requires
     same-length-2

@@ -4,11 +4,8 @@ use borrow.Author.Needs.{needs}
 use Rattle.act_walk.proofs.enters_at.Statement.{statement}
 use Rattle.act_walk.proofs.enters_at.Tie as tie
 
-add-number-at : tie.Need-add-number-at
-add-number-at c = search needs
-
-number-at-requires : tie.Need-number-at-requires
-number-at-requires c κs = search needs
+place-of-requires : tie.Need-place-of-requires
+place-of-requires c κs = search needs
 
 add-u16-at : tie.Need-add-u16-at
 add-u16-at c = search needs
@@ -17,8 +14,8 @@ u16-at-requires : tie.Need-u16-at-requires
 u16-at-requires c κs = search needs
 
 returns : tie.Need-returns
-returns c = λ v. entered v _ _ (c .before .number-at .ensures) (c .u16-at .ensures .0)
+returns c = λ v. entered v _ _ (c .before .place-of .ensures) (c .u16-at .ensures .0)
 
 pub enters-at-spec : {M : Type 1} → statement M
 enters-at-spec =
-    tie.close (tie.spec add-number-at number-at-requires add-u16-at u16-at-requires returns)
+    tie.close (tie.spec place-of-requires add-u16-at u16-at-requires returns)

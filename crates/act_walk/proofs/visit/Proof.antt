@@ -69,23 +69,14 @@ note-requires c κs =
     let fits = number-fits v _ e _ (at-number-of .number-of .ensures) in
     ((shown (v .walking) tt, (start .pre .1, omega arith)), (fits, omega (arith, f)))
 
-add-number-at : tie.Need-add-number-at
-add-number-at c =
+branches-from-requires : tie.Need-branches-from-requires
+branches-from-requires c κs =
     let at-action-at = c .before .before .before .before .before .before .before .before .before .before .before .before in
     let at-blocked-at = at-action-at .before .before in
     let start = at-blocked-at .before .before .before .before .before .before in
     let v = start .pre .0 in
     let e = place-is v _ (at-blocked-at .blocked-at .ensures .0) in
-    omega (arith, action-low v _ e _ (at-action-at .action-at .ensures))
-
-number-at-requires : tie.Need-number-at-requires
-number-at-requires c κs =
-    let at-action-at = c .before .before .before .before .before .before .before .before .before .before .before .before in
-    let at-blocked-at = at-action-at .before .before in
-    let start = at-blocked-at .before .before .before .before .before .before in
-    let v = start .pre .0 in
-    let e = place-is v _ (at-blocked-at .blocked-at .ensures .0) in
-    omega (arith, v .walking .mapped .long, action-low v _ e _ (at-action-at .action-at .ensures))
+    (v .walking .mapped .long, omega (arith, action-low v _ e _ (at-action-at .action-at .ensures)))
 
 enters-at-requires : tie.Need-enters-at-requires
 enters-at-requires c κs =
@@ -98,8 +89,8 @@ enters-at-requires c κs =
 
 add-release : tie.Need-add-release
 add-release c =
-    let at-number-at = c .before .before in
-    let at-chosen = at-number-at .before .before .before .before .before .before .before .before .before in
+    let at-branches-from = c .before .before in
+    let at-chosen = at-branches-from .before .before .before .before .before .before .before .before .before in
     let at-choice = at-chosen .before .before in
     let at-action-at = at-choice .before .before in
     let at-blocked-at = at-action-at .before .before in
@@ -108,13 +99,13 @@ add-release c =
     let e = place-is v _ (at-blocked-at .blocked-at .ensures .0) in
     let f =
     branch-few v _ e _ (at-action-at .action-at .ensures) (at-choice .choice .ensures) (at-chosen .chosen .given .1) in
-    omega (arith, f, at-number-at .number-at .ensures)
+    omega (arith, f, at-branches-from .branches-from .ensures)
 
 release-requires : tie.Need-release-requires
 release-requires c κs =
     let at-enters-at = c .before in
-    let at-number-at = at-enters-at .before in
-    let at-chosen = at-number-at .before .before .before .before .before .before .before .before .before in
+    let at-branches-from = at-enters-at .before in
+    let at-chosen = at-branches-from .before .before .before .before .before .before .before .before .before in
     let at-choice = at-chosen .before .before in
     let at-action-at = at-choice .before .before in
     let at-blocked-at = at-action-at .before .before in
@@ -122,7 +113,7 @@ release-requires c κs =
     let v = start .pre .0 in
     let e = place-is v _ (at-blocked-at .blocked-at .ensures .0) in
     going v _ e _ (at-action-at .action-at .ensures) (at-choice .choice .ensures) (at-chosen .chosen .given .1)
-    (at-number-at .number-at .ensures) _ (at-enters-at .enters-at .ensures)
+    (at-branches-from .branches-from .ensures) _ (at-enters-at .enters-at .ensures)
 
 same-length-2 : tie.Need-same-length-2
 same-length-2 c = search needs
@@ -134,8 +125,8 @@ returns-2 : tie.Need-returns-2
 returns-2 c =
     let at-release = c .before .before in
     let at-enters-at = at-release .before .before in
-    let at-number-at = at-enters-at .before in
-    let at-note = at-number-at .before .before .before in
+    let at-branches-from = at-enters-at .before in
+    let at-note = at-branches-from .before .before .before in
     let at-number-of = at-note .before .before .before in
     let at-chosen = at-number-of .before .before .before in
     let at-choice = at-chosen .before .before in
@@ -144,7 +135,7 @@ returns-2 c =
       λ v.
           gone v _ (place-is v _ (at-blocked-at .blocked-at .ensures .0)) _ (at-action-at .action-at .ensures)
           (at-choice .choice .ensures) (at-chosen .chosen .given .1)
-          (at-number-at .number-at .ensures) _ (at-enters-at .enters-at .ensures)
+          (at-branches-from .branches-from .ensures) _ (at-enters-at .enters-at .ensures)
           _ _ _ _ _ (at-number-of .number-of .ensures) (at-note .note .ensures) (at-release .release .ensures),
       omega arith,
     )
@@ -162,8 +153,7 @@ visit-spec =
     returns
     number-of-requires
     note-requires
-    add-number-at
-    number-at-requires
+    branches-from-requires
     enters-at-requires
     add-release
     release-requires

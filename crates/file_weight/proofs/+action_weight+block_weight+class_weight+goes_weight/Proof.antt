@@ -1,8 +1,8 @@
--- `file_weight::block_weight`, `action_weight`, `goes_weight` and `class_weight` meet their contracts: four times 256 less the block
--- number, and 0 for an action, 1 for a block, 2 for a class and 3 for what an action goes to, falls from call to call. The
--- loops' invariants: `Sum`, that what is summed so far with the actions to come is the block's weight under the cap;
--- `ActionTurn`, that the largest so far with the blocks to come is the largest of all that the action goes to.
--- Assumes nothing.
+-- `file_weight::block_weight`, `action_weight`, `goes_weight` and `class_weight` meet their contracts: four times 256 less the
+-- block number, and 0 for an action, 1 for a block, 2 for a class and 3 for what an action goes to, falls from call to call.
+-- The loops' invariants: `Sum`, that what is summed so far with the actions to come is the block's weight under the cap;
+-- `ActionTurn`, that the largest so far with the blocks to come is the largest of all that the action goes to. Assumes
+-- nothing.
 use Prim.Native.Nat.{ℕ, _<_, _+_, _*_, _-_}
 use borrow.Author.Needs.{needs}
 use borrow.Fn.Kinds.{In}
@@ -33,7 +33,7 @@ use Rattle.file_weight.proofs.goes_weight.Reads as goes
 use Rattle.file_weight.proofs.larger.Reads as larger-reads
 use Rattle.file_weight.proofs.long.Reads as long-reads
 use Rattle.file_weight.proofs.starts.Reads as starts-reads
-use Rattle.file_weight.proofs.wide.Reads as wide-reads
+use Rattle.base_wide.proofs.short_index.Reads as short-index-reads
 use Rattle.file_weight.specs.Weigh.{actsIn}
 
 abbrev μ-action : Measures 2 action-kinds.ps ℕ
@@ -76,8 +76,8 @@ abbrev action-claims : ℕ → action-lts.Claims
 action-claims t = (
   starts-reads.Asked,
   starts-reads.Learnt,
-  wide-reads.Asked,
-  wide-reads.Learnt,
+  short-index-reads.Asked,
+  short-index-reads.Learnt,
   goes-below t,
   goes.Post,
   larger-reads.Asked,
@@ -99,53 +99,57 @@ action-starts-requires : (t : ℕ) →
     action-lts.Need-starts-requires (action-claims t) (action-at t) action.Post action-Inv-loop action-μ-loop
 action-starts-requires t c κs = let p = c .pre .1 in omega (arith, numbered (p .0) (p .1 .0), p .0 .laid .many)
 
-action-mul-wide : (t : ℕ) → action-lts.Need-mul-wide (action-claims t) (action-at t) action.Post action-Inv-loop action-μ-loop
-action-mul-wide t c = let p = c .before .pre .1 in omega (arith, numbered (p .0) (p .1 .0), p .0 .laid .many)
+action-mul-short-index : (t : ℕ) →
+    action-lts.Need-mul-short-index (action-claims t) (action-at t) action.Post action-Inv-loop action-μ-loop
+action-mul-short-index t c = let p = c .before .pre .1 in omega (arith, numbered (p .0) (p .1 .0), p .0 .laid .many)
 
-action-element-copy-out-wide : (t : ℕ) →
-    action-lts.Need-element-copy-out-wide (action-claims t) (action-at t) action.Post action-Inv-loop action-μ-loop
-action-element-copy-out-wide t c = let p = c .before .pre .1 in omega (arith, numbered (p .0) (p .1 .0), p .0 .laid .many)
+action-element-copy-out-short-index : (t : ℕ) →
+    action-lts.Need-element-copy-out-short-index (action-claims t) (action-at t) action.Post action-Inv-loop action-μ-loop
+action-element-copy-out-short-index t c = let p = c .before .pre .1 in omega (arith, numbered (p .0) (p .1 .0), p .0 .laid .many)
 
-action-wide-requires : (t : ℕ) →
-    action-lts.Need-wide-requires (action-claims t) (action-at t) action.Post action-Inv-loop action-μ-loop
-action-wide-requires t c κs = search needs
+action-short-index-requires : (t : ℕ) →
+    action-lts.Need-short-index-requires (action-claims t) (action-at t) action.Post action-Inv-loop action-μ-loop
+action-short-index-requires t c κs = search needs
 
-action-add-wide : (t : ℕ) → action-lts.Need-add-wide (action-claims t) (action-at t) action.Post action-Inv-loop action-μ-loop
-action-add-wide t c = let p = c .before .before .before .pre .1 in omega (arith, numbered (p .0) (p .1 .0), p .0 .laid .many)
-
-action-mul-wide-2 : (t : ℕ) →
-    action-lts.Need-mul-wide-2 (action-claims t) (action-at t) action.Post action-Inv-loop action-μ-loop
-action-mul-wide-2 t c = let p = c .before .before .before .pre .1 in omega (arith, numbered (p .0) (p .1 .0), p .0 .laid .many)
-
-action-element-copy-out-wide-2 : (t : ℕ) →
-    action-lts.Need-element-copy-out-wide-2 (action-claims t) (action-at t) action.Post action-Inv-loop action-μ-loop
-action-element-copy-out-wide-2 t c = let p = c .before .before .before .pre .1 in
+action-add-short-index : (t : ℕ) →
+    action-lts.Need-add-short-index (action-claims t) (action-at t) action.Post action-Inv-loop action-μ-loop
+action-add-short-index t c = let p = c .before .before .before .pre .1 in
     omega (arith, numbered (p .0) (p .1 .0), p .0 .laid .many)
 
-action-wide-requires-2 : (t : ℕ) →
-    action-lts.Need-wide-requires-2 (action-claims t) (action-at t) action.Post action-Inv-loop action-μ-loop
-action-wide-requires-2 t c κs = search needs
+action-mul-short-index-2 : (t : ℕ) →
+    action-lts.Need-mul-short-index-2 (action-claims t) (action-at t) action.Post action-Inv-loop action-μ-loop
+action-mul-short-index-2 t c = let p = c .before .before .before .pre .1 in
+    omega (arith, numbered (p .0) (p .1 .0), p .0 .laid .many)
+
+action-element-copy-out-short-index-2 : (t : ℕ) →
+    action-lts.Need-element-copy-out-short-index-2 (action-claims t) (action-at t) action.Post action-Inv-loop action-μ-loop
+action-element-copy-out-short-index-2 t c = let p = c .before .before .before .pre .1 in
+    omega (arith, numbered (p .0) (p .1 .0), p .0 .laid .many)
+
+action-short-index-requires-2 : (t : ℕ) →
+    action-lts.Need-short-index-requires-2 (action-claims t) (action-at t) action.Post action-Inv-loop action-μ-loop
+action-short-index-requires-2 t c κs = search needs
 
 action-loop-holds : (t : ℕ) →
     action-lts.Need-loop-holds (action-claims t) (action-at t) action.Post action-Inv-loop action-μ-loop
 action-loop-holds t c = let p = c .before .before .before .before .before .pre .1 in
-    begun (p .1 .1) (c .before .before .wide .ensures) (c .wide2 .ensures) (goes-rise (p .0) (p .1 .0))
+    begun (p .1 .1) (c .before .before .short-index .ensures .0) (c .short-index2 .ensures .0) (goes-rise (p .0) (p .1 .0))
 
-action-mul-wide-3 : (t : ℕ) →
-    action-lts.Need-mul-wide-3 (action-claims t) (action-at t) action.Post action-Inv-loop action-μ-loop
-action-mul-wide-3 t c = let p = c .before .before .before .before .before .before .before .pre .1 in
+action-mul-short-index-3 : (t : ℕ) →
+    action-lts.Need-mul-short-index-3 (action-claims t) (action-at t) action.Post action-Inv-loop action-μ-loop
+action-mul-short-index-3 t c = let p = c .before .before .before .before .before .before .before .pre .1 in
     let w = c .before .loop .inv in
     omega (arith, c .loop-test .taken, w .last, goes-stop (p .0) (p .1 .0))
 
-action-element-copy-out-wide-3 : (t : ℕ) →
-    action-lts.Need-element-copy-out-wide-3 (action-claims t) (action-at t) action.Post action-Inv-loop action-μ-loop
-action-element-copy-out-wide-3 t c = let p = c .before .before .before .before .before .before .before .pre .1 in
+action-element-copy-out-short-index-3 : (t : ℕ) →
+    action-lts.Need-element-copy-out-short-index-3 (action-claims t) (action-at t) action.Post action-Inv-loop action-μ-loop
+action-element-copy-out-short-index-3 t c = let p = c .before .before .before .before .before .before .before .pre .1 in
     let w = c .before .loop .inv in
     omega (arith, c .loop-test .taken, w .last, goes-stop (p .0) (p .1 .0))
 
-action-wide-requires-3 : (t : ℕ) →
-    action-lts.Need-wide-requires-3 (action-claims t) (action-at t) action.Post action-Inv-loop action-μ-loop
-action-wide-requires-3 t c κs = search needs
+action-short-index-requires-3 : (t : ℕ) →
+    action-lts.Need-short-index-requires-3 (action-claims t) (action-at t) action.Post action-Inv-loop action-μ-loop
+action-short-index-requires-3 t c κs = search needs
 
 action-goes-weight-requires : (t : ℕ) →
     action-lts.Need-goes-weight-requires (action-claims t) (action-at t) action.Post action-Inv-loop action-μ-loop
@@ -154,7 +158,7 @@ action-goes-weight-requires t c κs = let o = c .before .before .before .before 
     let w = c .before .before .before .before .loop .inv in
     let h = c .before .before .before .loop-test .taken in
     let x = action-next (p .0) (p .1 .0) (o .args .own .now) (o .args .times .now) w h in
-    let e = c .before .wide3 .ensures in
+    let e = c .before .short-index3 .ensures .0 in
     (omega (arith, x .0, x .1, e, o .pre .0, p .0 .laid .few), (p .0, (omega (arith, x .1, e), w .known)))
 
 action-larger-requires : (t : ℕ) →
@@ -178,7 +182,7 @@ action-loop-again t c =
     let w = c .before .before .before .before .before .before .loop .inv in
     let h = c .before .before .before .before .before .loop-test .taken in
     let v = c .before .goes-weight .ensures in
-    let x = c .before .before .before .wide3 .ensures in
+    let x = c .before .before .before .short-index3 .ensures .0 in
     rw (c .larger .ensures)
     (turned w (omega (arith, goes-stop (p .0) (p .1 .0), p .0 .laid .room)) h (v .0) (rw x at (v .1 .0)) (rw x at (v .1 .1)))
 
@@ -244,8 +248,8 @@ action-returns t c = let o = c .before .before .before .before .before .before .
 
 abbrev block-claims : ℕ → block-lts.Claims
 block-claims t = (
-  wide-reads.Asked,
-  wide-reads.Learnt,
+  short-index-reads.Asked,
+  short-index-reads.Learnt,
   action-below t,
   action.Post,
   capped-reads.Asked,
@@ -278,34 +282,40 @@ block-returns t c = let p = c .before .before .pre .1 .1 in (
   ),
 )
 
-block-mul-wide : (t : ℕ) → block-lts.Need-mul-wide (block-claims t) (block-at t) block.Post block-Inv-loop block-μ-loop
-block-mul-wide t c = let p = c .before .before .pre .1 in omega (arith, p .0 .laid .few, p .1 .0)
+block-mul-short-index : (t : ℕ) →
+    block-lts.Need-mul-short-index (block-claims t) (block-at t) block.Post block-Inv-loop block-μ-loop
+block-mul-short-index t c = let p = c .before .before .pre .1 in omega (arith, p .0 .laid .few, p .1 .0)
 
-block-element-copy-out-wide : (t : ℕ) →
-    block-lts.Need-element-copy-out-wide (block-claims t) (block-at t) block.Post block-Inv-loop block-μ-loop
-block-element-copy-out-wide t c = let p = c .before .before .pre .1 in omega (arith, p .0 .laid .few, p .1 .0)
+block-element-copy-out-short-index : (t : ℕ) →
+    block-lts.Need-element-copy-out-short-index (block-claims t) (block-at t) block.Post block-Inv-loop block-μ-loop
+block-element-copy-out-short-index t c = let p = c .before .before .pre .1 in omega (arith, p .0 .laid .few, p .1 .0)
 
-block-wide-requires : (t : ℕ) → block-lts.Need-wide-requires (block-claims t) (block-at t) block.Post block-Inv-loop block-μ-loop
-block-wide-requires t c κs = search needs
+block-short-index-requires : (t : ℕ) →
+    block-lts.Need-short-index-requires (block-claims t) (block-at t) block.Post block-Inv-loop block-μ-loop
+block-short-index-requires t c κs = search needs
 
-block-add-wide : (t : ℕ) → block-lts.Need-add-wide (block-claims t) (block-at t) block.Post block-Inv-loop block-μ-loop
-block-add-wide t c = let p = c .before .before .before .before .pre .1 in omega (arith, p .0 .laid .few, p .1 .0)
+block-add-short-index : (t : ℕ) →
+    block-lts.Need-add-short-index (block-claims t) (block-at t) block.Post block-Inv-loop block-μ-loop
+block-add-short-index t c = let p = c .before .before .before .before .pre .1 in omega (arith, p .0 .laid .few, p .1 .0)
 
-block-mul-wide-2 : (t : ℕ) → block-lts.Need-mul-wide-2 (block-claims t) (block-at t) block.Post block-Inv-loop block-μ-loop
-block-mul-wide-2 t c = let p = c .before .before .before .before .pre .1 in omega (arith, p .0 .laid .few, p .1 .0)
+block-mul-short-index-2 : (t : ℕ) →
+    block-lts.Need-mul-short-index-2 (block-claims t) (block-at t) block.Post block-Inv-loop block-μ-loop
+block-mul-short-index-2 t c = let p = c .before .before .before .before .pre .1 in omega (arith, p .0 .laid .few, p .1 .0)
 
-block-element-copy-out-wide-2 : (t : ℕ) →
-    block-lts.Need-element-copy-out-wide-2 (block-claims t) (block-at t) block.Post block-Inv-loop block-μ-loop
-block-element-copy-out-wide-2 t c = let p = c .before .before .before .before .pre .1 in omega (arith, p .0 .laid .few, p .1 .0)
+block-element-copy-out-short-index-2 : (t : ℕ) →
+    block-lts.Need-element-copy-out-short-index-2 (block-claims t) (block-at t) block.Post block-Inv-loop block-μ-loop
+block-element-copy-out-short-index-2 t c = let p = c .before .before .before .before .pre .1 in
+    omega (arith, p .0 .laid .few, p .1 .0)
 
-block-wide-requires-2 : (t : ℕ) →
-    block-lts.Need-wide-requires-2 (block-claims t) (block-at t) block.Post block-Inv-loop block-μ-loop
-block-wide-requires-2 t c κs = search needs
+block-short-index-requires-2 : (t : ℕ) →
+    block-lts.Need-short-index-requires-2 (block-claims t) (block-at t) block.Post block-Inv-loop block-μ-loop
+block-short-index-requires-2 t c κs = search needs
 
 block-loop-holds : (t : ℕ) → block-lts.Need-loop-holds (block-claims t) (block-at t) block.Post block-Inv-loop block-μ-loop
 block-loop-holds t c = let o = c .before .before .before .before .before .before in
     let p = o .pre .1 in
-    sum-begun (p .1 .1) (c .before .before .wide .ensures) (c .wide2 .ensures) (p .0 .laid .rises (o .args .b) (p .1 .0))
+    sum-begun (p .1 .1) (c .before .before .short-index .ensures .0) (c .short-index2 .ensures .0)
+    (p .0 .laid .rises (o .args .b) (p .1 .0))
 
 block-action-weight-requires : (t : ℕ) →
     block-lts.Need-action-weight-requires (block-claims t) (block-at t) block.Post block-Inv-loop block-μ-loop
@@ -403,17 +413,17 @@ pub +action-weight+block-weight+class-weight+goes-weight-spec : {M : Type 1} →
     action-Inv-loop
     action-μ-loop
     (action-starts-requires t)
-    (action-mul-wide t)
-    (action-element-copy-out-wide t)
-    (action-wide-requires t)
-    (action-add-wide t)
-    (action-mul-wide-2 t)
-    (action-element-copy-out-wide-2 t)
-    (action-wide-requires-2 t)
+    (action-mul-short-index t)
+    (action-element-copy-out-short-index t)
+    (action-short-index-requires t)
+    (action-add-short-index t)
+    (action-mul-short-index-2 t)
+    (action-element-copy-out-short-index-2 t)
+    (action-short-index-requires-2 t)
     (action-loop-holds t)
-    (action-mul-wide-3 t)
-    (action-element-copy-out-wide-3 t)
-    (action-wide-requires-3 t)
+    (action-mul-short-index-3 t)
+    (action-element-copy-out-short-index-3 t)
+    (action-short-index-requires-3 t)
     (action-goes-weight-requires t)
     (action-larger-requires t)
     (action-add-k t)
@@ -438,13 +448,13 @@ pub +action-weight+block-weight+class-weight+goes-weight-spec : {M : Type 1} →
     (block-element-copy-out-known t)
     (block-sub-result t)
     (block-returns t)
-    (block-mul-wide t)
-    (block-element-copy-out-wide t)
-    (block-wide-requires t)
-    (block-add-wide t)
-    (block-mul-wide-2 t)
-    (block-element-copy-out-wide-2 t)
-    (block-wide-requires-2 t)
+    (block-mul-short-index t)
+    (block-element-copy-out-short-index t)
+    (block-short-index-requires t)
+    (block-add-short-index t)
+    (block-mul-short-index-2 t)
+    (block-element-copy-out-short-index-2 t)
+    (block-short-index-requires-2 t)
     (block-loop-holds t)
     (block-action-weight-requires t)
     (block-add-capped t)

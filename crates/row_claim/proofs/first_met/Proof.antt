@@ -13,55 +13,46 @@ Inv-loop s map w a from many k₀ k = (k ≤ many) × ((v : Asking s map w a) �
 abbrev μ-loop : tie.MeasureT-loop
 μ-loop s map w a from many k₀ k = many - k
 
-add-number-at : tie.Need-add-number-at Inv-loop μ-loop
-add-number-at c = omega (arith, c .before .before .before .pre .few)
+branches-from-requires : tie.Need-branches-from-requires Inv-loop μ-loop
+branches-from-requires c κs = let v = c .before .before .before .pre in (v .long, omega (arith, v .few))
 
-number-at-requires : tie.Need-number-at-requires Inv-loop μ-loop
-number-at-requires c κs = let v = c .before .before .before .pre in omega (arith, v .few, v .long)
+add-branches-from : tie.Need-add-branches-from Inv-loop μ-loop
+add-branches-from c = omega (arith, c .before .before .before .before .pre .few)
 
-add-number-at-2 : tie.Need-add-number-at-2 Inv-loop μ-loop
-add-number-at-2 c = omega (arith, c .before .before .before .before .pre .few)
-
-number-at-requires-2 : tie.Need-number-at-requires-2 Inv-loop μ-loop
-number-at-requires-2 c κs = let v = c .before .before .before .before .pre in omega (arith, v .few, v .long)
+branches-from-requires-2 : tie.Need-branches-from-requires-2 Inv-loop μ-loop
+branches-from-requires-2 c κs = let v = c .before .before .before .before .pre in (v .long, omega (arith, v .few))
 
 sub-many : tie.Need-sub-many Inv-loop μ-loop
 sub-many c = let v = c .before .before .before .before .before .pre in
-    omega (arith, many-are _ _ _ _ v _ _ (c .before .number-at .ensures) (c .number-at2 .ensures))
+    omega (arith, many-are _ _ _ _ v _ _ (c .before .branches-from .ensures) (c .branches-from2 .ensures))
 
 loop-holds : tie.Need-loop-holds Inv-loop μ-loop
 loop-holds c = (omega arith, λ v. refl)
 
-add-number-at-3 : tie.Need-add-number-at-3 Inv-loop μ-loop
-add-number-at-3 c = let v = c .before .before .before .before .before .before .before .pre in
-    let p = c .before .before .before .number-at .ensures in
-    let q = c .before .before .number-at2 .ensures in
+add-claim-at : tie.Need-add-claim-at Inv-loop μ-loop
+add-claim-at c = let v = c .before .before .before .before .before .before .before .pre in
+    let p = c .before .before .before .branches-from .ensures in
+    let q = c .before .before .branches-from2 .ensures in
     omega (arith, few-are _ _ _ _ v _ _ p q)
 
-add-number-at-4 : tie.Need-add-number-at-4 Inv-loop μ-loop
-add-number-at-4 c = let v = c .before .before .before .before .before .before .before .pre in
-    let p = c .before .before .before .number-at .ensures in
-    let q = c .before .before .number-at2 .ensures in
-    omega (arith, few-are _ _ _ _ v _ _ p q)
-
-number-at-requires-3 : tie.Need-number-at-requires-3 Inv-loop μ-loop
-number-at-requires-3 c κs = let v = c .before .before .before .before .before .before .before .pre in
-    let p = c .before .before .before .number-at .ensures in
-    let q = c .before .before .number-at2 .ensures in
-    omega (arith, v .long, few-are _ _ _ _ v _ _ p q)
+claim-at-requires : tie.Need-claim-at-requires Inv-loop μ-loop
+claim-at-requires c κs = let v = c .before .before .before .before .before .before .before .pre in
+    let p = c .before .before .before .branches-from .ensures in
+    let q = c .before .before .branches-from2 .ensures in
+    (v .long, omega (arith, few-are _ _ _ _ v _ _ p q))
 
 met-requires : tie.Need-met-requires Inv-loop μ-loop
 met-requires c κs = let v = c .before .before .before .before .before .before .before .before .pre in
-    let p = c .before .before .before .before .number-at .ensures in
-    let q = c .before .before .before .number-at2 .ensures in
-    its-claim _ _ _ _ v _ _ p q _ (c .before .loop-test .taken) _ (c .number-at3 .ensures)
+    let p = c .before .before .before .before .branches-from .ensures in
+    let q = c .before .before .before .branches-from2 .ensures in
+    its-claim _ _ _ _ v _ _ p q _ (c .before .loop-test .taken) _ (c .claim-at .ensures)
 
 returns : tie.Need-returns Inv-loop μ-loop
 returns c = λ v.
-    let p = c .before .before .before .before .before .before .number-at .ensures in
-    let q = c .before .before .before .before .before .number-at2 .ensures in
+    let p = c .before .before .before .before .before .before .branches-from .ensures in
+    let q = c .before .before .before .before .before .branches-from2 .ensures in
     let t = c .before .before .before .loop-test .taken in
-    let e = c .before .before .number-at3 .ensures in
+    let e = c .before .before .claim-at .ensures in
     let f = c .before .before .before .before .loop .inv .1 v in
     is-first _ _ _ _ v _ _ p q _ t _ e _ (c .before .met .ensures) f (c .if1 .taken)
 
@@ -72,10 +63,10 @@ loop-less : tie.Need-loop-less Inv-loop μ-loop
 loop-less c = omega (arith, c .before .before .before .loop-test .taken)
 
 loop-again : tie.Need-loop-again Inv-loop μ-loop
-loop-again c = let p = c .before .before .before .before .before .before .number-at .ensures in
-    let q = c .before .before .before .before .before .number-at2 .ensures in
+loop-again c = let p = c .before .before .before .before .before .before .branches-from .ensures in
+    let q = c .before .before .before .before .before .branches-from2 .ensures in
     let t = c .before .before .before .loop-test .taken in
-    let e = c .before .before .number-at3 .ensures in
+    let e = c .before .before .claim-at .ensures in
     let told = c .before .met .ensures in
     let f = c .before .before .before .before .loop .inv .1 in
     (omega (arith, t), λ v. is-behind _ _ _ _ v _ _ p q _ t _ e _ told (f v) (c .if1 .left))
@@ -83,8 +74,8 @@ loop-again c = let p = c .before .before .before .before .before .before .number
 returns-2 : tie.Need-returns-2 Inv-loop μ-loop
 returns-2 c = λ v.
     let l = c .before .loop in
-    let p = c .before .before .before .number-at .ensures in
-    let q = c .before .before .number-at2 .ensures in
+    let p = c .before .before .before .branches-from .ensures in
+    let q = c .before .before .branches-from2 .ensures in
     none-met _ _ _ _ v _ _ p q _ (c .loop-test .left) (l .inv .1 v)
 
 pub first-met-spec : {M : Type 1} → statement M
@@ -93,15 +84,13 @@ first-met-spec =
     (tie.spec
     Inv-loop
     μ-loop
-    add-number-at
-    number-at-requires
-    add-number-at-2
-    number-at-requires-2
+    branches-from-requires
+    add-branches-from
+    branches-from-requires-2
     sub-many
     loop-holds
-    add-number-at-3
-    add-number-at-4
-    number-at-requires-3
+    add-claim-at
+    claim-at-requires
     met-requires
     returns
     add-k

@@ -29,7 +29,7 @@ returns : tie.Need-returns
 returns c = λ d.
     let k = c .before .before .before .before .before .before .u8-at .ensures .0 in
     let j = c .before .before .before .before .u16-at .ensures .0 in
-    rw (c .wide .ensures, c .before .before .before .u32-at .ensures, c .before .before .there .ensures, k, j)
+    rw (c .wide .ensures .0, c .before .before .before .u32-at .ensures, c .before .before .there .ensures, k, j)
     (is-got _ _ d (omega (arith, k, c .before .if1 .taken)))
 
 from-twos-requires : tie.Need-from-twos-requires
@@ -49,7 +49,7 @@ returns-2 c = λ d.
     let n = c .before .before .before .before .before .u32-at .ensures in
     let x = c .before .before .before .before .there .ensures in
     c .holds .ensures
-    ∙ rw (c .before .wide2 .ensures, c .before .before .from-twos .ensures, n, x, k, r, j)
+    ∙ rw (c .before .wide2 .ensures .0, c .before .before .from-twos .ensures, n, x, k, r, j)
     (is-held _ _ d (omega (arith, k, c .before .before .before .if1 .left)))
 
 pub item-met-spec : {M : Type 1} → statement M

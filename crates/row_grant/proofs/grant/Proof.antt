@@ -28,7 +28,7 @@ into-requires c κs =
     let v = c .before .before .before .before .before .before .before .before .before .before .before .before .pre in
     let at = c .before .before .before .before .before .before .before .before .number-at .ensures in
     goes-in v at (c .before .before .before .before .before .before .take-all .ensures)
-    (c .before .wide .ensures ∙ c .before .before .u16-at .ensures .0) (c .before .before .before .if1 .taken)
+    (c .before .wide .ensures .0 ∙ c .before .before .u16-at .ensures .0) (c .before .before .before .if1 .taken)
 
 same-length : tie.Need-same-length
 same-length c = search needs
@@ -37,7 +37,8 @@ returns : tie.Need-returns
 returns c = λ v.
     let at = c .before .before .before .before .before .before .before .before .before .before .before .number-at .ensures in
     let told = c .before .before .before .before .before .before .before .before .before .take-all .ensures in
-    let b = c .before .before .before .before .wide .ensures ∙ c .before .before .before .before .before .u16-at .ensures .0 in
+    let wide = c .before .before .before .before .wide .ensures .0 in
+    let b = wide ∙ c .before .before .before .before .before .u16-at .ensures .0 in
     gone-in v at told b (c .before .before .before .before .before .before .if1 .taken) (c .before .before .into .ensures)
 
 past-requires : tie.Need-past-requires

@@ -21,9 +21,9 @@ wide-requires c κs = search needs
 returns : tie.Need-returns
 returns c = rw (
   c .before .before .before .before .u8-at .ensures .0,
-  c .before .before .index .ensures,
+  c .before .before .index .ensures .0,
   c .before .before .before .u16-at .ensures .0,
-  c .wide .ensures,
+  c .wide .ensures .0,
   c .before .u32-at .ensures,
 )
 
