@@ -3,30 +3,25 @@ ghost use mathlib.Core.Path.{_≡_};
 ghost use Prim.Native.Nat.{_+_, _*_, _≤_, _<_};
 ghost use lib.ListN.{length};
 ghost use Rattle.semantics.specs.Bytes.{u8, u16, u32};
-
-fn wide(x: u8) -> u32
-    ensures { λ r. ⌜ (r ≡ x) × (r < 256) ⌝ }
-{
-    x as u32
-}
+use base_numbers::byte;
 
 pub fn u8_at(s: &[u8], at: usize) -> u32
     requires { ⌜ at < length (now s) ⌝ }
     ensures { λ r. ⌜ (r ≡ u8 (now (s .entry)) at) × (r < 256) ⌝ }
 {
-    wide(s[at])
+    base_wide::wide_byte(s[at])
 }
 
 pub fn u16_at(s: &[u8], at: usize) -> u32
     requires { ⌜ at + 2 ≤ length (now s) ⌝ }
     ensures { λ r. ⌜ (r ≡ u16 (now (s .entry)) at) × (r < 65536) ⌝ }
 {
-    wide(s[at]) + 256 * wide(s[at + 1])
+    u8_at(s, at) + byte::ONE * u8_at(s, at + 1)
 }
 
 pub fn u32_at(s: &[u8], at: usize) -> u32
     requires { ⌜ at + 4 ≤ length (now s) ⌝ }
     ensures { λ r. ⌜ r ≡ u32 (now (s .entry)) at ⌝ }
 {
-    u16_at(s, at) + 65536 * u16_at(s, at + 2)
+    u16_at(s, at) + byte::TWO * u16_at(s, at + 2)
 }
