@@ -127,8 +127,8 @@ module _ {bs map w : List ℕ} {p : ℕ} (v : Floored bs map w p) where
 
 -- THE RECORD of the action where it stands, at `place`.
 module _ {bs map w : List ℕ} {p a : ℕ} (v : Stands bs map w p a) where
-  pub in-map : 257 + a < length map
-  in-map = omega (arith, few (v .asked), v .asked .acting .running .mapped .long)
+  pub in-map : (length map ≡ 18_754) × (a < 1_024)
+  in-map = (v .asked .acting .running .mapped .long, omega (arith, few (v .asked)))
 
   module _ {place : ℕ} (place-is : place ≡ getD map (257 + a) 0) where
     pub record-at : ActionAt bs place (v .action)

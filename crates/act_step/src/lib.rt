@@ -7,12 +7,9 @@ ghost use Rattle.semantics.specs.Step.{moves, occurs, step};
 ghost use Rattle.act_floor.specs.Acting.{Going, Roomy, Stepped};
 ghost use Rattle.act_step.specs.Steps.{Floored, Stands, Meets, MeetsAt, acted, doing, Waking, Occurring};
 use act_floor::Went;
-
-fn wide(x: u32) -> u64
-    ensures { λ r. ⌜ (r ≡ x) × (r < 4294967296) ⌝ }
-{
-    x as u64
-}
+use base_numbers::kind;
+use base_numbers::notice;
+use base_numbers::row;
 
 // ---- what a process does, by the kind and the body of the record where it stands
 
@@ -33,15 +30,15 @@ fn act_on_value<'a>(
         → Stepped (doing v) (r .fault) (r .lines)
         (now (w .entry)) (now (w .exit)) at (now (out .entry)) (now (out .exit))) ⌝ }
 {
-    if kind == 16 {
+    if kind == kind::HOLD {
         return act_hold_prio_lset_trace::hold(body, w, p);
     }
-    if kind == 17 {
+    if kind == kind::PRIO {
         return act_hold_prio_lset_trace::prio(body, w, p);
     }
     let i = file_fields::u16_at(body, 0) as usize;
     let rest = &body[2..];
-    if kind == 18 {
+    if kind == kind::SET {
         return act_set_become::set_global(rest, i, s, map, w, out, at, p);
     }
     act_hold_prio_lset_trace::set_local(rest, i, w, p)
@@ -65,19 +62,19 @@ fn act_on_number<'a>(
         (now (w .entry)) (now (w .exit)) at (now (out .entry)) (now (out .exit))) ⌝ }
 {
     let first = file_fields::u16_at(body, 0);
-    if kind == 24 {
+    if kind == kind::BECOME {
         return act_set_become::become_slave(first as usize, s, map, w, out, at, p);
     }
-    if kind == 20 {
+    if kind == kind::DO {
         let block = file_fields::u16_at(body, 2);
-        return act_do_close::do_times(wide(first), wide(block), w, p);
+        return act_do_close::do_times(base_wide::wide(first), base_wide::wide(block), w, p);
     }
-    if kind == 23 {
+    if kind == kind::PUTS {
         let many = file_fields::u16_at(body, 2);
-        return act_puts_start::puts(w, out, at, p, wide(first), many as usize);
+        return act_puts_start::puts(w, out, at, p, base_wide::wide(first), many as usize);
     }
-    let amount = wide(file_fields::u32_at(body, 2));
-    if kind == 21 {
+    let amount = base_wide::wide(file_fields::u32_at(body, 2));
+    if kind == kind::PUTR {
         return act_putr_putb::putr(first as usize, amount, w, p);
     }
     act_putr_putb::putb(first as usize, amount, w, p)
@@ -101,19 +98,19 @@ fn act_on_claim<'a>(
         → Stepped (doing (v .meets)) (r .fault) (r .lines)
         (now (w .entry)) (now (w .exit)) at (now (out .entry)) (now (out .exit))) ⌝ }
 {
-    if kind == 25 {
+    if kind == kind::REQ {
         return act_req_try_while::request(s, map, w, out, at, p, a, false);
     }
-    if kind == 26 {
+    if kind == kind::TRY {
         return act_req_try_while::request(s, map, w, out, at, p, a, true);
     }
-    if kind == 27 {
+    if kind == kind::WHILE {
         return act_req_try_while::pass_or_enter(s, map, w, out, at, p, a);
     }
-    if kind == 28 {
+    if kind == kind::START {
         return act_puts_start::start(body, map, w, out, at, p);
     }
-    if kind == 29 {
+    if kind == kind::TRACE {
         return act_hold_prio_lset_trace::trace(body, w, out, at, p);
     }
     act_do_close::close(w, out, at, p)
@@ -136,10 +133,10 @@ fn act<'a>(
         → Stepped (doing (v .meets)) (r .fault) (r .lines)
         (now (w .entry)) (now (w .exit)) at (now (out .entry)) (now (out .exit))) ⌝ }
 {
-    if kind < 20 {
+    if kind < kind::DO {
         return act_on_value(kind, body, s, map, w, out, at, p);
     }
-    if kind < 25 {
+    if kind < kind::REQ {
         return act_on_number(kind, body, s, map, w, out, at, p);
     }
     act_on_claim(kind, body, s, map, w, out, at, p, a)
@@ -161,7 +158,7 @@ fn meets<'a>(
         → Stepped (acted (v .asked .acting)) (r .fault) (r .lines)
         (now (w .entry)) (now (w .exit)) at (now (out .entry)) (now (out .exit))) ⌝ }
 {
-    let place = file_map::number_at(map, 257 + a);
+    let place = file_map::place_of(map, a);
     let kind = file_fields::u16_at(s, place + 2);
     let from = place + 4;
     let to = place + 2 + file_fields::u16_at(s, place) as usize;
@@ -198,7 +195,7 @@ fn set_floor(w: &mut [u64], f: u64)
     requires { ⌜ length (now w) ≡ 10696 ⌝ }
     ensures { λ _. ⌜ now (w .exit) ≡ set (now (w .entry)) 3 f ⌝ }
 {
-    w[3] = f;
+    w[row::FLOOR] = f;
 }
 
 // The process in place p takes the floor; where that faults nobody has it again.
@@ -241,12 +238,12 @@ fn occurs<'a>(
 {
     let kind = base_ordered::kind_of(word);
     let i = base_ordered::number_of(word) as usize;
-    if kind == 0 {
+    if kind == notice::WAKES {
         return wakes(s, map, w, out, at, i);
     }
     let n = base_ordered::amount_of(word);
     let g = base_ordered::giver_of(word);
-    if kind == 1 {
+    if kind == notice::RESOURCE {
         return act_return::resource_back(i, n, g, s, map, w, out, at);
     }
     act_return::bin_back(i, n, g, s, map, w, out, at)
@@ -260,8 +257,8 @@ fn next<'a>(s: &'a [u8], map: &'a [u32], w: &'a mut [u64], out: &'a mut [u8], at
         → Stepped (step (v .running .model) (v .running .is)) (r .fault) (r .lines)
         (now (w .entry)) (now (w .exit)) at (now (out .entry)) (now (out .exit))) ⌝ }
 {
-    let clock = w[0];
-    let key = w[200];
+    let clock = w[row::CLOCK];
+    let key = w[row::KEYS];
     let word = row_lists::take_first(w);
     let went = occurs(s, map, w, out, at, word);
     if went.fault != 0 {
@@ -277,7 +274,7 @@ pub fn step<'a>(s: &'a [u8], map: &'a [u32], w: &'a mut [u64], out: &'a mut [u8]
         → Stepped (step (v .running .model) (v .running .is)) (r .fault) (r .lines)
         (now (w .entry)) (now (w .exit)) at (now (out .entry)) (now (out .exit))) ⌝ }
 {
-    let floor = w[3];
+    let floor = w[row::FLOOR];
     if floor == 0 {
         return next(s, map, w, out, at);
     }
