@@ -195,7 +195,14 @@ fn free_one<'a>(w: &'a mut [u64], out: &'a mut [u8], at: usize, i: u64, r: usize
 {
     let clock = act_floor::clock_of(w);
     let number = row_process::number_of(w, r) as u32;
-    base_journal::write_line(out, at, line::FREED, clock as u32, number, code::ZERO + i as u32);
+    base_journal::write_line(
+        out,
+        at,
+        line::FREED,
+        clock as u32,
+        number,
+        code::ZERO + i as u32,
+    );
     row_lists::wake(w, clock, r);
 }
 

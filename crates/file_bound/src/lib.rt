@@ -39,7 +39,11 @@ fn added(w: u64, v: u64) -> u64
     ensures { λ r. ⌜ r ≡ cap (w + v) ⌝ }
 {
     let x = w + v;
-    if x < file_weight::OVER { x } else { file_weight::OVER }
+    if x < file_weight::OVER {
+        x
+    } else {
+        file_weight::OVER
+    }
 }
 
 // The weight of an ENTITY record's class; 0 of every other record. The memo has what is found already, and gets what is found

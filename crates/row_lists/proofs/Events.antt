@@ -44,16 +44,22 @@ module _ {w : List ℕ} {P : State → Type 0} (v : Shown w P) where
 
   pub keys-there : Keys (s .events) (take Row.EVENTS_MOST (drop Row.KEYS w))
   keys-there =
-      record { few = v .sized .events-few; are = ap (λ l. take Row.EVENTS_MOST (drop Row.KEYS l)) (v .shows)
-      ∙ keys-part s (v .sized) }
+      record {
+        few = v .sized .events-few;
+        are = ap (λ l. take Row.EVENTS_MOST (drop Row.KEYS l)) (v .shows)
+            ∙ keys-part s (v .sized);
+      }
 
   pub keys-canon : Canon (take Row.EVENTS_MOST (drop Row.KEYS w)) (getD w Row.EVENTS 0)
   keys-canon = canon eventKey (s .events) Row.EVENTS_MOST _ _ (keys-there .are) count-is
 
   pub words-here : Words (s .events) (take Row.EVENTS_MOST (drop Row.NOTICES w))
   words-here =
-      record { few = v .sized .events-few; are = ap (λ l. take Row.EVENTS_MOST (drop Row.NOTICES l)) (v .shows)
-      ∙ words-part s (v .sized) }
+      record {
+        few = v .sized .events-few;
+        are = ap (λ l. take Row.EVENTS_MOST (drop Row.NOTICES l)) (v .shows)
+            ∙ words-part s (v .sized);
+      }
 
   pub words-here-canon : Canon (take Row.EVENTS_MOST (drop Row.NOTICES w)) (getD w Row.EVENTS 0)
   words-here-canon = canon eventWord (s .events) Row.EVENTS_MOST _ _ (words-here .are) count-is

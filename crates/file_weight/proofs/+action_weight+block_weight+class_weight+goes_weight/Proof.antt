@@ -371,8 +371,11 @@ block-returns-2 t c = let o = c .before .before .before .before .before .before 
     let ahead = graph-ahead _ _ _ _ (p .0) (o .args .own .now) (o .args .times .now) in
     let e = sum-ended w ahead (p .1 .0) (c .loop-test .left) in (
       known-more _ _ _ (o .args .b) _ (omega (arith, p .0 .laid .few, p .1 .0)) (w .known) e,
-      (sum-noted w ahead (p .1 .0) (c .loop-test .left) (c .before .before .before .before .before .before .if1 .left), omega
-      (arith, e)),
+      (
+        sum-noted w ahead (p .1 .0) (c .loop-test .left) (c .before .before .before .before .before .before .if1 .left),
+        omega
+            (arith, e),
+      ),
     )
 
 abbrev class-claims : ℕ → class-lts.Claims
