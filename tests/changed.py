@@ -108,7 +108,7 @@ CHANGES = [
      'tail::BRANCHES => !all_branches(branch::ONCE, [0u32; group::MANY], 0, bs),', 'tail::BRANCHES => false,'),
     ('PUTR weighs 1', 'file_index', '[1, 1, 1, 1, 1, 2, 2, 1,', '[1, 1, 1, 1, 1, 1, 2, 1,'),
     ('a TRY weighs its last branch', 'file_weight', 'top = larger(top, v);', 'top = v;'),
-    ('OVER from 4,294,967,295 on', 'file_bound', 'if w < file_weight::OVER {', 'if w < file_weight::OVER - 1 {'),
+    ('OVER from 4,294,967,295 on', 'file_bound', 'if w < limit::OVER {', 'if w < limit::OVER - 1 {'),
     # ---- soundness
     ('a return of lower priority is sound', 'row_sound_lists', '(rank == code::OF_RETURNS)', '(rank <= code::OF_RETURNS)'),
     ('a time before the clock is sound', 'row_sound_lists',

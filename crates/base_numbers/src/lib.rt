@@ -1,5 +1,5 @@
 // The numbers of document 01 and the places of the engine's rows, by name: once for the code. The definitions have those of
-// document 01 under the same words (semantics, Numbers and Kinds), and the specs of this crate those of the rows.
+// document 01 in their own words (semantics, Numbers and Kinds), and the specs of this crate those of the rows in these words.
 
 // 1 to 10 refuse a model.
 pub mod refusal {
@@ -210,6 +210,9 @@ pub mod limit {
 
     // The steps that `plan` makes.
     pub const PLAN_STEPS: u32 = 1000000;
+
+    // The least bound that is OVER.
+    pub const OVER: u64 = 4294967296;
 }
 
 // Codes of numbers of the i32 range, v + 2^31: of 0, of the lowest priority of a process, of the priority of returns; and the

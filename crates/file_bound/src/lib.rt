@@ -39,11 +39,7 @@ fn added(w: u64, v: u64) -> u64
     ensures { λ r. ⌜ r ≡ cap (w + v) ⌝ }
 {
     let x = w + v;
-    if x < file_weight::OVER {
-        x
-    } else {
-        file_weight::OVER
-    }
+    if x < limit::OVER { x } else { limit::OVER }
 }
 
 // The weight of an ENTITY record's class; 0 of every other record. The memo has what is found already, and gets what is found
@@ -135,7 +131,7 @@ pub fn bound(s: &[u8]) -> Bounded
         return Bounded::None;
     }
     let w = total(s);
-    if w < file_weight::OVER {
+    if w < limit::OVER {
         return Bounded::At(w as u32);
     }
     Bounded::Over

@@ -9,9 +9,6 @@ ghost use Rattle.file_weight.specs.Weigh.{actionWeightOf, weightOf, cap,
 ghost use Rattle.file_weight.specs.Weigh.{actsIn, Stands};
 use base_numbers::limit;
 
-// The least weight that is OVER.
-pub const OVER: u64 = 4294967296;
-
 fn long(x: u16) -> u64
     ensures { λ r. ⌜ (r ≡ x) × (r ≤ 65535) ⌝ }
 {
@@ -27,7 +24,7 @@ fn larger(x: u64, y: u64) -> u64
 fn capped(x: u64) -> u64
     ensures { λ r. ⌜ r ≡ cap x ⌝ }
 {
-    if x < OVER { x } else { OVER }
+    if x < limit::OVER { x } else { limit::OVER }
 }
 
 // Whether action a goes nowhere by `plain`, which is `from` without the STARTs.
