@@ -18,7 +18,7 @@ LENT = re.compile(r"(\w+): &(?:'\w+ )?mut ")
 CODE = re.compile(r'`([^`]+)`')
 # What is short for "given what the `requires` asks for", and that.
 SHORT = {'Done': 'Doing', 'PutBack': 'PuttingBack'}
-# An `ensures` may speak of each of these: its law shows that there is one.
+# An `ensures` may speak of each of these where its form says `of all`: its law shows that there is one.
 EACH = {'List Process', 'Process', 'Model'}
 
 
@@ -72,7 +72,7 @@ def unsaid(contract, form):
     yield from (f'its `ensures` has no {part}' for part in CODE.findall(form) if not re.search(rf'\b{part}\b', contract.says))
     yield from (f'its `ensures` leaves {memory} open' for memory in contract.lent if f'({memory} .exit)' not in contract.says)
     yield from (f'its `requires` does not ask for {record}' for record in contract.given()
-                if record not in contract.asks and record not in EACH)
+                if record not in contract.asks and not (record in EACH and form.startswith('of all')))
 
 
 def main():
