@@ -74,7 +74,7 @@ CHANGES = [
     ('a WHILE is met once', 'act_block_end',
      'file_fields::u16_at(s, place + 2) == kind::WHILE', 'file_fields::u16_at(s, place + 2) == 99'),
     ('locals left where a process ended', 'row_begin_end',
-     'fill(&mut row[0..process::HELD], 0);', 'fill(&mut row[0..process::LOCALS], 0);'),
+     'fill(&mut row[process::NUMBER..process::HELD], 0);', 'fill(&mut row[process::NUMBER..process::LOCALS], 0);'),
     ('the highest free place', 'base_places', 'u64::trailing_zeros(', '63 - u64::leading_zeros('),
     ('PUTS frees the last first', 'act_puts_start', 'let r = places[k] as usize;', 'let r = places[n - 1 - k] as usize;'),
     ('START at the offset alone', 'act_puts_start', 'act_floor::clock_of(w) + base_wide::wide(', 'base_wide::wide('),

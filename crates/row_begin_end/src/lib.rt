@@ -28,7 +28,7 @@ fn vacate(row: &mut [u64])
     requires { ⌜ Leaving (now row) ⌝ }
     ensures { λ _. ⌜ now (row .exit) ≡ processRow nobody ⌝ }
 {
-    fill(&mut row[0..process::HELD], 0);
+    fill(&mut row[process::NUMBER..process::HELD], 0);
     row[process::PRIORITY] = code::ZERO_WORD;
     row[process::BLOCKS] = 0;
 }
