@@ -339,13 +339,14 @@ def compare_desk(folder):
 
 def main(words):
     if words[:1] == ['--desk']:
-        wrong = list(compare_desk(words[1]))
+        said, wrong = 'its C program prints what it says', list(compare_desk(words[1]))
     elif words:
-        wrong = list(compare_runs(words))
+        said, wrong = words[-1] + ' prints what it says', list(compare_runs(words))
     else:
-        wrong = [*compare_tables(), *compare_header(), *compare_files()]
+        said, wrong = 'its tables are those of the definitions', [*compare_tables(), *compare_header(), *compare_files()]
     if wrong:
         sys.exit('\n'.join(['docs/MODEL.md:'] + wrong))
+    print('docs/MODEL.md:', said)
 
 
 if __name__ == '__main__':
