@@ -37,36 +37,39 @@ use Rattle.row_lists.specs.Lists.{Any}
 use Rattle.row_begin_end.specs.Begins.{Ending}
 
 -- WHAT IS MADE OF IT, where the process is in the block f within fs.
-module _ (m : Model) (s : State) (p : ℕ) (q : Process) (f : Frame) (fs : List Frame) (e : q .frames ≡ f ∷ fs) where
-  pub goes-round : 1 < f .rounds → exhausted m s p q (q .frames) ≡ ok (quiet (put p (again q) s))
+module _ (m : Model) (s : State) (p : ℕ) (f : Frame) (fs : List Frame) (e : process s p .frames ≡ f ∷ fs) where
+  abbrev q : Process
+  q = process s p
+
+  pub goes-round : 1 < f .rounds → exhausted m s p (q .frames) ≡ ok (quiet (put p (again q) s))
   unfolding exhausted again restarted
   goes-round h =
-      let g : exhausted m s p q (f ∷ fs) ≡ ok (quiet (put p (with-frames q (restarted (f ∷ fs))) s)) =
+      let g : exhausted m s p (f ∷ fs) ≡ ok (quiet (put p (with-frames q (restarted (f ∷ fs))) s)) =
       rw (lt-ltb 1 (f .rounds) h) in
-      ap (exhausted m s p q) e ∙ g ∙ ap (λ l. ok (quiet (put p (with-frames q (restarted l)) s))) (sym e)
+      ap (exhausted m s p) e ∙ g ∙ ap (λ l. ok (quiet (put p (with-frames q (restarted l)) s))) (sym e)
 
   module _ (last : f .rounds ≤ 1) where
-    pub leaves-body : fs ≡ [] → exhausted m s p q (q .frames) ≡ ends m s p q
+    pub leaves-body : fs ≡ [] → exhausted m s p (q .frames) ≡ ends m s p
     unfolding exhausted
     leaves-body h =
-        let g : exhausted m s p q (f ∷ []) ≡ ends m s p q = rw (le-ltb 1 (f .rounds) last) in
-        ap (exhausted m s p q) e ∙ ap (λ l. exhausted m s p q (f ∷ l)) h ∙ g
+        let g : exhausted m s p (f ∷ []) ≡ ends m s p = rw (le-ltb 1 (f .rounds) last) in
+        ap (exhausted m s p) e ∙ ap (λ l. exhausted m s p (f ∷ l)) h ∙ g
 
-    pub leaves-block : isEmpty fs ≡ false → exhausted m s p q (q .frames) ≡ ok (quiet (put p (with-frames q (leave m fs)) s))
+    pub leaves-block : isEmpty fs ≡ false → exhausted m s p (q .frames) ≡ ok (quiet (put p (with-frames q (leave m fs)) s))
     unfolding exhausted
     leaves-block h =
-        let g : exhausted m s p q (f ∷ fs) ≡ ok (quiet (put p (with-frames q (leave m fs)) s)) =
+        let g : exhausted m s p (f ∷ fs) ≡ ok (quiet (put p (with-frames q (leave m fs)) s)) =
         rw (le-ltb 1 (f .rounds) last, h) in
-        ap (exhausted m s p q) e ∙ g
+        ap (exhausted m s p) e ∙ g
 
-module _ (m : Model) (s : State) (p : ℕ) (q : Process) (t : Bool)
-    (e : t ≡ all (λ n. eqb n 0) (q .held) && isEmpty (q .slaves)) where
-  pub owing : t ≡ false → ends m s p q ≡ fails No.OWING
+module _ (m : Model) (s : State) (p : ℕ) (t : Bool)
+    (e : t ≡ all (λ n. eqb n 0) (process s p .held) && isEmpty (process s p .slaves)) where
+  pub owing : t ≡ false → ends m s p ≡ fails No.OWING
   unfolding ends _>>_ need
   owing h = rw (sym e ∙ h)
 
   pub owing-nothing : t ≡ true
-      → ends m s p q ≡ ok (after (line s (q .number) 2 (valueOf 2_147_483_648)) (quiet (with-floor (put p nobody s) empty)))
+      → ends m s p ≡ ok (after (line s (process s p .number) 2 (valueOf 2_147_483_648)) (quiet (with-floor (put p nobody s) empty)))
   unfolding ends _>>_ need valueOf
   owing-nothing h = rw (sym e ∙ h)
 
@@ -210,15 +213,15 @@ module _ {w : List ℕ} {p : ℕ} (v : Ends w p) {t : Bool} (answer : OwesNothin
 
   pub ended : {w′ : List ℕ} → w′ ≡ workOf (with-floor gone empty) → (at : ℕ) (journal : List ℕ) {journal′ : List ℕ}
       → journal′ ≡ wroteAt at (line (v .running .is) (who .number) 2 (valueOf 2_147_483_648) ∷ []) journal
-      → Stepped (ends (v .running .model) (v .running .is) p who) 0 1 w w′ at journal journal′
+      → Stepped (ends (v .running .model) (v .running .is) p) 0 1 w w′ at journal journal′
   ended f at journal g =
-      rw (owing-nothing (v .running .model) (v .running .is) p who t (answer (looked-at v)) clear) (refl, (refl, (f, g)))
+      rw (owing-nothing (v .running .model) (v .running .is) p t (answer (looked-at v)) clear) (refl, (refl, (f, g)))
 
 -- or something is.
 pub owed : {w : List ℕ} {p : ℕ} (v : Ends w p) {t : Bool} → OwesNothing w p t → t ≡ false → (at : ℕ) (journal : List ℕ)
-    → Stepped (ends (v .running .model) (v .running .is) p (process (v .running .is) p)) 26 0 w w at journal journal
+    → Stepped (ends (v .running .model) (v .running .is) p) 26 0 w w at journal journal
 owed {p = p} v {t} answer h at journal =
-    rw (owing (v .running .model) (v .running .is) p (process (v .running .is) p) t (answer (looked-at v)) h)
+    rw (owing (v .running .model) (v .running .is) p t (answer (looked-at v)) h)
     (refl, (refl, (refl, refl)))
 
 -- A BLOCK WITHIN OTHERS IS LEFT: the process stands then at the action that named it.
@@ -373,11 +376,11 @@ module _ {bs map w : List ℕ} {p : ℕ} (v : Exhausted bs map w p) where
     going-round = record { is = now-is; shows = v .running .shows; before = is-sized run; after = again-sized; given = blocks }
 
     pub went-round : {w′ : List ℕ} → w′ ≡ workOf (put p (again its-process) now-is) → (at : ℕ) (journal : List ℕ)
-        → Stepped (exhausted (v .running .model) now-is p its-process (its-process .frames)) 0 0 w w′ at journal journal
+        → Stepped (exhausted (v .running .model) now-is p (its-process .frames)) 0 0 w w′ at journal journal
     unfolding wroteAt
     went-round f at journal =
         rw
-        (goes-round (v .running .model) now-is p its-process (blocks .innermost) (blocks .around) (blocks .frames-are)
+        (goes-round (v .running .model) now-is p (blocks .innermost) (blocks .around) (blocks .frames-are)
         rounds-more)
         (refl, (refl, (f, refl)))
 
@@ -402,10 +405,10 @@ module _ {bs map w : List ℕ} {p : ℕ} (v : Exhausted bs map w p) where
           frames-are = blocks .frames-are ∙ ap (λ l. blocks .innermost ∷ l) (alone-in h);
         }
 
-    pub body-left : n ≡ 1 → exhausted (v .running .model) now-is p its-process (its-process .frames)
-        ≡ ends (v .running .model) now-is p its-process
+    pub body-left : n ≡ 1 → exhausted (v .running .model) now-is p (its-process .frames)
+        ≡ ends (v .running .model) now-is p
     body-left h =
-        leaves-body (v .running .model) now-is p its-process (blocks .innermost) (blocks .around) (blocks .frames-are)
+        leaves-body (v .running .model) now-is p (blocks .innermost) (blocks .around) (blocks .frames-are)
         last-round (alone-in h)
 
     abbrev pub in-block : (n ≡ 1 → ⊥) → Leaves bs map w p
@@ -422,10 +425,10 @@ module _ {bs map w : List ℕ} {p : ℕ} (v : Exhausted bs map w p) where
     pub block-left : (h : n ≡ 1 → ⊥) {w′ : List ℕ}
         → w′ ≡ workOf (put p (with-frames its-process (leave (v .running .model) (blocks .around))) now-is)
         → (at : ℕ) (journal : List ℕ)
-        → Stepped (exhausted (v .running .model) now-is p its-process (its-process .frames)) 0 0 w w′ at journal journal
+        → Stepped (exhausted (v .running .model) now-is p (its-process .frames)) 0 0 w w′ at journal journal
     unfolding wroteAt
     block-left h f at journal =
         rw
-        (leaves-block (v .running .model) now-is p its-process (blocks .innermost) (blocks .around) (blocks .frames-are)
+        (leaves-block (v .running .model) now-is p (blocks .innermost) (blocks .around) (blocks .frames-are)
         last-round (within-others h))
         (refl, (refl, (f, refl)))

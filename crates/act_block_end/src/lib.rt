@@ -1,6 +1,6 @@
 // The end of a block: round again, back to the action that named it, or the end of the process.
 ghost use mathlib.Core.Path.{_≡_};
-ghost use Rattle.semantics.specs.State.{with-frames};
+ghost use Rattle.semantics.specs.State.{process, with-frames};
 ghost use Rattle.semantics.specs.Step.{comesBack, leave, ends, exhausted};
 ghost use Rattle.row_work.specs.Work.{workOf};
 ghost use Rattle.row_process.specs.Process.{changed};
@@ -18,7 +18,7 @@ use base_numbers::map;
 fn ends<'a>(w: &'a mut [u64], out: &'a mut [u8], at: usize, p: usize) -> Went
     requires { ⌜ Ends (now w) p ⌝ }
     requires { ⌜ Roomy at (now out) ⌝ }
-    ensures { λ r. ⌜ ((v : Ends (now (w .entry)) p) → Stepped (made (v .running) p (λ m s q. ends m s p q))
+    ensures { λ r. ⌜ ((v : Ends (now (w .entry)) p) → Stepped (made (v .running) (λ m s. ends m s p))
         (r .fault) (r .lines) (now (w .entry)) (now (w .exit)) at (now (out .entry)) (now (out .exit))) ⌝ }
 {
     if !row_process::holds_nothing(w, p) {
@@ -69,7 +69,7 @@ pub fn exhausted<'a>(
     requires { ⌜ Exhausted (now s) (now map) (now w) p ⌝ }
     requires { ⌜ Roomy at (now out) ⌝ }
     ensures { λ r. ⌜ ((v : Exhausted (now (s .entry)) (now (map .entry)) (now (w .entry)) p)
-        → Stepped (made (runs (v .running)) p (λ m s q. exhausted m s p q (q .frames)))
+        → Stepped (made (runs (v .running)) (λ m s. exhausted m s p (process s p .frames)))
         (r .fault) (r .lines) (now (w .entry)) (now (w .exit)) at (now (out .entry)) (now (out .exit))) ⌝ }
 {
     if 1 < row_process::rounds_at(w, p) {

@@ -24,15 +24,15 @@ module _ {w : List ℕ} {p : ℕ} {x : Action} (v : On w p x) where
   who = process state p
 
   module _ (n b : ℕ) {w′ : List ℕ} where
-    pub done-none : n ≡ 0 → w′ ≡ workOf (put p (past who) state) → SteppedQuietly (doTimes model state p who n b) 0 0 w w′
-    done-none h f = rw (do-none model state p who n b h) (refl, (refl, (f, refl)))
+    pub done-none : n ≡ 0 → w′ ≡ workOf (put p (past who) state) → SteppedQuietly (doTimes model state p n b) 0 0 w w′
+    done-none h f = rw (do-none model state p n b h) (refl, (refl, (f, refl)))
 
     pub done-some : (n ≡ 0 → ⊥) → w′ ≡ workOf (put p (into n b who) state)
-        → SteppedQuietly (doTimes model state p who n b) 0 0 w w′
-    done-some h f = rw (do-some model state p who n b h) (refl, (refl, (f, refl)))
+        → SteppedQuietly (doTimes model state p n b) 0 0 w w′
+    done-some h f = rw (do-some model state p n b h) (refl, (refl, (f, refl)))
 
   pub closed : {w′ : List ℕ} → w′ ≡ workOf (now-closed (put p (past who) state)) → (at : ℕ) (out : List ℕ) {out′ : List ℕ}
       → out′ ≡ wroteAt at (line state (who .number) 10 (valueOf 2_147_483_648) ∷ []) out
-      → Stepped (close model state p who) 0 1 w w′ at out out′
+      → Stepped (close model state p) 0 1 w w′ at out out′
   unfolding close valueOf
   closed f at out g = (refl, (refl, (f, g)))

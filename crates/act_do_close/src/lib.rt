@@ -14,7 +14,7 @@ use base_numbers::row;
 
 pub fn do_times(n: u64, b: u64, w: &mut [u64], p: usize) -> Went
     requires { ⌜ On (now w) p (DO n b) ⌝ }
-    ensures { λ r. ⌜ ((v : On (now (w .entry)) p (DO n b)) → SteppedQuietly (made (v .running) p (λ m s q. doTimes m s p q n b))
+    ensures { λ r. ⌜ ((v : On (now (w .entry)) p (DO n b)) → SteppedQuietly (made (v .running) (λ m s. doTimes m s p n b))
         (r .fault) (r .lines) (now (w .entry)) (now (w .exit))) ⌝ }
 {
     if n == 0 {
@@ -35,7 +35,7 @@ fn set_closed(w: &mut [u64])
 pub fn close<'a>(w: &'a mut [u64], out: &'a mut [u8], at: usize, p: usize) -> Went
     requires { ⌜ On (now w) p CLOSE ⌝ }
     requires { ⌜ Roomy at (now out) ⌝ }
-    ensures { λ r. ⌜ ((v : On (now (w .entry)) p CLOSE) → Stepped (made (v .running) p (λ m s q. close m s p q))
+    ensures { λ r. ⌜ ((v : On (now (w .entry)) p CLOSE) → Stepped (made (v .running) (λ m s. close m s p))
         (r .fault) (r .lines) (now (w .entry)) (now (w .exit)) at (now (out .entry)) (now (out .exit))) ⌝ }
 {
     act_floor::note(w, p, out, at, line::CLOSED, code::ZERO);

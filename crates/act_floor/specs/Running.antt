@@ -5,7 +5,7 @@ use mathlib.Core.List.{List}
 use mathlib.Core.Option.{some}
 use Rattle.semantics.specs.Words.{Outcome}
 use Rattle.semantics.specs.Model.{Action, Model}
-use Rattle.semantics.specs.State.{State, Process, heldBy, process}
+use Rattle.semantics.specs.State.{State, heldBy, process}
 use Rattle.semantics.specs.Claim.{standsIn}
 use Rattle.semantics.specs.Walk.{Next}
 use Rattle.promises.specs.Fit.{Fit, Nested}
@@ -46,6 +46,6 @@ module _ {bs map w : List ℕ} where
   abbrev pub on : {p : ℕ} {x : Action} → Acting bs map w p x → On w p x
   on a = record { running = runs (a .running); on-floor = a .on-floor; stands = a .stands }
 
--- What the definitions make of the model, the state and the process in place p.
-abbrev pub made : {w : List ℕ} → Runs w → ℕ → (Model → State → Process → Outcome Next) → Outcome Next
-made r p f = f (r .model) (r .is) (process (r .is) p)
+-- What the definitions make of the model and the state.
+abbrev pub made : {w : List ℕ} → Runs w → (Model → State → Outcome Next) → Outcome Next
+made r f = f (r .model) (r .is)

@@ -10,7 +10,7 @@ use Rattle.semantics.specs.Words.{ok, fails, _>>=_, _>>_, need}
 use Rattle.semantics.specs.Numbers as No
 use Rattle.semantics.specs.Numbers.{lowest}
 use Rattle.semantics.specs.Model.{Expr, Model}
-use Rattle.semantics.specs.State.{State, Process, empty, put, wake, past, with-floor, with-priority, with-locals}
+use Rattle.semantics.specs.State.{State, Process, empty, process, put, wake, past, with-floor, with-priority, with-locals}
 use Rattle.semantics.specs.Value.{eval}
 use Rattle.semantics.specs.Walk.{line, quiet, after}
 use Rattle.semantics.specs.Step.{hold, prio, setLocal, trace}
@@ -18,40 +18,43 @@ use Rattle.base_i32.specs.Code.{valueOf, larger}
 use Rattle.act_hold_prio_lset_trace.proofs.Values.{below-zero, from-zero}
 
 -- The expression e has no value, or one.
-module _ (m : Model) (s : State) (p : ℕ) (q : Process) (e : Expr) where
+module _ (m : Model) (s : State) (p : ℕ) (e : Expr) where
+  abbrev q : Process
+  q = process s p
+
   module _ (k : ℕ) (no : eval s q e ≡ fails k) where
-    pub hold-fails : hold m s p q e ≡ fails k
+    pub hold-fails : hold m s p e ≡ fails k
     unfolding hold _>>=_
     hold-fails = rw no
 
-    pub prio-fails : prio m s p q e ≡ fails k
+    pub prio-fails : prio m s p e ≡ fails k
     unfolding prio _>>=_
     prio-fails = rw no
 
-    pub local-fails : (i : ℕ) → setLocal m s p q i e ≡ fails k
+    pub local-fails : (i : ℕ) → setLocal m s p i e ≡ fails k
     unfolding setLocal _>>=_
     local-fails i = rw no
 
-    pub trace-fails : trace m s p q e ≡ fails k
+    pub trace-fails : trace m s p e ≡ fails k
     unfolding trace _>>=_
     trace-fails = rw no
 
   module _ (v : ℤ) (yes : eval s q e ≡ ok v) where
-    pub prio-goes : prio m s p q e ≡ ok (quiet (put p (past (with-priority q (larger lowest v))) s))
+    pub prio-goes : prio m s p e ≡ ok (quiet (put p (past (with-priority q (larger lowest v))) s))
     unfolding prio _>>=_
     prio-goes = rw yes
 
-    pub local-goes : (i : ℕ) → setLocal m s p q i e ≡ ok (quiet (put p (past (with-locals q (set (q .locals) i v))) s))
+    pub local-goes : (i : ℕ) → setLocal m s p i e ≡ ok (quiet (put p (past (with-locals q (set (q .locals) i v))) s))
     unfolding setLocal _>>=_
     local-goes i = rw yes
 
-    pub trace-goes : trace m s p q e ≡ ok (after (line s (q .number) No.traced v) (quiet (put p (past q) s)))
+    pub trace-goes : trace m s p e ≡ ok (after (line s (q .number) No.traced v) (quiet (put p (past q) s)))
     unfolding trace _>>=_
     trace-goes = rw yes
 
   -- A HOLD of the value of code c: back in time, too late, or until t.
   module _ (c : ℕ) (yes : eval s q e ≡ ok (valueOf c)) where
-    pub hold-back : c < 2_147_483_648 → hold m s p q e ≡ fails No.BACK
+    pub hold-back : c < 2_147_483_648 → hold m s p e ≡ fails No.BACK
     unfolding hold _>>=_ _>>_ need
     hold-back l = rw (yes, below-zero c l)
 
@@ -62,10 +65,10 @@ module _ (m : Model) (s : State) (p : ℕ) (q : Process) (e : Expr) where
       until : s .clock + natAbs (valueOf c) ≡ t
       until = ap (λ v. s .clock + natAbs v) (from-zero c l) ∙ sym d
 
-      pub hold-late : No.latest < t → hold m s p q e ≡ fails No.LATE
+      pub hold-late : No.latest < t → hold m s p e ≡ fails No.LATE
       unfolding hold _>>=_ _>>_ need
       hold-late h = rw (yes, goes-on, until, lt-leb t No.latest h)
 
-      pub hold-goes : t ≤ No.latest → hold m s p q e ≡ ok (quiet (wake t p (with-floor (put p (past q) s) empty)))
+      pub hold-goes : t ≤ No.latest → hold m s p e ≡ ok (quiet (wake t p (with-floor (put p (past q) s) empty)))
       unfolding hold _>>=_ _>>_ need
       hold-goes h = rw (yes, goes-on, until, le-leb t No.latest h)

@@ -42,44 +42,44 @@ module _ {body w : List ℕ} {p : ℕ} {x : Expr → Action} (v : Given body w p
       none : eval s q e ≡ fails No.SUM
       none = no-value r t no
 
-      pub hold-faults : SteppedQuietly (hold m s p q e) 21 0 w w
-      hold-faults = rw (hold-fails m s p q e 21 none) (refl, (refl, refl))
+      pub hold-faults : SteppedQuietly (hold m s p e) 21 0 w w
+      hold-faults = rw (hold-fails m s p e 21 none) (refl, (refl, refl))
 
-      pub prio-faults : SteppedQuietly (prio m s p q e) 21 0 w w
-      prio-faults = rw (prio-fails m s p q e 21 none) (refl, (refl, refl))
+      pub prio-faults : SteppedQuietly (prio m s p e) 21 0 w w
+      prio-faults = rw (prio-fails m s p e 21 none) (refl, (refl, refl))
 
-      pub local-faults : (i : ℕ) → SteppedQuietly (setLocal m s p q i e) 21 0 w w
-      local-faults i = rw (local-fails m s p q e 21 none i) (refl, (refl, refl))
+      pub local-faults : (i : ℕ) → SteppedQuietly (setLocal m s p i e) 21 0 w w
+      local-faults i = rw (local-fails m s p e 21 none i) (refl, (refl, refl))
 
-      pub trace-faults : (at : ℕ) (out : List ℕ) → Stepped (trace m s p q e) 21 0 w w at out out
-      trace-faults at out = rw (trace-fails m s p q e 21 none) (refl, (refl, (refl, refl)))
+      pub trace-faults : (at : ℕ) (out : List ℕ) → Stepped (trace m s p e) 21 0 w w at out out
+      trace-faults at out = rw (trace-fails m s p e 21 none) (refl, (refl, (refl, refl)))
 
     -- There is one.
     module _ (yes : r .ok ≡ true) where
       there : eval s q e ≡ ok (valueOf (r .code))
       there = a-value r t yes
 
-      pub hold-is-back : r .code < 2_147_483_648 → SteppedQuietly (hold m s p q e) 22 0 w w
-      hold-is-back l = rw (hold-back m s p q e (r .code) there l) (refl, (refl, refl))
+      pub hold-is-back : r .code < 2_147_483_648 → SteppedQuietly (hold m s p e) 22 0 w w
+      hold-is-back l = rw (hold-back m s p e (r .code) there l) (refl, (refl, refl))
 
       module _ (l : 2_147_483_648 ≤ r .code) (k : ℕ) (d : k ≡ s .clock + (r .code - 2_147_483_648)) where
-        pub hold-is-late : No.latest < k → SteppedQuietly (hold m s p q e) 23 0 w w
-        hold-is-late h = rw (hold-late m s p q e (r .code) there l k d h) (refl, (refl, refl))
+        pub hold-is-late : No.latest < k → SteppedQuietly (hold m s p e) 23 0 w w
+        hold-is-late h = rw (hold-late m s p e (r .code) there l k d h) (refl, (refl, refl))
 
         pub held : k ≤ No.latest → {w′ : List ℕ} → w′ ≡ workOf (wake k p (with-floor (put p (past q) s) empty))
-            → SteppedQuietly (hold m s p q e) 0 0 w w′
-        held h f = rw (hold-goes m s p q e (r .code) there l k d h) (refl, (refl, (f, refl)))
+            → SteppedQuietly (hold m s p e) 0 0 w w′
+        held h f = rw (hold-goes m s p e (r .code) there l k d h) (refl, (refl, (f, refl)))
 
       pub prioritized : {w′ : List ℕ} → w′ ≡ workOf (put p (past (with-priority q (larger lowest (valueOf (r .code))))) s)
-          → SteppedQuietly (prio m s p q e) 0 0 w w′
-      prioritized f = rw (prio-goes m s p q e (valueOf (r .code)) there) (refl, (refl, (f, refl)))
+          → SteppedQuietly (prio m s p e) 0 0 w w′
+      prioritized f = rw (prio-goes m s p e (valueOf (r .code)) there) (refl, (refl, (f, refl)))
 
       pub local-set : (i : ℕ) {w′ : List ℕ}
           → w′ ≡ workOf (put p (past (with-locals q (set (q .locals) i (valueOf (r .code))))) s)
-          → SteppedQuietly (setLocal m s p q i e) 0 0 w w′
-      local-set i f = rw (local-goes m s p q e (valueOf (r .code)) there i) (refl, (refl, (f, refl)))
+          → SteppedQuietly (setLocal m s p i e) 0 0 w w′
+      local-set i f = rw (local-goes m s p e (valueOf (r .code)) there i) (refl, (refl, (f, refl)))
 
       pub traced : {w′ : List ℕ} → w′ ≡ workOf (put p (past q) s) → (at : ℕ) (out : List ℕ) {out′ : List ℕ}
           → out′ ≡ wroteAt at (line s (q .number) 9 (valueOf (r .code)) ∷ []) out
-          → Stepped (trace m s p q e) 0 1 w w′ at out out′
-      traced f at out g = rw (trace-goes m s p q e (valueOf (r .code)) there) (refl, (refl, (f, g)))
+          → Stepped (trace m s p e) 0 1 w w′ at out out′
+      traced f at out g = rw (trace-goes m s p e (valueOf (r .code)) there) (refl, (refl, (f, g)))

@@ -32,7 +32,7 @@ pub fn value_in<'a>(body: &'a [u8], w: &'a [u64], p: usize) -> Value
 pub fn hold<'a>(body: &'a [u8], w: &'a mut [u64], p: usize) -> Went
     requires { ⌜ Given (now body) (now w) p HOLD ⌝ }
     ensures { λ r. ⌜ ((v : Given (now (body .entry)) (now (w .entry)) p HOLD)
-        → SteppedQuietly (made (v .on .running) p (λ m s q. hold m s p q (v .expression)))
+        → SteppedQuietly (made (v .on .running) (λ m s. hold m s p (v .expression)))
         (r .fault) (r .lines) (now (w .entry)) (now (w .exit))) ⌝ }
 {
     let value = value_in(body, w, p);
@@ -64,7 +64,7 @@ pub fn hold<'a>(body: &'a [u8], w: &'a mut [u64], p: usize) -> Went
 pub fn prio<'a>(body: &'a [u8], w: &'a mut [u64], p: usize) -> Went
     requires { ⌜ Given (now body) (now w) p PRIO ⌝ }
     ensures { λ r. ⌜ ((v : Given (now (body .entry)) (now (w .entry)) p PRIO)
-        → SteppedQuietly (made (v .on .running) p (λ m s q. prio m s p q (v .expression)))
+        → SteppedQuietly (made (v .on .running) (λ m s. prio m s p (v .expression)))
         (r .fault) (r .lines) (now (w .entry)) (now (w .exit))) ⌝ }
 {
     let value = value_in(body, w, p);
@@ -83,7 +83,7 @@ pub fn prio<'a>(body: &'a [u8], w: &'a mut [u64], p: usize) -> Went
 pub fn set_local<'a>(body: &'a [u8], i: usize, w: &'a mut [u64], p: usize) -> Went
     requires { ⌜ Given (now body) (now w) p (LSET i) ⌝ }
     ensures { λ r. ⌜ ((v : Given (now (body .entry)) (now (w .entry)) p (LSET i))
-        → SteppedQuietly (made (v .on .running) p (λ m s q. setLocal m s p q i (v .expression)))
+        → SteppedQuietly (made (v .on .running) (λ m s. setLocal m s p i (v .expression)))
         (r .fault) (r .lines) (now (w .entry)) (now (w .exit))) ⌝ }
 {
     let value = value_in(body, w, p);
@@ -102,7 +102,7 @@ pub fn trace<'a>(body: &'a [u8], w: &'a mut [u64], out: &'a mut [u8], at: usize,
     requires { ⌜ Given (now body) (now w) p TRACE ⌝ }
     requires { ⌜ Roomy at (now out) ⌝ }
     ensures { λ r. ⌜ ((v : Given (now (body .entry)) (now (w .entry)) p TRACE)
-        → Stepped (made (v .on .running) p (λ m s q. trace m s p q (v .expression)))
+        → Stepped (made (v .on .running) (λ m s. trace m s p (v .expression)))
         (r .fault) (r .lines) (now (w .entry)) (now (w .exit)) at (now (out .entry)) (now (out .exit))) ⌝ }
 {
     let value = value_in(body, w, p);

@@ -10,7 +10,7 @@ use base_numbers::limit;
 
 pub fn putr(i: usize, n: u64, w: &mut [u64], p: usize) -> Went
     requires { ⌜ On (now w) p (PUTR i n) ⌝ }
-    ensures { λ r. ⌜ ((v : On (now (w .entry)) p (PUTR i n)) → SteppedQuietly (made (v .running) p (λ m s q. putr m s p q i n))
+    ensures { λ r. ⌜ ((v : On (now (w .entry)) p (PUTR i n)) → SteppedQuietly (made (v .running) (λ m s. putr m s p i n))
         (r .fault) (r .lines) (now (w .entry)) (now (w .exit))) ⌝ }
 {
     if row_process::held_of(w, p, i) < n {
@@ -34,7 +34,7 @@ pub fn putr(i: usize, n: u64, w: &mut [u64], p: usize) -> Went
 
 pub fn putb(i: usize, n: u64, w: &mut [u64], p: usize) -> Went
     requires { ⌜ On (now w) p (PUTB i n) ⌝ }
-    ensures { λ r. ⌜ ((v : On (now (w .entry)) p (PUTB i n)) → SteppedQuietly (made (v .running) p (λ m s q. putb m s p q i n))
+    ensures { λ r. ⌜ ((v : On (now (w .entry)) p (PUTB i n)) → SteppedQuietly (made (v .running) (λ m s. putb m s p i n))
         (r .fault) (r .lines) (now (w .entry)) (now (w .exit))) ⌝ }
 {
     if limit::RETURNS <= row_lists::returns(w) {

@@ -53,7 +53,7 @@ module _ {w : List ℕ} {p i n : ℕ} (v : On w p (PUTS i n)) where
 
   -- There are k of them.
   module _ {k : ℕ} (count : k ≡ ownedOf i slaves) where
-    pub are-missing : k < n → (at : ℕ) (out : List ℕ) → Stepped (puts (m v) (s v) p (q v) i n) 25 0 w w at out out
+    pub are-missing : k < n → (at : ℕ) (out : List ℕ) → Stepped (puts (m v) (s v) p i n) 25 0 w w at out out
     unfolding puts _>>_ need
     are-missing h at out = rw (lt-leb n (ownedOf i slaves) (omega (arith, count))) (refl, (refl, (refl, refl)))
 
@@ -156,7 +156,7 @@ module _ {w : List ℕ} {p i n : ℕ} (v : On w p (PUTS i n)) where
           pub are-freed : {w₃ : List ℕ} (at : ℕ) (out : List ℕ) {out′ : List ℕ}
               → ((d : Freeing w₂ i places n) → (w₃ ≡ workOf (freeAll i (d .gone) (d .is) .state))
               × (out′ ≡ wroteAt at (freeAll i (d .gone) (d .is) .lines) out))
-              → Stepped (puts (m v) (s v) p (q v) i n) 0 n w w₃ at out out′
+              → Stepped (puts (m v) (s v) p i n) 0 n w w₃ at out out′
           unfolding puts _>>_ need freeing
           are-freed at out h =
               rw (le-leb n (ownedOf i slaves) are-there)

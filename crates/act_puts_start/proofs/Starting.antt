@@ -137,7 +137,7 @@ module _ {body map w : List ℕ} {p : ℕ} (v : Starting body map w p) where
 
   -- WHAT THE DEFINITION MAKES OF IT, where t is the time at which the new process enters.
   abbrev made : Outcome Next
-  made = start (m o) (s o) p (q o) (v .class) (v .offset) h
+  made = start (m o) (s o) p (v .class) (v .offset) h
 
   abbrev vacancy : Bool
   vacancy = ltb (living (s o)) No.places && ltb (s o .last) No.lastNumber

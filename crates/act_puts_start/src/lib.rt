@@ -152,7 +152,7 @@ pub fn start<'a>(
     requires { ⌜ Starting (now body) (now map) (now w) p ⌝ }
     requires { ⌜ Roomy at (now out) ⌝ }
     ensures { λ r. ⌜ ((v : Starting (now (body .entry)) (now (map .entry)) (now (w .entry)) p)
-        → Stepped (made (runs (v .acting .running)) p (λ m s q. start m s p q (v .class) (v .offset) (v .shares)))
+        → Stepped (made (runs (v .acting .running)) (λ m s. start m s p (v .class) (v .offset) (v .shares)))
         (r .fault) (r .lines) (now (w .entry)) (now (w .exit)) at (now (out .entry)) (now (out .exit))) ⌝ }
 {
     let time = time_of(body, w);
@@ -225,7 +225,7 @@ fn free_all<'a>(w: &'a mut [u64], out: &'a mut [u8], at: usize, i: u64, places: 
 pub fn puts<'a>(w: &'a mut [u64], out: &'a mut [u8], at: usize, p: usize, i: u64, n: usize) -> Went
     requires { ⌜ On (now w) p (PUTS i n) ⌝ }
     requires { ⌜ Roomy at (now out) ⌝ }
-    ensures { λ r. ⌜ ((v : On (now (w .entry)) p (PUTS i n)) → Stepped (made (v .running) p (λ m s q. puts m s p q i n))
+    ensures { λ r. ⌜ ((v : On (now (w .entry)) p (PUTS i n)) → Stepped (made (v .running) (λ m s. puts m s p i n))
         (r .fault) (r .lines) (now (w .entry)) (now (w .exit)) at (now (out .entry)) (now (out .exit))) ⌝ }
 {
     if row_slaves::owned(w, p, i) < n {

@@ -115,8 +115,8 @@ module _ {bs row w : List ℕ} {p a : ℕ} {x : Action} (v : Asked bs row w p a 
           record { comes = subst (λ c. Comes c false p s w w at out out) (sym e) (refl, (refl, refl)) }
 
       module _ {n : ℕ} (h : r ≡ Goes n) where
-        pub found : Takes (model v) s (inFront (model v) s p (who v)) os n
-        found = takes (model v) s (inFront (model v) s p (who v)) os (sym h ∙ taken-is)
+        pub found : Takes (model v) s (inFront (model v) s p) os n
+        found = takes (model v) s (inFront (model v) s p) os (sym h ∙ taken-is)
 
         abbrev pub offer : Offer
         offer = found .offer

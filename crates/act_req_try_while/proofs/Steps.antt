@@ -38,11 +38,11 @@ module _ {bs map w : List ℕ} {p a : ℕ} {x : Action} (v : Asked bs map w p a 
         choice-has One (taken v) (λ g. no-way (sym (subst As g (b .comes) .0) ∙ e))
         (λ i o g. (refl, (refl, subst As g (b .comes) .1)))
 
-    pub request-taken : One (request (model v) (state v) p (who v) x)
+    pub request-taken : One (request (model v) (state v) p x)
     unfolding request
     request-taken = taken-one _
 
-    pub while-taken : One (while (model v) (state v) p (who v) x)
+    pub while-taken : One (while (model v) (state v) p x)
     unfolding while
     while-taken = taken-one _
 
@@ -64,13 +64,13 @@ module _ {bs map w : List ℕ} {p a : ℕ} {x : Action} (v : Asked bs map w p a 
     pub request-blocked : {w₂ : List ℕ}
         → w₂ ≡ workOf (with-blocked (with-floor (state v) empty) (join (state v) p (state v .blocked))) → {out₂ : List ℕ}
         → out₂ ≡ wroteAt at (line (state v) (who v .number) 3 (valueOf 2_147_483_648) ∷ []) out₁
-        → Stepped (request (model v) (state v) p (who v) x) 0 1 w w₂ at out out₂
+        → Stepped (request (model v) (state v) p x) 0 1 w w₂ at out out₂
     unfolding request valueOf
     request-blocked f g =
         let u = g ∙ ap (wroteAt at (line (state v) (who v .number) 3 (pos 0) ∷ [])) same-out in
         rw (Stepped, kept .0) (refl, (refl, (f, u)))
 
     pub while-passed : {w₂ : List ℕ} → w₂ ≡ workOf (put p (past (who v)) (state v))
-        → Stepped (while (model v) (state v) p (who v) x) 0 0 w w₂ at out out₁
+        → Stepped (while (model v) (state v) p x) 0 0 w w₂ at out out₁
     unfolding while wroteAt
     while-passed f = rw (Stepped, kept .0) (refl, (refl, (f, same-out)))

@@ -38,11 +38,11 @@ module _ {bs map w : List ℕ} {p a : ℕ} {x : Action} (v : Asked bs map w p a 
   who = process state p
 
   -- What the definitions make of them, and which branch they take.
-  abbrev pub made : (Model → State → Process → Outcome Next) → Outcome Next
-  made f = f model state who
+  abbrev pub made : (Model → State → Outcome Next) → Outcome Next
+  made f = f model state
 
   abbrev pub taken : Choice
-  taken = choice model state (inFront model state p who) (offers x)
+  taken = choice model state (inFront model state p) (offers x)
 
 -- It is a REQ, which is passed, or a TRY, of which a block is entered;
 pub data Requests : Bool → Action → Type 0 where

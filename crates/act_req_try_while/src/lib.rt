@@ -50,7 +50,7 @@ pub fn request<'a>(
     requires { ⌜ Requesting (now s) (now map) (now w) p a enters ⌝ }
     requires { ⌜ Roomy at (now out) ⌝ }
     ensures { λ r. ⌜ ((v : Requesting (now (s .entry)) (now (map .entry)) (now (w .entry)) p a enters)
-        → Stepped (made (v .asked) (λ m s q. request m s p q (v .action)))
+        → Stepped (made (v .asked) (λ m s. request m s p (v .action)))
         (r .fault) (r .lines) (now (w .entry)) (now (w .exit)) at (now (out .entry)) (now (out .exit))) ⌝ }
 {
     if take_branch(s, map, w, out, at, p, a, enters) {
@@ -75,7 +75,7 @@ pub fn pass_or_enter<'a>(
     requires { ⌜ Looping (now s) (now map) (now w) p a ⌝ }
     requires { ⌜ Roomy at (now out) ⌝ }
     ensures { λ r. ⌜ ((v : Looping (now (s .entry)) (now (map .entry)) (now (w .entry)) p a)
-        → Stepped (made (v .asked) (λ m s q. while m s p q (WHILE (v .looped) (v .claim))))
+        → Stepped (made (v .asked) (λ m s. while m s p (WHILE (v .looped) (v .claim))))
         (r .fault) (r .lines) (now (w .entry)) (now (w .exit)) at (now (out .entry)) (now (out .exit))) ⌝ }
 {
     if take_branch(s, map, w, out, at, p, a, true) {

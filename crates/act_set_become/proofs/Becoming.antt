@@ -94,7 +94,7 @@ module _ {bs row w : List ℕ} {i p : ℕ} (v : Acting bs row w p (BECOME i)) wh
             → ((d : Shown w (λ _. p < 64)) → n ≡ process (d .is) p .number)
             → ((d : Shown w Any) → out′ ≡ wroteAt at (line (d .is) n No.waitingAsSlave (pos i) ∷ []) out)
             → ((d : Walking bs row u) → Walked (walk (d .model) (d .is)) r w′ (at + 1) out′ out″)
-            → Stepped (become (m here) (s here) p (q here) i) 0 (r + 1) w w′ at out out″
+            → Stepped (become (m here) (s here) p i) 0 (r + 1) w w′ at out out″
         unfolding become joined-walking
         became at out numbered wrote walked =
             stepped (line (s here) (q here .number) No.waitingAsSlave (pos i)) (walk (m here) s₃) at w out

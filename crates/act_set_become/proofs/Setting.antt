@@ -59,7 +59,7 @@ module _ {body bs row w : List ℕ} {p i : ℕ} (v : Setting body bs row w p i) 
 
     -- IT HAS NO VALUE,
     pub no-value : (at : ℕ) (out : List ℕ) → r .ok ≡ false
-        → Stepped (setGlobal (m here) (s here) p (q here) i (v .expression)) 21 0 w w at out out
+        → Stepped (setGlobal (m here) (s here) p i (v .expression)) 21 0 w w at out out
     unfolding setGlobal _>>=_
     no-value at out e =
         let o : eval (s here) (q here) (v .expression) ≡ fails No.SUM =
@@ -93,7 +93,7 @@ module _ {body bs row w : List ℕ} {p i : ℕ} (v : Setting body bs row w p i) 
 
         pub value-set : (at : ℕ) (out : List ℕ) {n : ℕ} {w′ out′ : List ℕ} → r .ok ≡ true
             → ((d : Walking bs row y) → Walked (walk (d .model) (d .is)) n w′ at out out′)
-            → Stepped (setGlobal (m here) (s here) p (q here) i (v .expression)) 0 n w w′ at out out′
+            → Stepped (setGlobal (m here) (s here) p i (v .expression)) 0 n w w′ at out out′
         unfolding setGlobal _>>=_ placed-walking
         value-set at out {n} {w′} {out′} e walked =
             let o : eval (s here) (q here) (v .expression) ≡ ok (valueOf (r .code)) =

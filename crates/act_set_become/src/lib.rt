@@ -3,7 +3,6 @@ ghost use mathlib.Core.Path.{_≡_};
 ghost use Prim.Native.Nat.{_<_};
 ghost use lib.ListN.{length, set};
 ghost use Rattle.semantics.specs.Model.{BECOME};
-ghost use Rattle.semantics.specs.State.{process};
 ghost use Rattle.semantics.specs.Step.{setGlobal, become};
 ghost use Rattle.act_floor.specs.Acting.{Acting, Roomy, Stepped};
 ghost use Rattle.act_set_become.specs.Setting.{Setting};
@@ -33,7 +32,7 @@ pub fn become_slave<'a>(
     requires { ⌜ Acting (now s) (now map) (now w) p (BECOME i) ⌝ }
     requires { ⌜ Roomy at (now out) ⌝ }
     ensures { λ r. ⌜ ((v : Acting (now (s .entry)) (now (map .entry)) (now (w .entry)) p (BECOME i))
-        → Stepped (become (v .running .model) (v .running .is) p (process (v .running .is) p) i) (r .fault) (r .lines)
+        → Stepped (become (v .running .model) (v .running .is) p i) (r .fault) (r .lines)
         (now (w .entry)) (now (w .exit)) at (now (out .entry)) (now (out .exit))) ⌝ }
 {
     let number = row_process::number_of(w, p);
@@ -62,8 +61,7 @@ pub fn set_global<'a>(
     requires { ⌜ Setting (now body) (now s) (now map) (now w) p i ⌝ }
     requires { ⌜ Roomy at (now out) ⌝ }
     ensures { λ r. ⌜ ((v : Setting (now (body .entry)) (now (s .entry)) (now (map .entry)) (now (w .entry)) p i)
-        → Stepped (setGlobal (v .acting .running .model) (v .acting .running .is) p
-        (process (v .acting .running .is) p) i (v .expression)) (r .fault) (r .lines)
+        → Stepped (setGlobal (v .acting .running .model) (v .acting .running .is) p i (v .expression)) (r .fault) (r .lines)
         (now (w .entry)) (now (w .exit)) at (now (out .entry)) (now (out .exit))) ⌝ }
 {
     let value = act_hold_prio_lset_trace::value_in(body, w, p);

@@ -67,10 +67,10 @@ module _ {body bs map w : List ℕ} {p k : ℕ} (v : Meets body bs map w p k) wh
         }
 
     -- What is made of x, and comes to o, is made of the action.
-    module _ (o : Outcome Next) (made : act m s p (process s p) x ≡ o) (f l : ℕ) (w′ : List ℕ) (at : ℕ) (out : List ℕ) where
+    module _ (o : Outcome Next) (made : act m s p x ≡ o) (f l : ℕ) (w′ : List ℕ) (at : ℕ) (out : List ℕ) where
       pub done : (out′ : List ℕ) → Stepped o f l w w′ at out out′ → Stepped (doing v) f l w w′ at out out′
       done out′ h =
-          subst (λ y. Stepped y f l w w′ at out out′) (sym (ap (act m s p (process s p)) is ∙ made)) h
+          subst (λ y. Stepped y f l w w′ at out out′) (sym (ap (act m s p) is ∙ made)) h
 
       pub done-quietly : SteppedQuietly o f l w w′ → Stepped (doing v) f l w w′ at out out
       done-quietly h = done out (quietly o f l w w′ at out h)

@@ -90,12 +90,12 @@ module _ {bs map w : List ℕ} {p : ℕ} (v : Floored bs map w p) where
           abbrev pub gone : Exhausted bs map w p
           gone = record { running = v .running; on-floor = v .on-floor; stands = stands-nowhere }
 
-          pub gone-as : moves m s p ≡ exhausted m s p (process s p) (process s p .frames)
+          pub gone-as : moves m s p ≡ exhausted m s p (process s p .frames)
           unfolding moves
           gone-as =
               ap
               (λ o. elim o
-              [ none ↦ exhausted m s p (process s p) (process s p .frames) | some a ↦ act m s p (process s p) a ])
+              [ none ↦ exhausted m s p (process s p .frames) | some a ↦ act m s p a ])
               stands-nowhere
 
         -- AT AN ACTION.
@@ -122,7 +122,7 @@ module _ {bs map w : List ℕ} {p : ℕ} (v : Floored bs map w p) where
           standing-as =
               ap
               (λ o. elim o
-              [ none ↦ exhausted m s p (process s p) (process s p .frames) | some a ↦ act m s p (process s p) a ])
+              [ none ↦ exhausted m s p (process s p .frames) | some a ↦ act m s p a ])
               (stood ∙ its-act .1)
 
 -- THE RECORD of the action where it stands, at `place`.

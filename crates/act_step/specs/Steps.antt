@@ -51,7 +51,7 @@ pub record MeetsAt (body bs map w : List ℕ) (p k a : ℕ) : Type 0 where
 
 -- What the definitions make of it.
 abbrev pub acted : {bs map w : List ℕ} {p : ℕ} {x : Action} → Acting bs map w p x → Outcome Next
-acted {p = p} {x} v = act (v .running .model) (v .running .is) p (process (v .running .is) p) x
+acted {p = p} {x} v = act (v .running .model) (v .running .is) p x
 
 abbrev pub doing : {body bs map w : List ℕ} {p k : ℕ} → Meets body bs map w p k → Outcome Next
 doing v = acted (v .acting)

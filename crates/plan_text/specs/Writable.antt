@@ -206,12 +206,12 @@ module _ (m : Model) (t : Fit m) (s : State) (h : SmallIn s) (p : ℕ) where
   unfolding past
   past-numbered = put-numbered (past q) refl
 
-  do-writes : (n b : ℕ) → Writes (doTimes m s p q n b)
+  do-writes : (n b : ℕ) → Writes (doTimes m s p n b)
   unfolding doTimes
   do-writes zero b = good tt
   do-writes (suc n) b = good tt
 
-  puts-writes : (i n : ℕ) → i < m .syncs → Writes (puts m s p q i n)
+  puts-writes : (i n : ℕ) → i < m .syncs → Writes (puts m s p i n)
   unfolding puts past
   puts-writes i n k =
       good-need _ _ λ a.
@@ -221,23 +221,23 @@ module _ (m : Model) (t : Fit m) (s : State) (h : SmallIn s) (p : ℕ) where
       (put-numbered (past (with-slaves q (stay i n (q .slaves)))) refl))
 
   abbrev chosen : Action → Choice
-  chosen a = choice m s (Step.inFront m s p q) (offers a)
+  chosen a = choice m s (Step.inFront m s p) (offers a)
 
   granted : (a : Action) → ActFit m a → (i : ℕ) (o : Offer) → chosen a ≡ goes i o
       → Writable (line s (q .number) No.granted (pos i))
-  granted a k i o g = own No.granted (pos i) (omega arith) (branch-small m t s (Step.inFront m s p q) a k i o g)
+  granted a k i o g = own No.granted (pos i) (omega arith) (branch-small m t s (Step.inFront m s p) a k i o g)
 
-  request-writes : (a : Action) → ActFit m a → Writes (request m s p q a)
+  request-writes : (a : Action) → ActFit m a → Writes (request m s p a)
   unfolding request
   request-writes a k =
       choice-has Writes (chosen a) (λ g. one-line (own No.blocked (pos 0) (omega arith) (omega arith)))
       (λ i o g. one-line (granted a k i o g))
 
-  while-writes : (a : Action) → ActFit m a → Writes (while m s p q a)
+  while-writes : (a : Action) → ActFit m a → Writes (while m s p a)
   unfolding while
   while-writes a k = choice-has Writes (chosen a) (λ g. good tt) (λ i o g. one-line (granted a k i o g))
 
-  start-writes : (c d : ℕ) (hs : List Share) → c < length (m .classes) → Writes (start m s p q c d hs)
+  start-writes : (c d : ℕ) (hs : List Share) → c < length (m .classes) → Writes (start m s p c d hs)
   unfolding start
   start-writes c d hs k =
       good-need _ _ λ a. good-need _ _ λ b. good-need No.FULL (ltb (living s) No.places && ltb (s .last) No.lastNumber) λ e.
@@ -245,7 +245,7 @@ module _ (m : Model) (t : Fit m) (s : State) (h : SmallIn s) (p : ℕ) where
       let f = t .few-classes in
       one-line (writable (h .clock-small) (omega arith) (omega arith) (small c (omega arith)))
 
-  become-writes : (i : ℕ) → i < m .syncs → Writes (become m s p q i)
+  become-writes : (i : ℕ) → i < m .syncs → Writes (become m s p i)
   unfolding become
   become-writes i k =
       let f = t .few-syncs in
@@ -254,7 +254,7 @@ module _ (m : Model) (t : Fit m) (s : State) (h : SmallIn s) (p : ℕ) where
       own-line (walk m w) (own No.waitingAsSlave (pos i) (omega arith) (small i (omega arith)))
       (walk-writes m t w (h .clock-small) past-numbered)
 
-  act-writes : (a : Action) → ActFit m a → Writes (act m s p q a)
+  act-writes : (a : Action) → ActFit m a → Writes (act m s p a)
   unfolding act hold prio trace setGlobal setLocal putr putb notify close
   act-writes (HOLD x) k = good-bind (eval s q x) λ v. good-need _ _ λ a. good-need _ _ λ b. good tt
   act-writes (PRIO x) k = good-bind (eval s q x) λ v. good tt
@@ -277,7 +277,7 @@ module _ (m : Model) (t : Fit m) (s : State) (h : SmallIn s) (p : ℕ) where
   act-writes (START c d hs) k = start-writes c d hs (k .0)
   act-writes CLOSE k = one-line (own No.closed (pos 0) (omega arith) (omega arith))
 
-  exhausted-writes : (fs : List Frame) → Writes (exhausted m s p q fs)
+  exhausted-writes : (fs : List Frame) → Writes (exhausted m s p fs)
   unfolding exhausted ends
   exhausted-writes [] = stopped
   exhausted-writes (f ∷ fs) =

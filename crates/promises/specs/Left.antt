@@ -299,7 +299,7 @@ module _ (m : Model) (t : Forward m) (s : State) (p : ℕ) where
       let y = ap (framesLeft m) g ∙ onward-left m (process s p .frames) in
       omega arith
 
-  hold-falls : (x : Expr) → At (HOLD x) → Good (Falls m s) (hold m s p (process s p) x)
+  hold-falls : (x : Expr) → At (HOLD x) → Good (Falls m s) (hold m s p x)
   unfolding hold past total weigh
   hold-falls x e =
       let k = passes (HOLD x) e (past (process s p)) refl in
@@ -309,34 +309,34 @@ module _ (m : Model) (t : Forward m) (s : State) (p : ℕ) where
       let w = wake-total m (s .clock + natAbs v) p (with-floor (put p (past (process s p)) s) empty) in
       good (exactly (omega arith))
 
-  prio-falls : (x : Expr) → At (PRIO x) → Good (Falls m s) (prio m s p (process s p) x)
+  prio-falls : (x : Expr) → At (PRIO x) → Good (Falls m s) (prio m s p x)
   unfolding prio past weigh
   prio-falls x e =
       good-bind (eval s (process s p) x) λ v.
       let k = passes (PRIO x) e (past (with-priority (process s p) (if leZ lowest v then v else lowest))) refl in
       good (exactly (omega arith))
 
-  trace-falls : (x : Expr) → At (TRACE x) → Good (Falls m s) (trace m s p (process s p) x)
+  trace-falls : (x : Expr) → At (TRACE x) → Good (Falls m s) (trace m s p x)
   unfolding trace past weigh total
   trace-falls x e =
       let k = passes (TRACE x) e (past (process s p)) refl in
       good-bind (eval s (process s p) x) λ v. good (exactly (omega arith))
 
-  set-local-falls : (i : ℕ) (x : Expr) → At (LSET i x) → Good (Falls m s) (setLocal m s p (process s p) i x)
+  set-local-falls : (i : ℕ) (x : Expr) → At (LSET i x) → Good (Falls m s) (setLocal m s p i x)
   unfolding setLocal past weigh total
   set-local-falls i x e =
       good-bind (eval s (process s p) x) λ v.
       let k = passes (LSET i x) e (past (with-locals (process s p) (set (process s p .locals) i v))) refl in
       good (exactly (omega arith))
 
-  set-global-falls : (i : ℕ) (x : Expr) → At (SET i x) → Good (Falls m s) (setGlobal m s p (process s p) i x)
+  set-global-falls : (i : ℕ) (x : Expr) → At (SET i x) → Good (Falls m s) (setGlobal m s p i x)
   unfolding setGlobal past weigh total
   set-global-falls i x e =
       let k = passes (SET i x) e (past (process s p)) refl in
       good-bind (eval s (process s p) x) λ v.
       good (likewise (walk-less m t (with-globals (put p (past (process s p)) s) (set (s .globals) i v))) (omega arith))
 
-  become-falls : (i : ℕ) → At (BECOME i) → Good (Falls m s) (become m s p (process s p) i)
+  become-falls : (i : ℕ) → At (BECOME i) → Good (Falls m s) (become m s p i)
   unfolding become past weigh total
   become-falls i e =
       let k = passes (BECOME i) e (past (process s p)) refl in
@@ -346,7 +346,7 @@ module _ (m : Model) (t : Forward m) (s : State) (p : ℕ) where
 
   -- A return notice is a step more to come: PUTR and PUTB weigh 2.
   notify-falls : (a : Action) → At a → weigh m (weight m) a ≡ 2 → (n : Notice) → owes n ≡ 1 → (r : Process)
-      → r .frames ≡ process s p .frames → Good (Falls m s) (notify m s p (process s p) n r)
+      → r .frames ≡ process s p .frames → Good (Falls m s) (notify m s p n r)
   unfolding notify past enter total
   notify-falls a e w n o r g =
       let k = passes a e (past r) (ap onward g) in
@@ -355,7 +355,7 @@ module _ (m : Model) (t : Forward m) (s : State) (p : ℕ) where
       let y = over-insert (λ e. owes (e .notice)) sooner x (s .events) in
       good (exactly (omega arith))
 
-  do-falls : (n b : ℕ) → At (DO n b) → Good (Falls m s) (doTimes m s p (process s p) n b)
+  do-falls : (n b : ℕ) → At (DO n b) → Good (Falls m s) (doTimes m s p n b)
   unfolding doTimes past into weigh total
   do-falls zero b e = let k = passes (DO zero b) e (past (process s p)) refl in computed (exactly (omega arith))
   do-falls (suc n) b e =
@@ -365,11 +365,11 @@ module _ (m : Model) (t : Forward m) (s : State) (p : ℕ) where
       let y : (suc n - 1) * (weight m b + 1) ≡ n * (weight m b + 1) = ap (λ j. j * (weight m b + 1)) (omega arith) in
       computed (exactly (omega arith))
 
-  close-falls : At CLOSE → Good (Falls m s) (close m s p (process s p))
+  close-falls : At CLOSE → Good (Falls m s) (close m s p)
   unfolding close past weigh total
   close-falls e = let k = passes CLOSE e (past (process s p)) refl in computed (exactly (omega arith))
 
-  puts-falls : (i n : ℕ) → At (PUTS i n) → Good (Falls m s) (puts m s p (process s p) i n)
+  puts-falls : (i n : ℕ) → At (PUTS i n) → Good (Falls m s) (puts m s p i n)
   unfolding puts past weigh
   puts-falls i n e =
       good-need _ _ λ h.
@@ -380,10 +380,10 @@ module _ (m : Model) (t : Forward m) (s : State) (p : ℕ) where
       good (exactly (omega arith))
 
   -- One that joins the blocked list has paid, and stands where it stood.
-  request-falls : (a : Action) → At a → Good (Falls m s) (request m s p (process s p) a)
+  request-falls : (a : Action) → At a → Good (Falls m s) (request m s p a)
   unfolding request join total
   request-falls a e =
-      let ws : List Waiter = inFront m s p (process s p) in
+      let ws : List Waiter = inFront m s p in
       choice-has (λ (o : Outcome Next). Good (Falls m s) o) (choice m s ws (offers a))
       (λ c.
       let w : Waiter = record { priority = process s p .priority; place = p } in
@@ -397,7 +397,7 @@ module _ (m : Model) (t : Forward m) (s : State) (p : ℕ) where
 
   -- START: fewer live than there are places, so the new process finds one, also after its giver was put back.
   start-falls : length (s .processes) ≡ No.places → (c d : ℕ) (h : List Share) → At (START c d h)
-      → Good (Falls m s) (start m s p (process s p) c d h)
+      → Good (Falls m s) (start m s p c d h)
   unfolding start past weigh
   start-falls l c d h e =
       let r : Process = past (with-held (process s p) (kept h (process s p .held))) in
@@ -411,7 +411,7 @@ module _ (m : Model) (t : Forward m) (s : State) (p : ℕ) where
       let y = begin-blocked m c (s .clock + d) (handed h (map (λ n. 0) (process s p .held))) (put p r s) in
       good (exactly (omega arith))
 
-  act-falls : length (s .processes) ≡ No.places → (a : Action) → At a → Good (Falls m s) (act m s p (process s p) a)
+  act-falls : length (s .processes) ≡ No.places → (a : Action) → At a → Good (Falls m s) (act m s p a)
   unfolding act putr putb weigh
   act-falls l (HOLD x) e = hold-falls x e
   act-falls l (PRIO x) e = prio-falls x e
@@ -490,7 +490,7 @@ module _ (m : Model) (t : Forward m) (s : State) (p : ℕ) where
       omega arith
 
   exhausted-falls : (fs : List Frame) → process s p .frames ≡ fs → standsIn m fs ≡ none
-      → Good (Falls m s) (exhausted m s p (process s p) fs)
+      → Good (Falls m s) (exhausted m s p fs)
   unfolding exhausted total
   exhausted-falls [] e n = stopped
   exhausted-falls (f ∷ fs) e n =
@@ -507,7 +507,7 @@ module _ (m : Model) (t : Forward m) (s : State) (p : ℕ) where
     where
       leaving : (gs : List Frame) → process s p .frames ≡ f ∷ gs → framesLeft m (f ∷ gs) ≡ 1 + outerLeft m gs
           → Good (Falls m s)
-          (if isEmpty gs then ends m s p (process s p) else ok (quiet (put p (with-frames (process s p) (leave m gs)) s)))
+          (if isEmpty gs then ends m s p else ok (quiet (put p (with-frames (process s p) (leave m gs)) s)))
       leaving [] g l = let k = goes-on f [] g nobody in good-need _ _ λ h. good (exactly (omega arith))
       leaving (x ∷ xs) g l =
           let k = goes-on f (x ∷ xs) g (with-frames (process s p) (leave m (x ∷ xs))) in

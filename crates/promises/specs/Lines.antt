@@ -83,15 +83,15 @@ module _ (m : Model) (s : State) (h : Listed s) (p : ℕ) where
   frees i n t =
       omega (arith, free-lines i (freed i n (q .slaves)) t, freed-few i n (q .slaves), h .slaves-few p)
 
-  do-lines : (n b : ℕ) → FewLines (doTimes m s p q n b)
+  do-lines : (n b : ℕ) → FewLines (doTimes m s p n b)
   unfolding doTimes
   do-lines zero b = good none-written
   do-lines (suc n) b = good none-written
 
   abbrev chosen : Action → Choice
-  chosen a = choice m s (Step.inFront m s p q) (offers a)
+  chosen a = choice m s (Step.inFront m s p) (offers a)
 
-  act-lines : (a : Action) → FewLines (act m s p q a)
+  act-lines : (a : Action) → FewLines (act m s p a)
   unfolding act hold prio trace setGlobal setLocal putr putb notify puts become start request while close
   act-lines (HOLD x) = good-bind (eval s q x) λ v. good-need _ _ λ a. good-need _ _ λ b. good (omega arith)
   act-lines (PRIO x) = good-bind (eval s q x) λ v. good (omega arith)
@@ -109,7 +109,7 @@ module _ (m : Model) (s : State) (h : Listed s) (p : ℕ) where
   act-lines (START c t g) = good-need _ _ λ a. good-need _ _ λ b. good-need _ _ λ d. good (omega arith)
   act-lines CLOSE = good one-written
 
-  exhausted-lines : (fs : List Frame) → FewLines (exhausted m s p q fs)
+  exhausted-lines : (fs : List Frame) → FewLines (exhausted m s p fs)
   unfolding exhausted ends
   exhausted-lines [] = stopped
   exhausted-lines (f ∷ fs) =

@@ -76,13 +76,13 @@ fit-at m t fs a e = at-stands (λ b. ActFit m) m (t .acts) fs a e .1
 
 -- Whoever has the floor is at the end of a block or at an action.
 pub moves-has : (P : Outcome Next → Type 0) (m : Model) (s : State) (p : ℕ)
-    → (standsIn m (process s p .frames) ≡ none → P (exhausted m s p (process s p) (process s p .frames)))
-    → ((a : Action) → standsIn m (process s p .frames) ≡ some a → P (act m s p (process s p) a)) → P (moves m s p)
+    → (standsIn m (process s p .frames) ≡ none → P (exhausted m s p (process s p .frames)))
+    → ((a : Action) → standsIn m (process s p .frames) ≡ some a → P (act m s p a)) → P (moves m s p)
 unfolding moves
 moves-has P m s p f g = go (standsIn m (process s p .frames)) refl
   where
     go : (x : Option Action) → standsIn m (process s p .frames) ≡ x
-        → P (elim x [ none ↦ exhausted m s p (process s p) (process s p .frames) | some a ↦ act m s p (process s p) a ])
+        → P (elim x [ none ↦ exhausted m s p (process s p .frames) | some a ↦ act m s p a ])
     go none e = f e
     go (some a) e = g a e
 

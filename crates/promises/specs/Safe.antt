@@ -65,17 +65,20 @@ module _ (s : State) (q : Process) where
   eval-safe (negate a) = safe-bind (eval-safe a) λ x. safe-range (negℤ x)
   eval-safe theClock = safe
 
--- AN ACTION.
-module _ (m : Model) (s : State) (p : ℕ) (q : Process) where
-  do-safe : (n b : ℕ) → Safe (doTimes m s p q n b)
+-- AN ACTION of the process q in place p.
+module _ (m : Model) (s : State) (p : ℕ) where
+  abbrev q : Process
+  q = process s p
+
+  do-safe : (n b : ℕ) → Safe (doTimes m s p n b)
   unfolding doTimes
   do-safe zero b = safe
   do-safe (suc n) b = safe
 
   abbrev chosen : Action → Choice
-  chosen a = choice m s (Step.inFront m s p q) (offers a)
+  chosen a = choice m s (Step.inFront m s p) (offers a)
 
-  act-safe : (a : Action) → Safe (act m s p q a)
+  act-safe : (a : Action) → Safe (act m s p a)
   unfolding act hold prio trace setGlobal setLocal putr putb notify puts become start request while close
   act-safe (HOLD x) = safe-bind (eval-safe s q x) λ v. safe-need _ _ refl (safe-need _ _ refl safe)
   act-safe (PRIO x) = safe-bind (eval-safe s q x) λ v. safe
@@ -94,7 +97,7 @@ module _ (m : Model) (s : State) (p : ℕ) (q : Process) where
   act-safe CLOSE = safe
 
   -- A process that lives is in a block.
-  exhausted-safe : (fs : List Frame) → 1 ≤ al fs → Safe (exhausted m s p q fs)
+  exhausted-safe : (fs : List Frame) → 1 ≤ al fs → Safe (exhausted m s p fs)
   unfolding exhausted ends
   exhausted-safe [] l = absurd (omega arith)
   exhausted-safe (f ∷ fs) l =
@@ -109,8 +112,8 @@ idle-stops false e = let z : _≡_ {A = ℕ} 0 1 = cc in omega arith
 module _ (m : Model) where
   moves-safe : (s : State) (p : ℕ) → 1 ≤ al (process s p .frames) → Safe (moves m s p)
   moves-safe s p l =
-      moves-has Safe m s p (λ e. exhausted-safe m s p (process s p) (process s p .frames) l)
-      (λ a e. act-safe m s p (process s p) a)
+      moves-has Safe m s p (λ e. exhausted-safe m s p (process s p .frames) l)
+      (λ a e. act-safe m s p a)
 
   -- THE FIRST of the event list.
   occurs-safe : (s : State) (n : Notice) → ((p : ℕ) → noticed p n ≤ al (process s p .frames)) → Safe (occurs m s n)

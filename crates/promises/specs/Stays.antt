@@ -94,7 +94,7 @@ module _ (m : Model) (t : Fit m) (r : State) (p : ℕ) where
         good-then I32 (λ n. Sound m (n .state)) (eval s q x)
         (eval-good m s q (h .globals-ok) (fine .locals-ok) (h .clock-ok) x k) g
 
-    hold-sound : (x : Expr) → At (HOLD x) → ExprFit m x → Leads m (hold m s p q x)
+    hold-sound : (x : Expr) → At (HOLD x) → ExprFit m x → Leads m (hold m s p x)
     unfolding hold
     hold-sound x e k =
         value x k λ v i.
@@ -104,7 +104,7 @@ module _ (m : Model) (t : Fit m) (r : State) (p : ℕ) where
         (wakes-up m (with-floor (put p (past q) s) empty) (passes (HOLD x) e) (s .clock + natAbs v) p (omega arith)
         (leb-true (s .clock + natAbs v) No.latest h₂) (λ k. omega arith))
 
-    prio-sound : (x : Expr) → At (PRIO x) → ExprFit m x → Leads m (prio m s p q x)
+    prio-sound : (x : Expr) → At (PRIO x) → ExprFit m x → Leads m (prio m s p x)
     unfolding prio
     prio-sound x e k =
         value x k λ v i.
@@ -114,11 +114,11 @@ module _ (m : Model) (t : Fit m) (r : State) (p : ℕ) where
         (goes-past m s h p one (with-priority q w) (PRIO x) e (fine-priority fine w (b .0) (b .1)) refl refl
         (λ k. refl) (λ j. refl))
 
-    trace-sound : (x : Expr) → At (TRACE x) → ExprFit m x → Leads m (trace m s p q x)
+    trace-sound : (x : Expr) → At (TRACE x) → ExprFit m x → Leads m (trace m s p x)
     unfolding trace
     trace-sound x e k = value x k λ v i. good (passes (TRACE x) e)
 
-    set-local-sound : (j : ℕ) (x : Expr) → At (LSET j x) → ExprFit m x → Leads m (setLocal m s p q j x)
+    set-local-sound : (j : ℕ) (x : Expr) → At (LSET j x) → ExprFit m x → Leads m (setLocal m s p j x)
     unfolding setLocal
     set-local-sound j x e k =
         value x k λ v i.
@@ -126,13 +126,13 @@ module _ (m : Model) (t : Fit m) (r : State) (p : ℕ) where
         (goes-past m s h p one (with-locals q (set (q .locals) j v)) (LSET j x) e (fine-local fine j v i) refl refl
         (λ k. refl) (λ j. refl))
 
-    set-global-sound : (j : ℕ) (x : Expr) → At (SET j x) → ExprFit m x → Leads m (setGlobal m s p q j x)
+    set-global-sound : (j : ℕ) (x : Expr) → At (SET j x) → ExprFit m x → Leads m (setGlobal m s p j x)
     unfolding setGlobal
     set-global-sound j x e k =
         value x k λ v i.
         good (walk-sound m t (with-globals (put p (past q) s) (set (s .globals) j v)) (global-is (passes (SET j x) e) j v i))
 
-    do-sound : (n b : ℕ) → At (DO n b) → Leads m (doTimes m s p q n b)
+    do-sound : (n b : ℕ) → At (DO n b) → Leads m (doTimes m s p n b)
     unfolding doTimes into
     do-sound zero b e = good (passes (DO zero b) e)
     do-sound (suc n) b e =
@@ -144,7 +144,7 @@ module _ (m : Model) (t : Fit m) (r : State) (p : ℕ) where
         (a : Action) → At a → (n : Notice) (x : Process) → Fine m (s .last) x → x .frames ≡ q .frames → x .number ≡ q .number
         → x .slaves ≡ q .slaves → owes n ≡ 1 → ((k : ℕ) → noticed k n ≡ 0)
         → NoticeOk m (s .last) (set (s .processes) p (past x)) ofReturns n
-        → ((j : ℕ) → getD (x .held) j 0 + gives j n ≡ getD (q .held) j 0) → Leads m (notify m s p q n x)
+        → ((j : ℕ) → getD (x .held) j 0 + gives j n ≡ getD (q .held) j 0) → Leads m (notify m s p n x)
     unfolding notify
     notify-sound a e n x f fr nu sv ow nw fit give =
         good-need No.NOTICES (ltb (length (keep isReturn (s .events))) No.returns) λ h₁.
@@ -157,7 +157,7 @@ module _ (m : Model) (t : Fit m) (r : State) (p : ℕ) where
         (record { not-before = omega arith; not-late = h .clock-ok; tells = fit }) (omega arith)
         (λ k. let d = nw k in omega arith) (λ j. omega arith))
 
-    putr-sound : (i n : ℕ) → At (PUTR i n) → ActFit m (PUTR i n) → Leads m (putr m s p q i n)
+    putr-sound : (i n : ℕ) → At (PUTR i n) → ActFit m (PUTR i n) → Leads m (putr m s p i n)
     unfolding putr
     putr-sound i n e k =
         good-need No.HELD (leb n (getD (q .held) i 0)) λ h₁.
@@ -168,14 +168,14 @@ module _ (m : Model) (t : Fit m) (r : State) (p : ℕ) where
         (record { is-low = refl; is-known = k₀; amount-ok = k .1; giver-ok = omega arith })
         (λ j. less-at (q .held) i n j (omega arith) (leb-true n (getD (q .held) i 0) h₁))
 
-    putb-sound : (i n : ℕ) → At (PUTB i n) → ActFit m (PUTB i n) → Leads m (putb m s p q i n)
+    putb-sound : (i n : ℕ) → At (PUTB i n) → ActFit m (PUTB i n) → Leads m (putb m s p i n)
     unfolding putb
     putb-sound i n e k =
         let f = fine in
         notify-sound (PUTB i n) e (returnsB i n (q .number)) q f refl refl refl refl (λ k. refl)
         (record { is-low = refl; is-known = k .0; amount-ok = k .1; giver-ok = omega arith }) (λ j. omega arith)
 
-    puts-sound : (i n : ℕ) → At (PUTS i n) → Leads m (puts m s p q i n)
+    puts-sound : (i n : ℕ) → At (PUTS i n) → Leads m (puts m s p i n)
     unfolding puts
     puts-sound i n e =
         good-need No.OWNED (leb n (length (keep (λ x. eqb (x .of) i) (q .slaves)))) λ h₁.
@@ -186,7 +186,7 @@ module _ (m : Model) (t : Fit m) (r : State) (p : ℕ) where
         (goes-past m s h p one x (PUTS i n) e f refl refl (λ k. let a = freed-stay i k n (q .slaves) in omega arith)
         (λ j. refl)))
 
-    become-sound : (i : ℕ) → At (BECOME i) → i < m .syncs → Leads m (become m s p q i)
+    become-sound : (i : ℕ) → At (BECOME i) → i < m .syncs → Leads m (become m s p i)
     unfolding become
     become-sound i e k =
         let u : State = with-floor (put p (past q) s) empty in
@@ -201,21 +201,21 @@ module _ (m : Model) (t : Fit m) (r : State) (p : ℕ) where
         let st = still-grant p o s in
         rw (st .same-floor, st .same-blocked) (goes-held m t s ws (s .blocked) (λ k. once k p) p one h i o a e g)
 
-    request-sound : (a : Action) → At a → asking a ≡ true → Leads m (request m s p q a)
+    request-sound : (a : Action) → At a → asking a ≡ true → Leads m (request m s p a)
     unfolding request
     request-sound a e k =
-        choice-has (Leads m) (choice m s (inFront m s p q) (offers a))
+        choice-has (Leads m) (choice m s (inFront m s p) (offers a))
         (λ g. good (blocks s h p (λ k. omega arith) (ap asksAt e ∙ k)))
-        (λ i o g. good (granted a (inFront m s p q) e i o g))
+        (λ i o g. good (granted a (inFront m s p) e i o g))
 
-    while-sound : (a : Action) → At a → Leads m (while m s p q a)
+    while-sound : (a : Action) → At a → Leads m (while m s p a)
     unfolding while
     while-sound a e =
-        choice-has (Leads m) (choice m s (inFront m s p q) (offers a)) (λ g. good (passes a e))
-        (λ i o g. good (granted a (inFront m s p q) e i o g))
+        choice-has (Leads m) (choice m s (inFront m s p) (offers a)) (λ g. good (passes a e))
+        (λ i o g. good (granted a (inFront m s p) e i o g))
 
     -- The giver goes on with as many blocks, so there is still a free place.
-    start-sound : (c d : ℕ) (hs : List Share) → At (START c d hs) → ActFit m (START c d hs) → Leads m (start m s p q c d hs)
+    start-sound : (c d : ℕ) (hs : List Share) → At (START c d hs) → ActFit m (START c d hs) → Leads m (start m s p c d hs)
     unfolding start past begin wake
     start-sound c d hs e k =
         good-need No.LATE (leb (s .clock + d) No.latest) λ h₁.
@@ -239,11 +239,11 @@ module _ (m : Model) (t : Fit m) (r : State) (p : ℕ) where
         (handed-length hs zeros ∙ zeros-many) (omega arith) (leb-true (s .clock + d) No.latest h₁)
         (λ j. let a = handed-at hs zeros j (rw zeros-many known) in let w = zeros-at (q .held) j in omega arith))
 
-    close-sound : At CLOSE → Leads m (close m s p q)
+    close-sound : At CLOSE → Leads m (close m s p)
     unfolding close
     close-sound e = good (passes CLOSE e)
 
-    act-sound : (a : Action) → At a → ActFit m a → Leads m (act m s p q a)
+    act-sound : (a : Action) → At a → ActFit m a → Leads m (act m s p a)
     unfolding act
     act-sound (HOLD x) e k = hold-sound x e k
     act-sound (PRIO x) e k = prio-sound x e k
@@ -262,7 +262,7 @@ module _ (m : Model) (t : Fit m) (r : State) (p : ℕ) where
     act-sound CLOSE e k = close-sound e
 
     -- The end of a block, and of the class body.
-    ends-sound : Leads m (ends m s p q)
+    ends-sound : Leads m (ends m s p)
     unfolding ends
     ends-sound =
         good-need No.OWING (all (λ n. eqb n 0) (q .held) && isEmpty (q .slaves)) λ h₁.
@@ -272,7 +272,7 @@ module _ (m : Model) (t : Fit m) (r : State) (p : ℕ) where
         (remove h p one (λ k. omega arith) (λ k. ap (slaved k) (empty-is (q .slaves) (b .1)))
         (λ j. eqb-true _ 0 (all-get (λ n. eqb n 0 ≡ true) (q .held) j 0 none-held refl)))
 
-    exhausted-sound : (fs : List Frame) → q .frames ≡ fs → Leads m (exhausted m s p q fs)
+    exhausted-sound : (fs : List Frame) → q .frames ≡ fs → Leads m (exhausted m s p fs)
     unfolding exhausted
     exhausted-sound [] e = stopped
     exhausted-sound (f ∷ fs) e =
@@ -283,7 +283,7 @@ module _ (m : Model) (t : Fit m) (r : State) (p : ℕ) where
       where
         outward :
             (gs : List Frame) → chained m gs ≡ true
-            → Leads m (if isEmpty gs then ends m s p q else ok (quiet (put p (with-frames q (leave m gs)) s)))
+            → Leads m (if isEmpty gs then ends m s p else ok (quiet (put p (with-frames q (leave m gs)) s)))
         outward [] k = ends-sound
         outward (g ∷ gs) k = good (goes-into m s h p one _ (leave-chain m (g ∷ gs) k) (leave-al m g gs))
 

@@ -61,7 +61,10 @@ abbrev pub leave : Model → List Frame → List Frame
 leave m fs = elim (standsIn m fs) [ none ↦ fs | some a ↦ if comesBack a then fs else onward fs ]
 
 -- WHAT THE PROCESS q in place p, which has the floor, does. `on r`: it goes on as r and keeps the floor; `off r`: it loses it.
-module _ (m : Model) (s : State) (p : ℕ) (q : Process) where
+module _ (m : Model) (s : State) (p : ℕ) where
+  abbrev q : Process
+  q = process s p
+
   abbrev on : Process → State
   on r = put p r s
 
@@ -219,7 +222,7 @@ unfoldable pub moves : Model → State → ℕ → Outcome Next
 unfolding act exhausted
 moves m s p =
     elim (standsIn m (process s p .frames))
-    [ none ↦ exhausted m s p (process s p) (process s p .frames) | some a ↦ act m s p (process s p) a ]
+    [ none ↦ exhausted m s p (process s p .frames) | some a ↦ act m s p a ]
 
 -- A return notice, when first, adds the amount, walks and is gone.
 unfoldable pub occurs : Model → State → Notice → Outcome Next

@@ -28,7 +28,7 @@ returns c =
     λ v.
     let e = then1 .if1 .taken in
     let x = known (v .meets) 25 e in
-    done (v .meets) (REQ (x .0)) (x .1) _ (req-is _ _ _ _ _) _ _ _ _ _ _ (at-request .request .ensures (req-told v e))
+    done (v .meets) (REQ (x .0)) (x .1) _ (req-is _ _ _ _) _ _ _ _ _ _ (at-request .request .ensures (req-told v e))
 
 request-requires-2 : tie.Need-request-requires-2
 request-requires-2 c κs =
@@ -49,7 +49,7 @@ returns-2 c =
     λ v.
     let e = then2 .if2 .taken in
     let x = known (v .meets) 26 e in
-    done (v .meets) (TRY (x .0)) (x .1) _ (try-is _ _ _ _ _) _ _ _ _ _ _ (at-request2 .request2 .ensures (try-told v e))
+    done (v .meets) (TRY (x .0)) (x .1) _ (try-is _ _ _ _) _ _ _ _ _ _ (at-request2 .request2 .ensures (try-told v e))
 
 pass-or-enter-requires : tie.Need-pass-or-enter-requires
 pass-or-enter-requires c κs =
@@ -70,7 +70,7 @@ returns-3 c =
     λ v.
     let e = then3 .if3 .taken in
     let x = known (v .meets) 27 e in
-    done (v .meets) (WHILE (x .0) (x .1)) (x .2) _ (while-is _ _ _ _ _ _) _ _ _ _ _ _
+    done (v .meets) (WHILE (x .0) (x .1)) (x .2) _ (while-is _ _ _ _ _) _ _ _ _ _ _
     (at-pass-or-enter .pass-or-enter .ensures (while-told v e))
 
 start-requires : tie.Need-start-requires
@@ -92,7 +92,7 @@ returns-4 c =
     λ v.
     let e = then4 .if4 .taken in
     let x = known (v .meets) 28 e in
-    done (v .meets) (START (x .0) (x .1) (x .2)) (x .3) _ (start-is _ _ _ _ _ _ _) _ _ _ _ _ _
+    done (v .meets) (START (x .0) (x .1) (x .2)) (x .3) _ (start-is _ _ _ _ _ _) _ _ _ _ _ _
     (at-start .start .ensures (start-told (v .meets) e))
 
 trace-requires : tie.Need-trace-requires
@@ -114,7 +114,7 @@ returns-5 c =
     λ v.
     let e = then5 .if5 .taken in
     let x = known (v .meets) 29 e in
-    done (v .meets) (TRACE (x .0)) (x .1) _ (trace-is _ _ _ _ _) _ _ _ _ _ _ (at-trace .trace .ensures (trace-told (v .meets) e))
+    done (v .meets) (TRACE (x .0)) (x .1) _ (trace-is _ _ _ _) _ _ _ _ _ _ (at-trace .trace .ensures (trace-told (v .meets) e))
 
 close-requires : tie.Need-close-requires
 close-requires c κs =
@@ -165,7 +165,7 @@ returns-6 c =
       else5 .if5 .left,
     ) in
     let x = known (v .meets) 30 e in
-    done (v .meets) CLOSE x _ (close-is _ _ _ _) _ _ _ _ _ _ (at-close .close .ensures (on (stands-at (v .meets) CLOSE x)))
+    done (v .meets) CLOSE x _ (close-is _ _ _) _ _ _ _ _ _ (at-close .close .ensures (on (stands-at (v .meets) CLOSE x)))
 
 pub act-on-claim-spec : {M : Type 1} → statement M
 act-on-claim-spec =

@@ -38,7 +38,7 @@ returns c =
     let at-u16-at = then1 .before in
     λ v.
     let i = is-become v (at-u16-at .u16-at .ensures .0) (then1 .if1 .taken) in
-    done v (BECOME _) i _ (become-is _ _ _ _ _) _ _ _ _ _ _ (at-become-slave .become-slave .ensures (stands-at v (BECOME _) i))
+    done v (BECOME _) i _ (become-is _ _ _ _) _ _ _ _ _ _ (at-become-slave .become-slave .ensures (stands-at v (BECOME _) i))
 
 u16-at-requires-2 : tie.Need-u16-at-requires-2
 u16-at-requires-2 c κs =
@@ -79,7 +79,7 @@ returns-2 c =
     let a = at-wide .wide .ensures .0 ∙ at-u16-at .u16-at .ensures .0 in
     let b = at-wide2 .wide2 .ensures .0 ∙ at-u16-at2 .u16-at2 .ensures .0 in
     let i = is-do v a b (then2 .if2 .taken) in
-    done-quietly v (DO _ _) i _ (do-is _ _ _ _ _ _) _ _ _ _ _ (at-do-times .do-times .ensures (on (stands-at v (DO _ _) i)))
+    done-quietly v (DO _ _) i _ (do-is _ _ _ _ _) _ _ _ _ _ (at-do-times .do-times .ensures (on (stands-at v (DO _ _) i)))
 
 u16-at-requires-3 : tie.Need-u16-at-requires-3
 u16-at-requires-3 c κs =
@@ -120,7 +120,7 @@ returns-3 c =
     λ v.
     let a = at-wide3 .wide3 .ensures .0 ∙ at-u16-at .u16-at .ensures .0 in
     let i = is-puts v a (at-u16-at3 .u16-at3 .ensures .0) (then3 .if3 .taken) in
-    done v (PUTS _ _) i _ (puts-is _ _ _ _ _ _) _ _ _ _ _ _
+    done v (PUTS _ _) i _ (puts-is _ _ _ _ _) _ _ _ _ _ _
     (at-puts .puts .ensures (on (stands-at v (PUTS _ _) i)))
 
 u32-at-requires : tie.Need-u32-at-requires
@@ -165,7 +165,7 @@ returns-4 c =
     λ v.
     let a = at-wide4 .wide4 .ensures .0 ∙ at-u32-at .u32-at .ensures in
     let i = is-putr v (at-u16-at .u16-at .ensures .0) a (then4 .if4 .taken) in
-    done-quietly v (PUTR _ _) i _ (putr-is _ _ _ _ _ _) _ _ _ _ _ (at-putr .putr .ensures (on (stands-at v (PUTR _ _) i)))
+    done-quietly v (PUTR _ _) i _ (putr-is _ _ _ _ _) _ _ _ _ _ (at-putr .putr .ensures (on (stands-at v (PUTR _ _) i)))
 
 cast-putb : tie.Need-cast-putb
 cast-putb c = search needs
@@ -206,7 +206,7 @@ returns-5 c =
     let e : start .args .kind ≡ 22 =
     omega (arith, r, else1 .if1 .left, else2 .if2 .left, else3 .if3 .left, else4 .if4 .left) in
     let i = is-putb v (at-u16-at .u16-at .ensures .0) a e in
-    done-quietly v (PUTB _ _) i _ (putb-is _ _ _ _ _ _) _ _ _ _ _ (at-putb .putb .ensures (on (stands-at v (PUTB _ _) i)))
+    done-quietly v (PUTB _ _) i _ (putb-is _ _ _ _ _) _ _ _ _ _ (at-putb .putb .ensures (on (stands-at v (PUTB _ _) i)))
 
 pub act-on-number-spec : {M : Type 1} → statement M
 act-on-number-spec =

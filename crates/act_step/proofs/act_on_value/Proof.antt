@@ -26,7 +26,7 @@ returns c =
     λ v.
     let e = then1 .if1 .taken in
     let t = hold-told v e in
-    done-quietly v (HOLD (t .expression)) (known v 16 e .1) _ (hold-is _ _ _ _ (t .expression)) _ _ _ _ _
+    done-quietly v (HOLD (t .expression)) (known v 16 e .1) _ (hold-is _ _ _ (t .expression)) _ _ _ _ _
     (at-hold .hold .ensures t)
 
 prio-requires : tie.Need-prio-requires
@@ -45,7 +45,7 @@ returns-2 c =
     λ v.
     let e = then2 .if2 .taken in
     let t = prio-told v e in
-    done-quietly v (PRIO (t .expression)) (known v 17 e .1) _ (prio-is _ _ _ _ (t .expression)) _ _ _ _ _
+    done-quietly v (PRIO (t .expression)) (known v 17 e .1) _ (prio-is _ _ _ (t .expression)) _ _ _ _ _
     (at-prio .prio .ensures t)
 
 u16-at-requires : tie.Need-u16-at-requires
@@ -101,7 +101,7 @@ returns-3 c =
     let n = at-u16-at .u16-at .ensures .0 in
     let e = then3 .if3 .taken in
     let t = set-told v n (rest-of 2 (start .args .body .now)) e in
-    done v (SET _ (t .expression)) (is-set v n e .1) _ (set-is _ _ _ _ _ (t .expression)) _ _ _ _ _ _
+    done v (SET _ (t .expression)) (is-set v n e .1) _ (set-is _ _ _ _ (t .expression)) _ _ _ _ _ _
     (at-set-global .set-global .ensures t)
 
 set-local-requires : tie.Need-set-local-requires
@@ -131,7 +131,7 @@ returns-4 c =
     let e : start .args .kind ≡ 19 =
     omega (arith, kind-in v, else1 .if1 .left, else2 .if2 .left, else3 .if3 .left, start .pre .1 .0) in
     let t = lset-told v n (rest-of 2 (start .args .body .now)) e in
-    done-quietly v (LSET _ (t .expression)) (is-lset v n e .1) _ (lset-is _ _ _ _ _ (t .expression)) _ _ _ _ _
+    done-quietly v (LSET _ (t .expression)) (is-lset v n e .1) _ (lset-is _ _ _ _ (t .expression)) _ _ _ _ _
     (at-set-local .set-local .ensures t)
 
 pub act-on-value-spec : {M : Type 1} → statement M
