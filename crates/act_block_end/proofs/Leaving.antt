@@ -27,11 +27,12 @@ use Rattle.base_journal.specs.Wrote.{wroteAt}
 use Rattle.file_index.specs.Ties.{kindAt, ActionAt}
 use Rattle.file_actions.specs.Kinds.{kind-of}
 use Rattle.row_work.specs.Work.{workOf, FrameSized, Sized, Doing}
+use Rattle.row_work.specs.Underway.{in-state, still-sized}
 use Rattle.row_process.specs.Process.{Shown, Lives, Inner, changed, restarted, again, outside, out}
 use Rattle.row_process.specs.Put.{process-sized, put-there, put-again}
 use Rattle.act_floor.specs.Acting.{Stepped}
 use Rattle.act_floor.specs.Running.{Runs, runs}
-use Rattle.act_floor.specs.Floor.{is-sized, shown, still-sized, hand-is, in-hand, lives, low, fine}
+use Rattle.act_floor.specs.Floor.{is-sized, shown, hand-is, in-hand, lives, low, fine}
 use Rattle.act_block_end.specs.Leaving.{Exhausted, Ends, Leaves, Back}
 use Rattle.row_lists.specs.Lists.{Any}
 use Rattle.row_begin_end.specs.Begins.{Ending}
@@ -98,13 +99,13 @@ module _ {bs map w : List ℕ} {p : ℕ} (v : Back bs map w p) where
   abbrev pub its-run : Runs w
   its-run = runs (v .acting .running)
 
-  pub its-lives : Lives p (v .acting .running .is)
+  pub its-lives : Lives p (v .acting .running .run .is)
   its-lives = lives its-run p (v .acting .on-floor)
 
   pub its-frame : FrameSized (its-lives .innermost)
   its-frame =
       subst (AllOf FrameSized) (its-lives .frames-are)
-      (process-sized (v .acting .running .is) p (is-sized its-run) .frames-ok) .0
+      (process-sized (v .acting .running .run .is) p (is-sized its-run) .frames-ok) .0
 
   abbrev pub its-work : Shown w (Lives p)
   its-work = shown its-run its-lives
@@ -131,11 +132,11 @@ module _ {bs map w : List ℕ} {p : ℕ} (v : Back bs map w p) where
       pub action-few : 257 + (a + j) < length map
       action-few = let h = action-low in let l = v .acting .running .mapped .long in omega (arith, h, l)
 
-      stands-there : getElem? (block (v .acting .running .model) b) j ≡ some (v .action)
+      stands-there : getElem? (block (v .acting .running .run .model) b) j ≡ some (v .action)
       stands-there =
-          ap (λ k. getElem? (block (v .acting .running .model) k) j) (block-read its-work)
-          ∙ ap (getElem? (block (v .acting .running .model) (its-lives .innermost .block))) (index-read its-work)
-          ∙ ap (standsIn (v .acting .running .model)) (sym (its-lives .frames-are))
+          ap (λ k. getElem? (block (v .acting .running .run .model) k) j) (block-read its-work)
+          ∙ ap (getElem? (block (v .acting .running .run .model) (its-lives .innermost .block))) (index-read its-work)
+          ∙ ap (standsIn (v .acting .running .run .model)) (sym (its-lives .frames-are))
           ∙ v .acting .stands
 
       -- Its record stands at byte k.
@@ -158,10 +159,10 @@ OwesNothing w p t =
 -- Nothing is owed;
 module _ {w : List ℕ} {p : ℕ} (v : Ends w p) {t : Bool} (answer : OwesNothing w p t) (clear : t ≡ true) where
   abbrev pub who : Process
-  who = process (v .running .is) p
+  who = process (v .running .run .is) p
 
   abbrev pub gone : State
-  gone = put p nobody (v .running .is)
+  gone = put p nobody (v .running .run .is)
 
   owes-nothing : (all (λ n. eqb n 0) (who .held) ≡ true) × (isEmpty (who .slaves) ≡ true)
   owes-nothing = and-true (all (λ n. eqb n 0) (who .held)) _ (sym (answer (looked-at v)) ∙ clear)
@@ -172,7 +173,7 @@ module _ {w : List ℕ} {p : ℕ} (v : Ends w p) {t : Bool} (answer : OwesNothin
   no-slave : who .slaves ≡ []
   no-slave = empty-is (who .slaves) (owes-nothing .1)
 
-  gone-held : Held (v .running .model) gone (v .running .is .blocked) (λ k. 0) (λ j. 0)
+  gone-held : Held (v .running .run .model) gone (v .running .run .is .blocked) (λ k. 0) (λ j. 0)
   gone-held =
       remove (v .running .sound) p (in-hand (v .running) p (v .on-floor))
       (λ k. let h = hand-is (v .running) p (v .on-floor) k in omega arith)
@@ -180,9 +181,9 @@ module _ {w : List ℕ} {p : ℕ} (v : Ends w p) {t : Bool} (answer : OwesNothin
       (λ j. eqb-true _ 0 (all-get (λ n. eqb n 0 ≡ true) (who .held) j 0 holds-none refl))
 
   pub gone-sized : Sized gone
-  gone-sized = still-sized (v .running) gone gone-held (is-sized (v .running) .floor-ok)
+  gone-sized = still-sized (v .running .run) gone gone-held (is-sized (v .running) .floor-ok)
 
-  pub may-end : Ending p (v .running .is)
+  pub may-end : Ending p (v .running .run .is)
   may-end =
       record {
         in-places = low (v .running) p (v .on-floor);
@@ -198,39 +199,41 @@ module _ {w : List ℕ} {p : ℕ} (v : Ends w p) {t : Bool} (answer : OwesNothin
   abbrev pub ending : Doing w (Ending p) (λ s. put p nobody s)
   ending =
       record {
-        is = v .running .is;
-        shows = v .running .shows;
+        is = v .running .run .is;
+        shows = v .running .run .shows;
         before = is-sized (v .running);
         after = gone-sized;
         given = may-end;
       }
 
   pub nobody-sized : Sized (with-floor gone empty)
-  nobody-sized = still-sized (v .running) (with-floor gone empty) gone-held tt
+  nobody-sized = still-sized (v .running .run) (with-floor gone empty) gone-held tt
 
   abbrev pub leaving-floor : {w₁ : List ℕ} → w₁ ≡ workOf gone → Doing w₁ Any (λ s. with-floor s empty)
   leaving-floor h = record { is = gone; shows = h; before = gone-sized; after = nobody-sized; given = tt }
 
   pub ended : {w′ : List ℕ} → w′ ≡ workOf (with-floor gone empty) → (at : ℕ) (journal : List ℕ) {journal′ : List ℕ}
-      → journal′ ≡ wroteAt at (line (v .running .is) (who .number) 2 (valueOf 2_147_483_648) ∷ []) journal
-      → Stepped (ends (v .running .model) (v .running .is) p) 0 1 w w′ at journal journal′
+      → journal′ ≡ wroteAt at (line (v .running .run .is) (who .number) 2 (valueOf 2_147_483_648) ∷ []) journal
+      → Stepped (ends (v .running .run .model) (v .running .run .is) p) 0 1 w w′ at journal journal′
   ended f at journal g =
-      rw (owing-nothing (v .running .model) (v .running .is) p t (answer (looked-at v)) clear) (refl, (refl, (f, g)))
+      rw (owing-nothing (v .running .run .model) (v .running .run .is) p t (answer (looked-at v)) clear)
+      (refl, (refl, (f, g)))
 
 -- or something is.
 pub owed : {w : List ℕ} {p : ℕ} (v : Ends w p) {t : Bool} → OwesNothing w p t → t ≡ false → (at : ℕ) (journal : List ℕ)
-    → Stepped (ends (v .running .model) (v .running .is) p) 26 0 w w at journal journal
+    → Stepped (ends (v .running .run .model) (v .running .run .is) p) 26 0 w w at
+    journal journal
 owed {p = p} v {t} answer h at journal =
-    rw (owing (v .running .model) (v .running .is) p t (answer (looked-at v)) h)
+    rw (owing (v .running .run .model) (v .running .run .is) p t (answer (looked-at v)) h)
     (refl, (refl, (refl, refl)))
 
 -- A BLOCK WITHIN OTHERS IS LEFT: the process stands then at the action that named it.
 module _ {bs map w : List ℕ} {p : ℕ} (v : Leaves bs map w p) where
   abbrev pub model : Model
-  model = v .running .model
+  model = v .running .run .model
 
   abbrev pub state : State
-  state = v .running .is
+  state = v .running .run .is
 
   abbrev pub leaver : Process
   leaver = process state p
@@ -268,11 +271,17 @@ module _ {bs map w : List ℕ} {p : ℕ} (v : Leaves bs map w p) where
       }
 
   pub out-sized : Sized (changed p (out true) state)
-  out-sized = rw out-is (still-sized (runs (v .running)) back back-sound (is-sized (runs (v .running)) .floor-ok))
+  out-sized = rw out-is (still-sized (v .running .run) back back-sound (is-sized (runs (v .running)) .floor-ok))
 
   abbrev pub going-out : Doing w (Inner p) (changed p (out true))
   going-out =
-      record { is = state; shows = v .running .shows; before = is-sized (runs (v .running)); after = out-sized; given = inner }
+      record {
+        is = state;
+        shows = v .running .run .shows;
+        before = is-sized (runs (v .running));
+        after = out-sized;
+        given = inner;
+      }
 
   pub gone-out : workOf (changed p (out true) state) ≡ workOf back
   gone-out = ap workOf out-is
@@ -306,16 +315,7 @@ module _ {bs map w : List ℕ} {p : ℕ} (v : Leaves bs map w p) where
         acting =
             record {
               running =
-                  record {
-                    model = model;
-                    fits = v .running .fits;
-                    nested = v .running .nested;
-                    few-rounds = v .running .few-rounds;
-                    mapped = v .running .mapped;
-                    is = back;
-                    shows = e;
-                    sound = back-sound;
-                  };
+                  record { run = in-state (v .running .run) back e; mapped = v .running .mapped; sound = back-sound };
               on-floor = v .on-floor;
               stands = stands-back;
             };
@@ -341,7 +341,7 @@ module _ {bs map w : List ℕ} {p : ℕ} (v : Exhausted bs map w p) where
   run = runs (v .running)
 
   abbrev pub now-is : State
-  now-is = v .running .is
+  now-is = v .running .run .is
 
   abbrev pub its-process : Process
   its-process = process now-is p
@@ -364,23 +364,24 @@ module _ {bs map w : List ℕ} {p : ℕ} (v : Exhausted bs map w p) where
     unfolding again restarted
     again-sized =
         let f : Frame = blocks .innermost in
-        let c : chained (v .running .model) (f ∷ blocks .around) ≡ true =
-        ap (chained (v .running .model)) (sym (blocks .frames-are)) ∙ fine run p (v .on-floor) .frames-ok in
+        let c : chained (v .running .run .model) (f ∷ blocks .around) ≡ true =
+        ap (chained (v .running .run .model)) (sym (blocks .frames-are)) ∙ fine run p (v .on-floor) .frames-ok in
         subst (λ l. Sized (put p (with-frames its-process (restarted l)) now-is)) (sym (blocks .frames-are))
-        (still-sized run (put p (with-frames its-process (restarted (f ∷ blocks .around))) now-is)
-        (goes-into (v .running .model) now-is (v .running .sound) p (in-hand run p (v .on-floor)) _
-        (chain-again (v .running .model) f (blocks .around) rounds-more c) refl)
+        (still-sized (v .running .run) (put p (with-frames its-process (restarted (f ∷ blocks .around))) now-is)
+        (goes-into (v .running .run .model) now-is (v .running .sound) p (in-hand run p (v .on-floor)) _
+        (chain-again (v .running .run .model) f (blocks .around) rounds-more c) refl)
         (is-sized run .floor-ok))
 
     abbrev pub going-round : Doing w (Lives p) (changed p again)
-    going-round = record { is = now-is; shows = v .running .shows; before = is-sized run; after = again-sized; given = blocks }
+    going-round =
+        record { is = now-is; shows = v .running .run .shows; before = is-sized run; after = again-sized; given = blocks }
 
     pub went-round : {w′ : List ℕ} → w′ ≡ workOf (put p (again its-process) now-is) → (at : ℕ) (journal : List ℕ)
-        → Stepped (exhausted (v .running .model) now-is p (its-process .frames)) 0 0 w w′ at journal journal
+        → Stepped (exhausted (v .running .run .model) now-is p (its-process .frames)) 0 0 w w′ at journal journal
     unfolding wroteAt
     went-round f at journal =
         rw
-        (goes-round (v .running .model) now-is p (blocks .innermost) (blocks .around) (blocks .frames-are)
+        (goes-round (v .running .run .model) now-is p (blocks .innermost) (blocks .around) (blocks .frames-are)
         rounds-more)
         (refl, (refl, (f, refl)))
 
@@ -405,10 +406,10 @@ module _ {bs map w : List ℕ} {p : ℕ} (v : Exhausted bs map w p) where
           frames-are = blocks .frames-are ∙ ap (λ l. blocks .innermost ∷ l) (alone-in h);
         }
 
-    pub body-left : n ≡ 1 → exhausted (v .running .model) now-is p (its-process .frames)
-        ≡ ends (v .running .model) now-is p
+    pub body-left : n ≡ 1 → exhausted (v .running .run .model) now-is p (its-process .frames)
+        ≡ ends (v .running .run .model) now-is p
     body-left h =
-        leaves-body (v .running .model) now-is p (blocks .innermost) (blocks .around) (blocks .frames-are)
+        leaves-body (v .running .run .model) now-is p (blocks .innermost) (blocks .around) (blocks .frames-are)
         last-round (alone-in h)
 
     abbrev pub in-block : (n ≡ 1 → ⊥) → Leaves bs map w p
@@ -423,12 +424,12 @@ module _ {bs map w : List ℕ} {p : ℕ} (v : Exhausted bs map w p) where
         }
 
     pub block-left : (h : n ≡ 1 → ⊥) {w′ : List ℕ}
-        → w′ ≡ workOf (put p (with-frames its-process (leave (v .running .model) (blocks .around))) now-is)
+        → w′ ≡ workOf (put p (with-frames its-process (leave (v .running .run .model) (blocks .around))) now-is)
         → (at : ℕ) (journal : List ℕ)
-        → Stepped (exhausted (v .running .model) now-is p (its-process .frames)) 0 0 w w′ at journal journal
+        → Stepped (exhausted (v .running .run .model) now-is p (its-process .frames)) 0 0 w w′ at journal journal
     unfolding wroteAt
     block-left h f at journal =
         rw
-        (leaves-block (v .running .model) now-is p (blocks .innermost) (blocks .around) (blocks .frames-are)
+        (leaves-block (v .running .run .model) now-is p (blocks .innermost) (blocks .around) (blocks .frames-are)
         last-round (within-others h))
         (refl, (refl, (f, refl)))

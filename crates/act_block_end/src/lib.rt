@@ -48,7 +48,8 @@ fn at_while<'a>(s: &'a [u8], map: &'a [u32], w: &'a [u64], p: usize) -> bool
 fn leave<'a>(s: &'a [u8], map: &'a [u32], w: &'a mut [u64], p: usize)
     requires { ⌜ Leaves (now s) (now map) (now w) p ⌝ }
     ensures { λ _. ⌜ ((v : Leaves (now (s .entry)) (now (map .entry)) (now (w .entry)) p)
-        → now (w .exit) ≡ workOf (changed p (λ q. with-frames q (leave (v .running .model) (v .around))) (v .running .is))) ⌝ }
+        → now (w .exit)
+        ≡ workOf (changed p (λ q. with-frames q (leave (v .running .run .model) (v .around))) (v .running .run .is))) ⌝ }
 {
     row_process::leave_block(w, p, true);
     if at_while(s, map, w, p) {

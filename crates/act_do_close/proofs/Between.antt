@@ -34,7 +34,7 @@ module _ {w : List ℕ} {p n b : ℕ} (v : On w p (DO n b)) (some : n ≡ 0 → 
   entering =
       record {
         is = s v;
-        shows = v .running .shows;
+        shows = v .running .run .shows;
         before = is-sized v;
         after = inside-sized;
         given = lives v;

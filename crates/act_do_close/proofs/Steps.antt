@@ -15,10 +15,10 @@ use Rattle.act_do_close.proofs.Outcomes.{do-none, do-some}
 
 module _ {w : List ℕ} {p : ℕ} {x : Action} (v : On w p x) where
   abbrev model : Model
-  model = v .running .model
+  model = v .running .run .model
 
   abbrev state : State
-  state = v .running .is
+  state = v .running .run .is
 
   abbrev who : Process
   who = process state p

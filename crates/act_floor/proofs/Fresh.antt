@@ -21,12 +21,15 @@ abbrev pub fresh-open : {bs : List ℕ} {m : Model} → AllOf IsByte bs → deco
 fresh-open {bs} {m} h e =
     let t : Fit m = accepted-fit bs m e in
     record {
-      model = m;
-      fits = t;
-      nested = accepted-nested bs m e;
-      few-rounds = accepted-rounds bs m h e;
+      run =
+          record {
+            model = m;
+            fits = t;
+            nested = accepted-nested bs m e;
+            few-rounds = accepted-rounds bs m h e;
+            is = fresh m;
+            shows = refl;
+          };
       mapped = mapped-by bs m e;
-      is = fresh m;
-      shows = refl;
       sound = fresh-sound m t;
     }

@@ -5,39 +5,33 @@ use mathlib.Core.List.{List, []}
 use mathlib.Core.Option.{some}
 use lib.ListN.{length}
 use Rattle.semantics.specs.Words.{Outcome, ok, fails}
-use Rattle.semantics.specs.Model.{Action, Model}
-use Rattle.semantics.specs.State.{State, heldBy, process}
+use Rattle.semantics.specs.Model.{Action}
+use Rattle.semantics.specs.State.{heldBy, process}
 use Rattle.semantics.specs.Claim.{standsIn}
 use Rattle.semantics.specs.Walk.{Next}
 use Rattle.semantics.specs.Run.{goesOn, before}
-use Rattle.promises.specs.Fit.{Fit, Nested}
 use Rattle.promises.specs.Sound.{Sound}
 use Rattle.row_work.specs.Work.{workOf}
-use Rattle.row_work.specs.Sized.{Rounds}
+use Rattle.row_work.specs.Underway.{Underway}
 use Rattle.file_map.specs.Map.{Mapped}
 use Rattle.base_journal.specs.Wrote.{wroteAt}
 
 -- A sound run of an accepted model: w shows its state, and map and bs are its model's.
 pub record Open (bs map w : List ℕ) : Type 0 where
-  pub model : Model
-  pub fits : Fit model
-  pub nested : Nested model
-  pub few-rounds : Rounds model
-  pub mapped : Mapped bs model map
-  pub is : State
-  pub shows : w ≡ workOf is
-  pub sound : Sound model is
+  pub run : Underway w
+  pub mapped : Mapped bs (run .model) map
+  pub sound : Sound (run .model) (run .is)
 
 -- It goes on: it is not closed, and somebody has the floor or is in the event list.
 pub record Going (bs map w : List ℕ) : Type 0 where
   pub running : Open bs map w
-  pub goes-on : before (running .is) ≡ goesOn
+  pub goes-on : before (running .run .is) ≡ goesOn
 
 -- In it the process in place p has the floor and stands at the action x.
 pub record Acting (bs map w : List ℕ) (p : ℕ) (x : Action) : Type 0 where
   pub running : Open bs map w
-  pub on-floor : running .is .floor ≡ heldBy p
-  pub stands : standsIn (running .model) (process (running .is) p .frames) ≡ some x
+  pub on-floor : running .run .is .floor ≡ heldBy p
+  pub stands : standsIn (running .run .model) (process (running .run .is) p .frames) ≡ some x
 
 -- Room for a line for each of the 64 places and two more.
 abbrev pub Roomy : ℕ → List ℕ → Type 0

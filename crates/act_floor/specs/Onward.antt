@@ -13,6 +13,7 @@ use Rattle.promises.specs.Moves.{hand-alive}
 use Rattle.promises.specs.Parts.{fit-at}
 use Rattle.promises.specs.Takes.{goes-past}
 use Rattle.row_work.specs.Work.{workOf, FloorSized, Sized, Doing}
+use Rattle.row_work.specs.Underway as Underway
 use Rattle.row_process.specs.Process.{Shown, Lives, changed}
 use Rattle.row_process.specs.Put.{put-there, changed-twice}
 use Rattle.row_process.specs.Alive.{hand-lives}
@@ -21,10 +22,10 @@ use Rattle.act_floor.specs.Floor as Floor
 
 module _ {w : List ℕ} {p : ℕ} {x : Action} (v : On w p x) where
   abbrev pub m : Model
-  m = v .running .model
+  m = v .running .run .model
 
   abbrev pub s : State
-  s = v .running .is
+  s = v .running .run .is
 
   abbrev pub q : Process
   q = process s p
@@ -40,7 +41,7 @@ module _ {w : List ℕ} {p : ℕ} {x : Action} (v : On w p x) where
   shown g = Floor.shown (v .running) g
 
   pub still-sized : (t : State) {z y : ℕ → ℕ} → Held m t (t .blocked) z y → FloorSized (t .floor) → Sized t
-  still-sized t h o = Floor.still-sized (v .running) t h o
+  still-sized t h o = Underway.still-sized (v .running .run) t h o
 
   pub hand-is : (k : ℕ) → hand k ≡ once k p
   hand-is = Floor.hand-is (v .running) p (v .on-floor)
@@ -61,7 +62,7 @@ module _ {w : List ℕ} {p : ℕ} {x : Action} (v : On w p x) where
   fine = Floor.fine (v .running) p (v .on-floor)
 
   pub action-fits : ActFit m x
-  action-fits = fit-at m (v .running .fits) (q .frames) x (v .stands)
+  action-fits = fit-at m (v .running .run .fits) (q .frames) x (v .stands)
 
   -- PAST THE ACTION as r, with more places in hand, z in all, and y of each resource.
   pub passes-as : {z y : ℕ → ℕ} (r : Process) → Fine m (s .last) r → r .frames ≡ q .frames → r .number ≡ q .number
@@ -84,7 +85,7 @@ module _ {w : List ℕ} {p : ℕ} {x : Action} (v : On w p x) where
   passing-as e = record { is = s; shows = e; before = is-sized; after = after-sized; given = lives }
 
   abbrev pub passing : Doing w (Lives p) (changed p past)
-  passing = passing-as (v .running .shows)
+  passing = passing-as (v .running .run .shows)
 
   -- PAST THE ACTION, changed in another part than its slaves, with y of each resource in hand.
   pub passes-so : {y : ℕ → ℕ} (r : Process) → Fine m (s .last) r → r .frames ≡ q .frames → r .number ≡ q .number

@@ -25,10 +25,10 @@ use Rattle.act_hold_prio_lset_trace.proofs.Outcomes.{hold-back, hold-la
 -- The expression's value is r.
 module _ {body w : List ℕ} {p : ℕ} {x : Expr → Action} (v : Given body w p x) where
   abbrev m : Model
-  m = v .on .running .model
+  m = v .on .running .run .model
 
   abbrev s : State
-  s = v .on .running .is
+  s = v .on .running .run .is
 
   abbrev q : Process
   q = process s p

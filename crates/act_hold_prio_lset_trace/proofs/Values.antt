@@ -31,12 +31,12 @@ use Rattle.act_floor.specs.Onward.{lives, action-fits}
 
 module _ {body w : List ℕ} {p : ℕ} (v : Valued body w p) where
   abbrev s : State
-  s = v .running .is
+  s = v .running .run .is
 
   abbrev q : Process
   q = process s p
 
-  pub has-fine : Fine (v .running .model) (s .last) q
+  pub has-fine : Fine (v .running .run .model) (s .last) q
   has-fine = let a = ap al (v .lives .frames-are) in proc-at (v .running .sound) p .live (omega arith)
 
   -- The eight locals, as the code cuts them out.
@@ -47,26 +47,26 @@ module _ {body w : List ℕ} {p : ℕ} (v : Valued body w p) where
   shows-cut =
       let e : 2_508 + 128 * p + 8 - (2_508 + 128 * p) ≡ 8 = omega arith in
       ap (λ k. take k (drop (2_508 + 128 * p) w)) e
-      ∙ ap (λ l. take 8 (drop (2_508 + 128 * p) l)) (v .running .shows)
+      ∙ ap (λ l. take 8 (drop (2_508 + 128 * p) l)) (v .running .run .shows)
       ∙ locals-part s (is-sized (v .running)) p (v .lives .in-places)
 
   module _ (t : ℕ) (clock : t ≡ s .clock) where
     abbrev pub readable : Readable body (take 32 (drop 72 w)) cut t
     readable =
         record {
-          model = v .running .model;
+          model = v .running .run .model;
           gs = s .globals;
           ls = q .locals;
           is-sized = v .reads .0;
           is-valid = v .reads .1 .0;
-          fits = expression-fits (v .running .model) body (v .expression) (v .reads) (v .expression-fits);
-          few-vars = v .running .fits .few-vars;
+          fits = expression-fits (v .running .run .model) body (v .expression) (v .reads) (v .expression-fits);
+          few-vars = v .running .run .fits .few-vars;
           vars-many = v .running .sound .vars-many;
           locals-many = has-fine .locals-many;
           globals-ok = v .running .sound .globals-ok;
           locals-ok = has-fine .locals-ok;
           clock-ok = rw clock (v .running .sound .clock-ok);
-          shows-globals = ap (λ l. take 32 (drop 72 l)) (v .running .shows) ∙ globals-part s (is-sized (v .running));
+          shows-globals = ap (λ l. take 32 (drop 72 l)) (v .running .run .shows) ∙ globals-part s (is-sized (v .running));
           shows-locals = shows-cut;
         }
 
@@ -80,19 +80,20 @@ module _ {body w : List ℕ} {p : ℕ} (v : Valued body w p) where
 
   -- Such an answer tells the outcome that the definitions have.
   pub tells : {r : Value}
-      → ((d : Valued body w p) → r ≡ valueIn (eval (d .running .is) (process (d .running .is) p) (d .expression)))
+      → ((d : Valued body w p) → r ≡ valueIn (eval (d .running .run .is) (process (d .running .run .is) p) (d .expression)))
       → outcomeOf r ≡ eval s q (v .expression)
   tells answer =
       ap outcomeOf (answer v) ∙ told (eval s q (v .expression)) (rw (eval-parts s q (v .expression)) has-range)
     where
       has-range : Ranged (evalIn (s .globals) (q .locals) (s .clock) (v .expression))
       has-range =
-          evalIn-ranged (v .running .model) (s .globals) (q .locals) (s .clock) (v .running .sound .globals-ok)
+          evalIn-ranged (v .running .run .model) (s .globals) (q .locals) (s .clock) (v .running .sound .globals-ok)
           (has-fine .locals-ok) (v .running .sound .clock-ok) (v .expression) (v .expression-fits)
 
 -- The expression of the action where the process on the floor stands is such a one, and fits as the action does.
 abbrev pub to-value : {body w : List ℕ} {p : ℕ} {x : Expr → Action} (v : Given body w p x)
-    → (ActFit (v .on .running .model) (x (v .expression)) → ExprFit (v .on .running .model) (v .expression)) → Valued body w p
+    → (ActFit (v .on .running .run .model) (x (v .expression)) → ExprFit (v .on .running .run .model) (v .expression))
+    → Valued body w p
 to-value v f =
     record {
       running = v .on .running;

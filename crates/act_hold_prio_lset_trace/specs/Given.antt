@@ -10,10 +10,10 @@ use Rattle.act_floor.specs.Running.{Runs, On}
 -- EXPRESSIONS. The body is one of the model, and the process in place p lives.
 pub record Valued (body w : List ℕ) (p : ℕ) : Type 0 where
   pub running : Runs w
-  pub lives : Lives p (running .is)
+  pub lives : Lives p (running .run .is)
   pub expression : Expr
   pub reads : ReadsExpression body expression
-  pub expression-fits : ExprFit (running .model) expression
+  pub expression-fits : ExprFit (running .run .model) expression
 
 -- It is the expression of the action x where the process on the floor stands.
 pub record Given (body w : List ℕ) (p : ℕ) (x : Expr → Action) : Type 0 where

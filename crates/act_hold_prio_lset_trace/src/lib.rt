@@ -21,7 +21,7 @@ use base_numbers::row;
 pub fn value_in<'a>(body: &'a [u8], w: &'a [u64], p: usize) -> Value
     requires { ⌜ Valued (now body) (now w) p ⌝ }
     ensures { λ r. ⌜ ((v : Valued (now (body .entry)) (now (w .entry)) p)
-        → r ≡ valueIn (eval (v .running .is) (process (v .running .is) p) (v .expression))) ⌝ }
+        → r ≡ valueIn (eval (v .running .run .is) (process (v .running .run .is) p) (v .expression))) ⌝ }
 {
     let clock = act_floor::clock_of(w) as u32;
     let from = row::FIRST_LOCALS + process::WORDS * p;

@@ -15,7 +15,7 @@ use Rattle.promises.specs.Takes.{wakes-up}
 use Rattle.base_journal.specs.Wrote.{wroteAt}
 use Rattle.base_journal.specs.Laws.{wrote-length}
 use Rattle.row_work.specs.Work.{workOf, FloorSized, Sized, Doing, Done}
-use Rattle.row_work.specs.Sized.{held-sized}
+use Rattle.row_work.specs.Underway.{still-sized}
 use Rattle.row_work.specs.Shown.{work-long}
 use Rattle.row_process.specs.Process.{Lives}
 use Rattle.row_process.specs.Alive.{hand-lives}
@@ -42,12 +42,12 @@ module _ {w : List ℕ} {r c : ℕ} where
 -- ALL. Those from k on are left: freed in the state that w shows, they lead to the same state and the same bytes.
 module _ {first places : List ℕ} {i n : ℕ} (v : Freeing first i places n) (at : ℕ) (out₀ : List ℕ) where
   abbrev goal : Next
-  goal = freeAll i (v .gone) (v .is)
+  goal = freeAll i (v .gone) (v .run .is)
 
   pub record LeftOf (k : ℕ) (w out : List ℕ) : Type 0 where
     pub is : State
     pub shows : w ≡ workOf is
-    pub holds : Held (v .model) is (is .blocked) (λ j. over (once j) (drop k (v .gone)) + onFloor j (is .floor)) (λ j. 0)
+    pub holds : Held (v .run .model) is (is .blocked) (λ j. over (once j) (drop k (v .gone)) + onFloor j (is .floor)) (λ j. 0)
     pub floor-ok : FloorSized (is .floor)
     pub same-state : freeAll i (drop k (v .gone)) is .state ≡ goal .state
     pub same-lines : wroteAt (at + k) (freeAll i (drop k (v .gone)) is .lines) out ≡ wroteAt at (goal .lines) out₀
@@ -56,8 +56,8 @@ module _ {first places : List ℕ} {i n : ℕ} (v : Freeing first i places n) (a
   pub all-left : LeftOf 0 first out₀
   all-left =
       record {
-        is = v .is;
-        shows = v .shows;
+        is = v .run .is;
+        shows = v .run .shows;
         holds = v .holds;
         floor-ok = v .floor-ok;
         same-state = refl;
@@ -65,11 +65,8 @@ module _ {first places : List ℕ} {i n : ℕ} (v : Freeing first i places n) (a
         same-long = refl;
       }
 
-  sized-by : (t : State) {z y : ℕ → ℕ} → Held (v .model) t (t .blocked) z y → FloorSized (t .floor) → Sized t
-  sized-by t h o = held-sized (v .model) (v .fits) (v .nested) (v .few-rounds) t h o
-
   pub left-long : {k : ℕ} {w out : List ℕ} → LeftOf k w out → length w ≡ 10_696
-  left-long l = ap length (l .shows) ∙ work-long (l .is) (sized-by (l .is) (l .holds) (l .floor-ok))
+  left-long l = ap length (l .shows) ∙ work-long (l .is) (still-sized (v .run) (l .is) (l .holds) (l .floor-ok))
 
   module _ {k : ℕ} {w out : List ℕ} (h : k < n) (l : LeftOf k w out) where
     abbrev r : ℕ
@@ -88,15 +85,17 @@ module _ {first places : List ℕ} {i n : ℕ} (v : Freeing first i places n) (a
     abbrev s : State
     s = l .is
 
-    holds : Held (v .model) s (s .blocked) (λ j. over (once j) (r ∷ rest) + onFloor j (s .floor)) (λ j. 0)
-    holds = subst (λ xs. Held (v .model) s (s .blocked) (λ j. over (once j) xs + onFloor j (s .floor)) (λ j. 0)) next (l .holds)
+    holds : Held (v .run .model) s (s .blocked) (λ j. over (once j) (r ∷ rest) + onFloor j (s .floor)) (λ j. 0)
+    holds =
+        subst (λ xs. Held (v .run .model) s (s .blocked) (λ j. over (once j) xs + onFloor j (s .floor)) (λ j. 0)) next
+        (l .holds)
 
     in-hand : 1 ≤ over (once r) (r ∷ rest) + onFloor r (s .floor)
     in-hand = let a = once-self r in omega arith
 
-    awake : Held (v .model) (wake (s .clock) r s) (s .blocked) (λ j. over (once j) rest + onFloor j (s .floor)) (λ j. 0)
+    awake : Held (v .run .model) (wake (s .clock) r s) (s .blocked) (λ j. over (once j) rest + onFloor j (s .floor)) (λ j. 0)
     awake =
-        wakes-up (v .model) s holds (s .clock) r (omega arith) (holds .clock-ok) (λ j. omega arith)
+        wakes-up (v .run .model) s holds (s .clock) r (omega arith) (holds .clock-ok) (λ j. omega arith)
 
     pub next-freed : Doing w (Lives r) (λ u. wake (u .clock) r u)
     unfolding wake
@@ -104,8 +103,8 @@ module _ {first places : List ℕ} {i n : ℕ} (v : Freeing first i places n) (a
         record {
           is = s;
           shows = l .shows;
-          before = sized-by s holds (l .floor-ok);
-          after = sized-by (wake (s .clock) r s) awake (l .floor-ok);
+          before = still-sized (v .run) s holds (l .floor-ok);
+          after = still-sized (v .run) (wake (s .clock) r s) awake (l .floor-ok);
           given =
               hand-lives holds r in-hand;
         }

@@ -19,6 +19,7 @@ use Rattle.promises.specs.Moves.{alter}
 use Rattle.promises.specs.Parts.{fine-slaves, freed-stay, stay-all}
 use Rattle.base_journal.specs.Wrote.{wroteAt}
 use Rattle.row_work.specs.Work.{workOf, Sized, Doing, Done}
+use Rattle.row_work.specs.Underway.{in-state}
 use Rattle.row_process.specs.Process.{Lives, changed}
 use Rattle.row_process.specs.Put.{changed-twice}
 use Rattle.row_process.specs.Alive.{hand-lives}
@@ -92,7 +93,7 @@ module _ {w : List ℕ} {p i n : ℕ} (v : On w p (PUTS i n)) where
       releasing =
           record {
             is = s v;
-            shows = v .running .shows;
+            shows = v .running .run .shows;
             before = is-sized v;
             after = released-sized;
             given = record { lives = lives v; enough = are-there };
@@ -136,12 +137,7 @@ module _ {w : List ℕ} {p i n : ℕ} (v : On w p (PUTS i n)) where
           pub freeing : Freeing w₂ i places n
           freeing =
               record {
-                model = m v;
-                fits = v .running .fits;
-                nested = v .running .nested;
-                few-rounds = v .running .few-rounds;
-                is = onward;
-                shows = shows-onward;
+                run = in-state (v .running .run) onward shows-onward;
                 gone = gone;
                 holds = onward-held;
                 floor-ok = is-sized v .floor-ok;
@@ -150,12 +146,12 @@ module _ {w : List ℕ} {p i n : ℕ} (v : On w p (PUTS i n)) where
                 places-are =
                     ap (take n) (places-are ∙ sets-eq gone zeros 0 (omega (arith, gone-many, action-fits v .1 .high)))
                     ∙ take-at gone _ n gone-many;
-                sync-low = omega (arith, action-fits v .0, v .running .fits .few-syncs);
+                sync-low = omega (arith, action-fits v .0, v .running .run .fits .few-syncs);
               }
 
           pub are-freed : {w₃ : List ℕ} (at : ℕ) (out : List ℕ) {out′ : List ℕ}
-              → ((d : Freeing w₂ i places n) → (w₃ ≡ workOf (freeAll i (d .gone) (d .is) .state))
-              × (out′ ≡ wroteAt at (freeAll i (d .gone) (d .is) .lines) out))
+              → ((d : Freeing w₂ i places n) → (w₃ ≡ workOf (freeAll i (d .gone) (d .run .is) .state))
+              × (out′ ≡ wroteAt at (freeAll i (d .gone) (d .run .is) .lines) out))
               → Stepped (puts (m v) (s v) p i n) 0 n w w₃ at out out′
           unfolding puts _>>_ need freeing
           are-freed at out h =

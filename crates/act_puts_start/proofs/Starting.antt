@@ -113,7 +113,7 @@ module _ {body map w : List ℕ} {p : ℕ} (v : Starting body map w p) where
   held = q o .held
 
   pub class-low : v .class < 64
-  class-low = omega (arith, action-fits o .0, o .running .fits .few-classes)
+  class-low = omega (arith, action-fits o .0, o .running .run .fits .few-classes)
 
   -- SHARES. They stand in the body; the giver's resources and its own are those of the model.
   pub shares-at : SharesAt body h
@@ -225,7 +225,7 @@ module _ {body map w : List ℕ} {p : ℕ} (v : Starting body map w p) where
           left =
               record {
                 is = s o;
-                shows = o .running .shows;
+                shows = o .running .run .shows;
                 sized = is-sized o;
                 lives = lives o;
                 moves-all =

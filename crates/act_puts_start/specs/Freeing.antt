@@ -3,25 +3,17 @@ use Prim.Native.Nat.{ℕ, _+_, _≤_, _<_}
 use mathlib.Core.Path.{_≡_}
 use mathlib.Core.List.{List}
 use lib.ListN.{length, take}
-use Rattle.semantics.specs.Model.{Model}
-use Rattle.semantics.specs.State.{State}
 use Rattle.promises.specs.Laws.{over, once}
-use Rattle.promises.specs.Fit.{Fit, Nested}
 use Rattle.promises.specs.Sound.{onFloor, Held}
-use Rattle.row_work.specs.Work.{workOf, FloorSized}
-use Rattle.row_work.specs.Sized.{Rounds}
+use Rattle.row_work.specs.Work.{FloorSized}
+use Rattle.row_work.specs.Underway.{Underway}
 
 -- The n processes whose places `places` begins with were slaves of sync i, and are in hand.
 pub record Freeing (w : List ℕ) (i : ℕ) (places : List ℕ) (n : ℕ) : Type 0 where
-  pub model : Model
-  pub fits : Fit model
-  pub nested : Nested model
-  pub few-rounds : Rounds model
-  pub is : State
-  pub shows : w ≡ workOf is
+  pub run : Underway w
   pub gone : List ℕ
-  pub holds : Held model is (is .blocked) (λ k. over (once k) gone + onFloor k (is .floor)) (λ j. 0)
-  pub floor-ok : FloorSized (is .floor)
+  pub holds : Held (run .model) (run .is) (run .is .blocked) (λ k. over (once k) gone + onFloor k (run .is .floor)) (λ j. 0)
+  pub floor-ok : FloorSized (run .is .floor)
   pub many : length gone ≡ n
   pub inside : n ≤ length places
   pub places-are : take n places ≡ gone

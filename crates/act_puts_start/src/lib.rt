@@ -211,8 +211,8 @@ fn free_all<'a>(w: &'a mut [u64], out: &'a mut [u8], at: usize, i: u64, places: 
     requires { ⌜ Freeing (now w) i (now places) n ⌝ }
     requires { ⌜ 16 * (at + n) ≤ length (now out) ⌝ }
     ensures { λ _. ⌜ ((v : Freeing (now (w .entry)) i (now (places .entry)) n)
-        → (now (w .exit) ≡ workOf (freeAll i (v .gone) (v .is) .state))
-        × (now (out .exit) ≡ wroteAt at (freeAll i (v .gone) (v .is) .lines) (now (out .entry)))) ⌝ }
+        → (now (w .exit) ≡ workOf (freeAll i (v .gone) (v .run .is) .state))
+        × (now (out .exit) ≡ wroteAt at (freeAll i (v .gone) (v .run .is) .lines) (now (out .entry)))) ⌝ }
 {
     let mut k = 0;
     while k < n {

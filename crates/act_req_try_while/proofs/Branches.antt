@@ -66,7 +66,7 @@ module _ {bs row w : List ℕ} {p a : ℕ} {x : Action} (v : Asked bs row w p a 
   pub few : a < 1_024
   few =
       let o = v .acting .running in
-      let a = number-low (o .mapped) (o .fits) (v .inside) (v .index) x (v .there) in
+      let a = number-low (o .mapped) (o .run .fits) (v .inside) (v .index) x (v .there) in
       omega (arith, v .number-is)
 
   pub map-long : length row ≡ 18_754
@@ -77,18 +77,13 @@ module _ {bs row w : List ℕ} {p a : ℕ} {x : Action} (v : Asked bs row w p a 
       (front : (d : Shown w (λ t. p < 64))
       → (k ≡ before (waiterOf (d .is) p) (d .is .blocked)) × (k ≤ length (d .is .blocked))) where
     pub in-front-of-it : (k ≡ before (waiterOf s p) (s .blocked)) × (k ≤ length (s .blocked))
-    in-front-of-it = front (shown v (v .acting .running .shows))
+    in-front-of-it = front (shown v (v .acting .running .run .shows))
 
     abbrev pub facing : Facing bs row w a k
     facing =
         record {
-          model = model v;
-          fits = v .acting .running .fits;
-          nested = v .acting .running .nested;
-          few-rounds = v .acting .running .few-rounds;
+          run = v .acting .running .run;
           mapped = v .acting .running .mapped;
-          is = s;
-          shows = v .acting .running .shows;
           in-hand = hand (here v);
           amounts = λ j. 0;
           holds = v .acting .running .sound;
@@ -102,7 +97,7 @@ module _ {bs row w : List ℕ} {p a : ℕ} {x : Action} (v : Asked bs row w p a 
 
     module _ {r : Answer}
         (told : (d : Facing bs row w a k)
-        → r ≡ choiceIn (choice (d .model) (d .is) (take k (d .is .blocked)) (offers (d .asked)))) where
+        → r ≡ choiceIn (choice (d .run .model) (d .run .is) (take k (d .run .is .blocked)) (offers (d .asked)))) where
       taken-is : r ≡ choiceIn (taken v)
       taken-is =
           let o = v .acting .running .sound .blocked-ordered in
@@ -144,12 +139,7 @@ module _ {bs row w : List ℕ} {p a : ℕ} {x : Action} (v : Asked bs row w p a 
           abbrev pub granting : Granting bs row w p (first + n) b
           granting =
               record {
-                model = model v;
-                fits = v .acting .running .fits;
-                nested = v .acting .running .nested;
-                few-rounds = v .acting .running .few-rounds;
-                is = s;
-                shows = v .acting .running .shows;
+                run = v .acting .running .run;
                 in-hand = hand (here v);
                 holds = v .acting .running .sound;
                 one = in-hand (here v);

@@ -56,7 +56,7 @@ module _ {bs map w : List ℕ} {p a : ℕ} {x : Action} (v : Asked bs map w p a 
         by (goes n o) t = no-way (sym e ∙ t .0)
 
     pub still-shows : w₁ ≡ workOf (state v)
-    still-shows = kept .1 .0 ∙ v .acting .running .shows
+    still-shows = kept .1 .0 ∙ v .acting .running .run .shows
 
     pub same-out : out₁ ≡ out
     same-out = kept .1 .1

@@ -24,15 +24,15 @@ pub record Asked (bs map w : List ℕ) (p a : ℕ) (x : Action) : Type 0 where
   pub acting : Acting bs map w p x
   pub inside : ℕ  -- which block
   pub index : ℕ
-  pub there : getElem? (block (acting .running .model) inside) index ≡ some x
+  pub there : getElem? (block (acting .running .run .model) inside) index ≡ some x
   pub number-is : a ≡ getD map inside 0 + index
 
 module _ {bs map w : List ℕ} {p a : ℕ} {x : Action} (v : Asked bs map w p a x) where
   abbrev pub model : Model
-  model = v .acting .running .model
+  model = v .acting .running .run .model
 
   abbrev pub state : State
-  state = v .acting .running .is
+  state = v .acting .running .run .is
 
   abbrev pub who : Process
   who = process state p

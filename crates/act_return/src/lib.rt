@@ -45,7 +45,7 @@ pub fn resource_back<'a>(
     requires { ⌜ Returning (now s) (now map) (now w) (returnsR i n g) ⌝ }
     requires { ⌜ Roomy at (now out) ⌝ }
     ensures { λ r. ⌜ ((v : Returning (now (s .entry)) (now (map .entry)) (now (w .entry)) (returnsR i n g))
-        → Stepped (occurs (v .model) (v .is) (returnsR i n g)) (r .fault) (r .lines)
+        → Stepped (occurs (v .run .model) (v .run .is) (returnsR i n g)) (r .fault) (r .lines)
         (now (w .entry)) (now (w .exit)) at (now (out .entry)) (now (out .exit))) ⌝ }
 {
     act_walk::note(w, out, at, line::RESOURCE_RETURNED, g, i);
@@ -71,7 +71,7 @@ pub fn bin_back<'a>(
     requires { ⌜ Returning (now s) (now map) (now w) (returnsB i n g) ⌝ }
     requires { ⌜ Roomy at (now out) ⌝ }
     ensures { λ r. ⌜ ((v : Returning (now (s .entry)) (now (map .entry)) (now (w .entry)) (returnsB i n g))
-        → Stepped (occurs (v .model) (v .is) (returnsB i n g)) (r .fault) (r .lines)
+        → Stepped (occurs (v .run .model) (v .run .is) (returnsB i n g)) (r .fault) (r .lines)
         (now (w .entry)) (now (w .exit)) at (now (out .entry)) (now (out .exit))) ⌝ }
 {
     if limit::FULL_BIN < bin_of(w, i) + n {

@@ -15,6 +15,7 @@ use Rattle.promises.specs.Sound.{Held}
 use Rattle.promises.specs.Moves.{joins}
 use Rattle.base_journal.specs.Wrote.{wroteAt}
 use Rattle.row_work.specs.Work.{Doing, Done}
+use Rattle.row_work.specs.Underway.{in-state}
 use Rattle.row_process.specs.Process.{Shown, Lives, changed}
 use Rattle.row_process.specs.Put.{process-sized}
 use Rattle.row_lists.specs.Lists.{Any, Becomes, joinWaiting}
@@ -34,7 +35,7 @@ module _ {bs row w : List ℕ} {i p : ℕ} (v : Acting bs row w p (BECOME i)) wh
   number-fits n told = omega (arith, told (shown here (low here)), process-sized (s here) p (is-sized here) .number-low)
 
   pub sync-low : i < 32
-  sync-low = omega (arith, action-fits here, v .running .fits .few-syncs)
+  sync-low = omega (arith, action-fits here, v .running .run .fits .few-syncs)
 
   -- Off the floor,
   abbrev s₂ : State
@@ -78,13 +79,8 @@ module _ {bs row w : List ℕ} {i p : ℕ} (v : Acting bs row w p (BECOME i)) wh
         unfolding joining
         joined-walking =
             record {
-              model = m here;
-              fits = v .running .fits;
-              nested = v .running .nested;
-              few-rounds = v .running .few-rounds;
+              run = in-state (v .running .run) s₃ (told₃ joining);
               mapped = v .running .mapped;
-              is = s₃;
-              shows = told₃ joining;
               in-hand = λ k. 0;
               holds = joined-held;
               floor-ok = tt;
@@ -93,7 +89,7 @@ module _ {bs row w : List ℕ} {i p : ℕ} (v : Acting bs row w p (BECOME i)) wh
         pub became : (at : ℕ) (out : List ℕ) {n r : ℕ} {w′ out′ out″ : List ℕ}
             → ((d : Shown w (λ _. p < 64)) → n ≡ process (d .is) p .number)
             → ((d : Shown w Any) → out′ ≡ wroteAt at (line (d .is) n No.waitingAsSlave (pos i) ∷ []) out)
-            → ((d : Walking bs row u) → Walked (walk (d .model) (d .is)) r w′ (at + 1) out′ out″)
+            → ((d : Walking bs row u) → Walked (walk (d .run .model) (d .run .is)) r w′ (at + 1) out′ out″)
             → Stepped (become (m here) (s here) p i) 0 (r + 1) w w′ at out out″
         unfolding become joined-walking
         became at out numbered wrote walked =

@@ -17,6 +17,7 @@ use Rattle.base_i32.specs.Code.{code, valueOf, valueIn, outcomeOf}
 use Rattle.base_i32.specs.Laws.{code-valueOf, value-fits}
 use Rattle.base_i32.specs.declared.Value.{Value}
 use Rattle.row_work.specs.Work.{workOf, Done}
+use Rattle.row_work.specs.Underway.{in-state}
 use Rattle.row_work.specs.Shown.{work-long, globals-set}
 use Rattle.row_process.specs.Process.{Lives, changed}
 use Rattle.act_floor.specs.Acting.{Stepped}
@@ -42,7 +43,7 @@ module _ {body bs row w : List ℕ} {p i : ℕ} (v : Setting body bs row w p i) 
       }
 
   pub global-low : i < 32
-  global-low = omega (arith, action-fits here .0, v .acting .running .fits .few-vars)
+  global-low = omega (arith, action-fits here .0, v .acting .running .run .fits .few-vars)
 
   there : i < length (after-it here .globals)
   there = omega (arith, action-fits here .0, v .acting .running .sound .vars-many)
@@ -52,7 +53,7 @@ module _ {body bs row w : List ℕ} {p i : ℕ} (v : Setting body bs row w p i) 
 
   module _ (r : Value)
       (answer : (d : Valued body w p)
-      → r ≡ valueIn (eval (d .running .is) (process (d .running .is) p) (d .expression))) where
+      → r ≡ valueIn (eval (d .running .run .is) (process (d .running .run .is) p) (d .expression))) where
     is-told : outcomeOf r ≡ eval (s here) (q here) (v .expression)
     unfolding valued
     is-told = tells valued answer
@@ -75,24 +76,20 @@ module _ {body bs row w : List ℕ} {p i : ℕ} (v : Setting body bs row w p i) 
         pub placed-walking : Walking bs row y
         placed-walking =
             record {
-              model = m here;
-              fits = v .acting .running .fits;
-              nested = v .acting .running .nested;
-              few-rounds = v .acting .running .few-rounds;
-              mapped = v .acting .running .mapped;
-              is = placed;
-              shows =
-                  wrote
+              run =
+                  in-state (v .acting .running .run) placed
+                  (wrote
                   ∙ ap (λ l. set l (72 + i) (r .code)) (told₁ (passing here))
                   ∙ ap (set (workOf (after-it here)) (72 + i)) (sym (code-valueOf (r .code)))
-                  ∙ globals-set (after-it here) (after-sized here) i (valueOf (r .code)) there;
+                  ∙ globals-set (after-it here) (after-sized here) i (valueOf (r .code)) there);
+              mapped = v .acting .running .mapped;
               in-hand = hand here;
               holds = global-is (passes here) i (valueOf (r .code)) (value-fits (r .code) low);
               floor-ok = is-sized here .floor-ok;
             }
 
         pub value-set : (at : ℕ) (out : List ℕ) {n : ℕ} {w′ out′ : List ℕ} → r .ok ≡ true
-            → ((d : Walking bs row y) → Walked (walk (d .model) (d .is)) n w′ at out out′)
+            → ((d : Walking bs row y) → Walked (walk (d .run .model) (d .run .is)) n w′ at out out′)
             → Stepped (setGlobal (m here) (s here) p i (v .expression)) 0 n w w′ at out out′
         unfolding setGlobal _>>=_ placed-walking
         value-set at out {n} {w′} {out′} e walked =

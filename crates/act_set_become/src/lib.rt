@@ -32,8 +32,8 @@ pub fn become_slave<'a>(
     requires { ⌜ Acting (now s) (now map) (now w) p (BECOME i) ⌝ }
     requires { ⌜ Roomy at (now out) ⌝ }
     ensures { λ r. ⌜ ((v : Acting (now (s .entry)) (now (map .entry)) (now (w .entry)) p (BECOME i))
-        → Stepped (become (v .running .model) (v .running .is) p i) (r .fault) (r .lines)
-        (now (w .entry)) (now (w .exit)) at (now (out .entry)) (now (out .exit))) ⌝ }
+        → Stepped (become (v .running .run .model) (v .running .run .is) p i)
+        (r .fault) (r .lines) (now (w .entry)) (now (w .exit)) at (now (out .entry)) (now (out .exit))) ⌝ }
 {
     let number = row_process::number_of(w, p);
     act_walk::note(w, out, at, line::WAITING_AS_SLAVE, number, i);
@@ -61,7 +61,8 @@ pub fn set_global<'a>(
     requires { ⌜ Setting (now body) (now s) (now map) (now w) p i ⌝ }
     requires { ⌜ Roomy at (now out) ⌝ }
     ensures { λ r. ⌜ ((v : Setting (now (body .entry)) (now (s .entry)) (now (map .entry)) (now (w .entry)) p i)
-        → Stepped (setGlobal (v .acting .running .model) (v .acting .running .is) p i (v .expression)) (r .fault) (r .lines)
+        → Stepped (setGlobal (v .acting .running .run .model) (v .acting .running .run .is) p i
+        (v .expression)) (r .fault) (r .lines)
         (now (w .entry)) (now (w .exit)) at (now (out .entry)) (now (out .exit))) ⌝ }
 {
     let value = act_hold_prio_lset_trace::value_in(body, w, p);

@@ -15,6 +15,7 @@ use Rattle.promises.specs.Moves.{recount, first-out}
 use Rattle.promises.specs.Safe.{idle-stops, step-safe}
 use Rattle.base_ordered.specs.Lines.{eventKey, eventWord}
 use Rattle.row_work.specs.Work.{floorWord, workOf, EventSized, Sized}
+use Rattle.row_work.specs.Underway.{in-state, still-sized}
 use Rattle.row_work.specs.Head.{clock-at, floor-at}
 use Rattle.row_work.specs.Events.{first-key}
 use Rattle.row_lists.specs.Lists.{Due, without-first, firstOut, PuttingBack}
@@ -40,10 +41,10 @@ open-still false x e = refl
 
 module _ {bs map w : List ℕ} (v : Going bs map w) where
   abbrev m : Model
-  m = v .running .model
+  m = v .running .run .model
 
   abbrev s : State
-  s = v .running .is
+  s = v .running .run .is
 
   pub is-sized : Sized s
   is-sized = Floor.is-sized (runs (v .running))
@@ -52,7 +53,7 @@ module _ {bs map w : List ℕ} (v : Going bs map w) where
   work-long = Floor.run-long (runs (v .running))
 
   pub floor-word : getD w 3 0 ≡ floorWord (s .floor)
-  floor-word = ap (λ l. getD l 3 0) (v .running .shows) ∙ floor-at s
+  floor-word = ap (λ l. getD l 3 0) (v .running .run .shows) ∙ floor-at s
 
   -- SOMEBODY.
   abbrev pub floored : (p : ℕ) → (getD w 3 0 ≡ 0 → ⊥) → p + 1 ≡ getD w 3 0 → Floored bs map w p
@@ -101,7 +102,7 @@ module _ {bs map w : List ℕ} (v : Going bs map w) where
     later-held = first-out as-held (λ k. omega arith) (λ j. omega arith)
 
     pub later-sized : Sized later
-    later-sized = Floor.still-sized (runs (v .running)) later later-held (rw nobody-has tt)
+    later-sized = still-sized (v .running .run) later later-held (rw nobody-has tt)
 
     pub e-sized : EventSized e
     e-sized = (rw (due .events-are) at (is-sized .events-ok)) .0
@@ -110,7 +111,7 @@ module _ {bs map w : List ℕ} (v : Going bs map w) where
     taking =
         record {
           is = s;
-          shows = v .running .shows;
+          shows = v .running .run .shows;
           before = is-sized;
           after = rw out-is later-sized;
           given = due;
@@ -124,13 +125,8 @@ module _ {bs map w : List ℕ} (v : Going bs map w) where
       abbrev pub occurring : Occurring bs map u d
       occurring =
           record {
-            model = m;
-            fits = v .running .fits;
-            nested = v .running .nested;
-            few-rounds = v .running .few-rounds;
+            run = in-state (v .running .run) later u-is;
             mapped = v .running .mapped;
-            is = later;
-            shows = u-is;
             notice = e .notice;
             word-is = word-is;
             notice-small = e-sized .notice-ok;
@@ -157,11 +153,11 @@ module _ {bs map w : List ℕ} (v : Going bs map w) where
 
         module _ (not0 : f ≡ 0 → ⊥) {c k : ℕ} (clock-is : c ≡ getD w 0 0) (key-is : k ≡ getD w 200 0) where
           clock-was : c ≡ s .clock
-          clock-was = clock-is ∙ ap (λ x. getD x 0 0) (v .running .shows) ∙ clock-at s
+          clock-was = clock-is ∙ ap (λ x. getD x 0 0) (v .running .run .shows) ∙ clock-at s
 
           pub key-was : k ≡ eventKey e
           key-was =
-              key-is ∙ ap (λ x. getD x 200 0) (v .running .shows)
+              key-is ∙ ap (λ x. getD x 200 0) (v .running .run .shows)
               ∙ first-key s is-sized e (due .behind) (due .events-are)
 
           pub back-again : with-events (at-clock later c) (e ∷ due .behind) ≡ s
@@ -191,4 +187,4 @@ module _ {bs map w : List ℕ} (v : Going bs map w) where
           undone {x} h =
               rw stepped-as
               (Undone.faulted (occurs m later (e .notice)) f l u w′ at out out′ done not0 w x
-              (λ q. h ∙ ap workOf back-again ∙ sym (v .running .shows)))
+              (λ q. h ∙ ap workOf back-again ∙ sym (v .running .run .shows)))

@@ -43,10 +43,10 @@ kinds CLOSE = omega arith
 
 module _ {body bs map w : List ℕ} {p k : ℕ} (v : Meets body bs map w p k) where
   abbrev m : Model
-  m = v .acting .running .model
+  m = v .acting .running .run .model
 
   abbrev s : State
-  s = v .acting .running .is
+  s = v .acting .running .run .is
 
   pub kind-in : (16 ≤ k) × (k ≤ 30)
   kind-in = let a = kinds (v .action) in let b = kind-of (v .here) in omega (arith, v .kind-is)

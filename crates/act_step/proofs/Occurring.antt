@@ -49,7 +49,7 @@ ranked r = record { is-low = refl; is-known = r .is-known; amount-ok = r .amount
 
 module _ {bs map w : List ℕ} {word : ℕ} (v : Occurring bs map w word) where
   -- The floor is nobody's: that fits into its word.
-  pub floor-fits : FloorSized (v .is .floor)
+  pub floor-fits : FloorSized (v .run .is .floor)
   floor-fits = rw (v .nobody-has) tt
 
   -- A PROCESS in place p takes the floor.
@@ -62,21 +62,16 @@ module _ {bs map w : List ℕ} {word : ℕ} (v : Occurring bs map w word) where
     abbrev pub waking : Waking bs map w p
     waking =
         record {
-          model = v .model;
-          fits = v .fits;
-          nested = v .nested;
-          few-rounds = v .few-rounds;
+          run = v .run;
           mapped = v .mapped;
-          is = v .is;
-          shows = v .shows;
           not-closed = v .not-closed;
           nobody-has = v .nobody-has;
           sound = rw it-wakes at (v .holds);
         }
 
-    pub wakes-as : occurs (v .model) (v .is) (v .notice) ≡ moves (v .model) (with-floor (v .is) (heldBy p)) p
+    pub wakes-as : occurs (v .run .model) (v .run .is) (v .notice) ≡ moves (v .run .model) (with-floor (v .run .is) (heldBy p)) p
     unfolding occurs
-    wakes-as = ap (occurs (v .model) (v .is)) it-wakes
+    wakes-as = ap (occurs (v .run .model) (v .run .is)) it-wakes
 
   -- SOMETHING comes back.
   module _ {k : ℕ} (kind-is : k ≡ kindOf word) where
@@ -99,23 +94,18 @@ module _ {bs map w : List ℕ} {word : ℕ} (v : Occurring bs map w word) where
 
   -- e is what comes back; a return tells its priority.
   module _ {e : Notice} (is-e : v .notice ≡ e) where
-    pub told-as : NoticeOk (v .model) (v .is .last) (v .is .processes) (v .priority) e
-    told-as = subst (NoticeOk (v .model) (v .is .last) (v .is .processes) (v .priority)) is-e (v .tells)
+    pub told-as : NoticeOk (v .run .model) (v .run .is .last) (v .run .is .processes) (v .priority) e
+    told-as = subst (NoticeOk (v .run .model) (v .run .is .last) (v .run .is .processes) (v .priority)) is-e (v .tells)
 
-    pub held-as : Held (v .model) (v .is) (v .is .blocked) (λ k. noticed k e) (λ j. gives j e)
+    pub held-as : Held (v .run .model) (v .run .is) (v .run .is .blocked) (λ k. noticed k e) (λ j. gives j e)
     held-as =
-        subst (λ x. Held (v .model) (v .is) (v .is .blocked) (λ k. noticed k x) (λ j. gives j x)) is-e (v .holds)
+        subst (λ x. Held (v .run .model) (v .run .is) (v .run .is .blocked) (λ k. noticed k x) (λ j. gives j x)) is-e (v .holds)
 
-    abbrev pub returning : NoticeOk (v .model) (v .is .last) (v .is .processes) ofReturns e → Returning bs map w e
+    abbrev pub returning : NoticeOk (v .run .model) (v .run .is .last) (v .run .is .processes) ofReturns e → Returning bs map w e
     returning tells =
         record {
-          model = v .model;
-          fits = v .fits;
-          nested = v .nested;
-          few-rounds = v .few-rounds;
+          run = v .run;
           mapped = v .mapped;
-          is = v .is;
-          shows = v .shows;
           in-hand = λ k. noticed k e;
           holds = held-as;
           floor-ok = floor-fits;

@@ -36,10 +36,10 @@ some-there (x ∷ xs) (suc i) l = some-there xs i (omega arith)
 
 module _ {bs map w : List ℕ} {p : ℕ} (v : Floored bs map w p) where
   abbrev m : Model
-  m = v .running .model
+  m = v .running .run .model
 
   abbrev s : State
-  s = v .running .is
+  s = v .running .run .is
 
   abbrev pub its-life : Lives p s
   its-life = lives (runs (v .running)) p (v .on-floor)
@@ -57,7 +57,7 @@ module _ {bs map w : List ℕ} {p : ℕ} (v : Floored bs map w p) where
   block-in =
       let c : chained m (its-life .innermost ∷ its-life .around) ≡ true =
       ap (chained m) (sym (its-life .frames-are)) ∙ fine (runs (v .running)) p (v .on-floor) .frames-ok in
-      chain-depth m (v .running .nested) (its-life .innermost) (its-life .around) c .1
+      chain-depth m (v .running .run .nested) (its-life .innermost) (its-life .around) c .1
 
   pub stood : standsIn m (process s p .frames) ≡ getElem? (block m b) i
   stood = ap (standsIn m) (its-life .frames-are)
@@ -65,7 +65,7 @@ module _ {bs map w : List ℕ} {p : ℕ} (v : Floored bs map w p) where
   -- k, f, j and n are what the code reads: the block, its first action, which action of it, and the next block's first.
   module _ {k : ℕ} (block-is : k ≡ b) where
     pub block-few : k + 1 < length map
-    block-few = omega (arith, block-is, block-in, v .running .fits .few-blocks, v .running .mapped .long)
+    block-few = omega (arith, block-is, block-in, v .running .run .fits .few-blocks, v .running .mapped .long)
 
     module _ {f j : ℕ} (first-is : f ≡ getD map k 0) (index-is : j ≡ i) where
       pub first-at : f ≡ getD map b 0
@@ -73,7 +73,7 @@ module _ {bs map w : List ℕ} {p : ℕ} (v : Floored bs map w p) where
 
       pub sum-low : f + j ≤ 2_048
       sum-low =
-          let a = v .running .mapped .first-few b (omega (arith, block-in, v .running .fits .few-blocks)) in
+          let a = v .running .mapped .first-few b (omega (arith, block-in, v .running .run .fits .few-blocks)) in
           omega (arith, first-at, index-is, top-sized its-work its-life .at-low)
 
       module _ {n : ℕ} (next-is : n ≡ getD map (k + 1) 0) where

@@ -10,6 +10,7 @@ use Rattle.semantics.specs.Step.{moves, step}
 use Rattle.semantics.specs.Run.{Before, isClosed, goesOn}
 use Rattle.promises.specs.Safe.{Safe, step-safe}
 use Rattle.row_work.specs.Work.{workOf}
+use Rattle.row_work.specs.Underway.{in-state}
 use Rattle.row_work.specs.Head.{floor-set}
 use Rattle.act_floor.specs.Acting.{Stepped}
 use Rattle.act_floor.specs.Running.{runs}
@@ -20,26 +21,17 @@ use Rattle.act_step.proofs.Undone as Undone
 module _ {bs map w : List ℕ} {p : ℕ} (v : Waking bs map w p) where
   -- The state where p has the floor.
   abbrev taken : State
-  taken = with-floor (v .is) (heldBy p)
+  taken = with-floor (v .run .is) (heldBy p)
 
   pub floor-taken : set w 3 (p + 1) ≡ workOf taken
-  floor-taken = ap (λ x. set x 3 (p + 1)) (v .shows) ∙ floor-set (v .is) (heldBy p)
+  floor-taken = ap (λ x. set x 3 (p + 1)) (v .run .shows) ∙ floor-set (v .run .is) (heldBy p)
 
   -- u is the work where it has it.
   abbrev pub floored : {u : List ℕ} → u ≡ set w 3 (p + 1) → Floored bs map u p
   floored e =
       record {
         running =
-            record {
-              model = v .model;
-              fits = v .fits;
-              nested = v .nested;
-              few-rounds = v .few-rounds;
-              mapped = v .mapped;
-              is = taken;
-              shows = e ∙ floor-taken;
-              sound = v .sound;
-            };
+            record { run = in-state (v .run) taken (e ∙ floor-taken); mapped = v .mapped; sound = v .sound };
         on-floor = refl;
       }
 
@@ -50,24 +42,24 @@ module _ {bs map w : List ℕ} {p : ℕ} (v : Waking bs map w p) where
   place-low = low (runs (floored refl .running)) p refl
 
   -- It never faults with 0.
-  moves-safe : Safe (moves (v .model) taken p)
+  moves-safe : Safe (moves (v .run .model) taken p)
   unfolding step
   moves-safe =
-      step-safe (v .model) taken (v .sound)
+      step-safe (v .run .model) taken (v .sound)
       (ap ends (v .not-closed))
     where
       ends : Bool → Before
       ends b = if b then isClosed else goesOn
 
   module _ {u : List ℕ} (set-is : u ≡ set w 3 (p + 1)) (f l : ℕ) (w′ : List ℕ) (at : ℕ) (out out′ : List ℕ)
-      (done : Stepped (moves (v .model) taken p) f l u w′ at out out′) where
-    pub kept-floor : f ≡ 0 → Stepped (moves (v .model) taken p) f l w w′ at out out′
-    kept-floor e = Undone.went (moves (v .model) taken p) f l u w′ at out out′ done moves-safe e w
+      (done : Stepped (moves (v .run .model) taken p) f l u w′ at out out′) where
+    pub kept-floor : f ≡ 0 → Stepped (moves (v .run .model) taken p) f l w w′ at out out′
+    kept-floor e = Undone.went (moves (v .run .model) taken p) f l u w′ at out out′ done moves-safe e w
 
     pub left-floor : (f ≡ 0 → ⊥) → {u′ : List ℕ} → u′ ≡ set w′ 3 0
-        → Stepped (moves (v .model) taken p) f l w u′ at out out′
+        → Stepped (moves (v .run .model) taken p) f l w u′ at out out′
     left-floor not0 {u′} d =
-        Undone.faulted (moves (v .model) taken p) f l u w′ at out out′ done not0 w u′
+        Undone.faulted (moves (v .run .model) taken p) f l u w′ at out out′ done not0 w u′
         (λ e.
         d ∙ ap (λ x. set x 3 0) (e ∙ set-is ∙ floor-taken) ∙ floor-set taken empty
-        ∙ ap (λ o. workOf (with-floor (v .is) o)) (sym (v .nobody-has)) ∙ sym (v .shows))
+        ∙ ap (λ o. workOf (with-floor (v .run .is) o)) (sym (v .nobody-has)) ∙ sym (v .run .shows))

@@ -177,7 +177,7 @@ fn moves<'a>(
     requires { ⌜ Floored (now s) (now map) (now w) p ⌝ }
     requires { ⌜ Roomy at (now out) ⌝ }
     ensures { λ r. ⌜ ((v : Floored (now (s .entry)) (now (map .entry)) (now (w .entry)) p)
-        → Stepped (moves (v .running .model) (v .running .is) p) (r .fault) (r .lines)
+        → Stepped (moves (v .running .run .model) (v .running .run .is) p) (r .fault) (r .lines)
         (now (w .entry)) (now (w .exit)) at (now (out .entry)) (now (out .exit))) ⌝ }
 {
     let block = row_process::block_at(w, p);
@@ -210,7 +210,7 @@ fn wakes<'a>(
     requires { ⌜ Waking (now s) (now map) (now w) p ⌝ }
     requires { ⌜ Roomy at (now out) ⌝ }
     ensures { λ r. ⌜ ((v : Waking (now (s .entry)) (now (map .entry)) (now (w .entry)) p)
-        → Stepped (moves (v .model) (with-floor (v .is) (heldBy p)) p) (r .fault) (r .lines)
+        → Stepped (moves (v .run .model) (with-floor (v .run .is) (heldBy p)) p) (r .fault) (r .lines)
         (now (w .entry)) (now (w .exit)) at (now (out .entry)) (now (out .exit))) ⌝ }
 {
     set_floor(w, p as u64 + 1);
@@ -233,7 +233,7 @@ fn occurs<'a>(
     requires { ⌜ Occurring (now s) (now map) (now w) word ⌝ }
     requires { ⌜ Roomy at (now out) ⌝ }
     ensures { λ r. ⌜ ((v : Occurring (now (s .entry)) (now (map .entry)) (now (w .entry)) word)
-        → Stepped (occurs (v .model) (v .is) (v .notice)) (r .fault) (r .lines)
+        → Stepped (occurs (v .run .model) (v .run .is) (v .notice)) (r .fault) (r .lines)
         (now (w .entry)) (now (w .exit)) at (now (out .entry)) (now (out .exit))) ⌝ }
 {
     let kind = base_ordered::kind_of(word);
@@ -254,7 +254,7 @@ fn next<'a>(s: &'a [u8], map: &'a [u32], w: &'a mut [u64], out: &'a mut [u8], at
     requires { ⌜ Going (now s) (now map) (now w) × (getD (now w) 3 0 ≡ 0) ⌝ }
     requires { ⌜ Roomy at (now out) ⌝ }
     ensures { λ r. ⌜ ((v : Going (now (s .entry)) (now (map .entry)) (now (w .entry)))
-        → Stepped (step (v .running .model) (v .running .is)) (r .fault) (r .lines)
+        → Stepped (step (v .running .run .model) (v .running .run .is)) (r .fault) (r .lines)
         (now (w .entry)) (now (w .exit)) at (now (out .entry)) (now (out .exit))) ⌝ }
 {
     let clock = w[row::CLOCK];
@@ -271,7 +271,7 @@ pub fn step<'a>(s: &'a [u8], map: &'a [u32], w: &'a mut [u64], out: &'a mut [u8]
     requires { ⌜ Going (now s) (now map) (now w) ⌝ }
     requires { ⌜ Roomy at (now out) ⌝ }
     ensures { λ r. ⌜ ((v : Going (now (s .entry)) (now (map .entry)) (now (w .entry)))
-        → Stepped (step (v .running .model) (v .running .is)) (r .fault) (r .lines)
+        → Stepped (step (v .running .run .model) (v .running .run .is)) (r .fault) (r .lines)
         (now (w .entry)) (now (w .exit)) at (now (out .entry)) (now (out .exit))) ⌝ }
 {
     let floor = w[row::FLOOR];

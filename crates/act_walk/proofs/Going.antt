@@ -18,7 +18,7 @@ use Rattle.promises.specs.Moves.{unblocks}
 use Rattle.promises.specs.Takes.{OfferOk, still-grant, chosen, offers-ok, goes-held, wakes-up}
 use Rattle.base_ordered.specs.Lines.{removed}
 use Rattle.row_work.specs.Work.{workOf, FloorSized, Sized, Doing, Done}
-use Rattle.row_work.specs.Sized.{held-sized}
+use Rattle.row_work.specs.Underway.{in-state, still-sized}
 use Rattle.row_process.specs.Process.{Shown, Lives}
 use Rattle.row_process.specs.Alive.{hand-lives}
 use Rattle.row_lists.specs.Lists.{IsBlocked, unblocked}
@@ -28,22 +28,18 @@ use Rattle.act_walk.specs.Walking.{Walking, Visiting, chooses, went, Goi
 use Rattle.act_walk.specs.Visits.{nowhere, place-at, choice-same}
 
 module _ {bs row w : List ℕ} (v : Walking bs row w) where
-  -- What is held in the middle of a step is sized.
-  pub still-sized : (t : State) {y : ℕ → ℕ} → Held (v .model) t (t .blocked) y (λ j. 0) → FloorSized (t .floor) → Sized t
-  still-sized t h o = held-sized (v .model) (v .fits) (v .nested) (v .few-rounds) t h o
+  pub is-sized : Sized (v .run .is)
+  is-sized = still-sized (v .run) (v .run .is) (v .holds) (v .floor-ok)
 
-  pub is-sized : Sized (v .is)
-  is-sized = still-sized (v .is) (v .holds) (v .floor-ok)
-
-  abbrev pub shown : {P : State → Type 0} → P (v .is) → Shown w P
-  shown g = record { is = v .is; shows = v .shows; sized = is-sized; given = g }
+  abbrev pub shown : {P : State → Type 0} → P (v .run .is) → Shown w P
+  shown g = record { is = v .run .is; shows = v .run .shows; sized = is-sized; given = g }
 
 module _ {bs row w : List ℕ} {k : ℕ} (v : Visiting bs row w k) where
   abbrev m : Model
-  m = v .walking .model
+  m = v .walking .run .model
 
   abbrev s : State
-  s = v .walking .is
+  s = v .walking .run .is
 
   module _ (p : ℕ) (e : p ≡ placeAt (s .blocked) k) where
     pub stands : Standing m p s
@@ -81,9 +77,9 @@ module _ {bs row w : List ℕ} {k : ℕ} (v : Visiting bs row w k) where
     leaves =
         record {
           is = s;
-          shows = v .walking .shows;
+          shows = v .walking .run .shows;
           before = is-sized (v .walking);
-          after = still-sized (v .walking) left left-held (v .walking .floor-ok);
+          after = still-sized (v .walking .run) left left-held (v .walking .floor-ok);
           given = v .there;
         }
 
@@ -99,7 +95,7 @@ module _ {bs row w : List ℕ} {k : ℕ} (v : Visiting bs row w k) where
       met-left =
           chosen (OfferOk m (stands .action)) left i o m (take k (s .blocked)) (offers (stands .action))
           (offers-ok m (stands .action)
-          (fit-at m (v .walking .fits) (process s p .frames) (stands .action) stands-at))
+          (fit-at m (v .walking .run .fits) (process s p .frames) (stands .action) stands-at))
           chosen-left .1
 
       abbrev granted : State
@@ -108,7 +104,7 @@ module _ {bs row w : List ℕ} {k : ℕ} (v : Visiting bs row w k) where
       granted-held : Held m granted (granted .blocked) hand (λ j. 0)
       granted-held =
           subst (λ b. Held m granted b hand (λ j. 0)) (sym (still-grant p o left .same-blocked))
-          (goes-held m (v .walking .fits) left (take k (s .blocked)) (left .blocked) hand p one left-held i o
+          (goes-held m (v .walking .run .fits) left (take k (s .blocked)) (left .blocked) hand p one left-held i o
           (stands .action) stands-at chosen-left)
 
       granted-floor : FloorSized (granted .floor)
@@ -134,7 +130,7 @@ module _ {bs row w : List ℕ} {k p n : ℕ} {enters : Bool} (g : Going bs row w
   v = g .visiting
 
   abbrev s₁ : State
-  s₁ = unblocked k (v .walking .is)
+  s₁ = unblocked k (v .walking .run .is)
 
   abbrev s₂ : State
   s₂ = grant p (g .offer) s₁
@@ -148,12 +144,7 @@ module _ {bs row w : List ℕ} {k p n : ℕ} {enters : Bool} (g : Going bs row w
     is-granted =
         let e = g .place-is in
         record {
-          model = v .walking .model;
-          fits = v .walking .fits;
-          nested = v .walking .nested;
-          few-rounds = v .walking .few-rounds;
-          is = s₁;
-          shows = left-shown;
+          run = in-state (v .walking .run) s₁ left-shown;
           in-hand = hand v p e;
           holds = left-held v p e;
           one = one v p e;
@@ -168,8 +159,8 @@ module _ {bs row w : List ℕ} {k p n : ℕ} {enters : Bool} (g : Going bs row w
           enters-is = g .enters-is;
         }
 
-    module _ (y : List ℕ) (told₂ : (d : Granting bs row x p n enters) → y ≡ workOf (grant p (d .offer) (d .is)))
-        (t : ℕ) (now-is : t ≡ v .walking .is .clock) where
+    module _ (y : List ℕ) (told₂ : (d : Granting bs row x p n enters) → y ≡ workOf (grant p (d .offer) (d .run .is)))
+        (t : ℕ) (now-is : t ≡ v .walking .run .is .clock) where
       granted-shown : y ≡ workOf s₂
       unfolding is-granted
       granted-shown = told₂ is-granted
@@ -181,17 +172,17 @@ module _ {bs row w : List ℕ} {k p n : ℕ} {enters : Bool} (g : Going bs row w
           record {
             is = s₂;
             shows = granted-shown;
-            before = still-sized (v .walking) s₂ h (granted-floor v p e (g .which) (g .offer) (g .chosen));
+            before = still-sized (v .walking .run) s₂ h (granted-floor v p e (g .which) (g .offer) (g .chosen));
             after =
                 subst (λ u. Sized (wake u p s₂)) (sym now-is)
-                (still-sized (v .walking) (wake (v .walking .is .clock) p s₂)
+                (still-sized (v .walking .run) (wake (v .walking .run .is .clock) p s₂)
                 (woken-held v p e (g .which) (g .offer) (g .chosen)) (woken-floor v p e (g .which) (g .offer) (g .chosen)));
             given = hand-lives h p (one v p e);
           }
 
-      pub released : (u : List ℕ) → Done y (Lives p) (λ s. wake t p s) u → u ≡ workOf (went k (g .offer) (v .walking .is))
+      pub released : (u : List ℕ) → Done y (Lives p) (λ s. wake t p s) u → u ≡ workOf (went k (g .offer) (v .walking .run .is))
       unfolding is-woken
       released u d =
           d is-woken
           ∙ ap (λ r. workOf (wake r p s₂)) now-is
-          ∙ ap (λ q. workOf (wake (v .walking .is .clock) q (grant q (g .offer) s₁))) (g .place-is)
+          ∙ ap (λ q. workOf (wake (v .walking .run .is .clock) q (grant q (g .offer) s₁))) (g .place-is)

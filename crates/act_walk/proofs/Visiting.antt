@@ -30,13 +30,13 @@ use Rattle.act_walk.proofs.Going.{is-sized, shown, stands, stands-at}
 
 module _ {bs row w : List ℕ} {k : ℕ} (v : Visiting bs row w k) where
   abbrev m : Model
-  m = v .walking .model
+  m = v .walking .run .model
 
   abbrev s : State
-  s = v .walking .is
+  s = v .walking .run .is
 
   pub listed : Shown w (IsBlocked k)
-  listed = record { is = s; shows = v .walking .shows; sized = is-sized (v .walking); given = v .there }
+  listed = record { is = s; shows = v .walking .run .shows; sized = is-sized (v .walking); given = v .there }
 
   pub place-is : (p : ℕ) → ((d : Shown w (IsBlocked k)) → p ≡ placeAt (d .is .blocked) k) → p ≡ placeAt (s .blocked) k
   unfolding listed
@@ -62,7 +62,7 @@ module _ {bs row w : List ℕ} {k : ℕ} (v : Visiting bs row w k) where
       number-is = told its-place
 
       pub action-low : a < 1_024
-      action-low = rw number-is (number-low (stands v p e) (v .walking .mapped) (v .walking .fits))
+      action-low = rw number-is (number-low (stands v p e) (v .walking .mapped) (v .walking .run .fits))
 
       offers-at : OffersAt bs row a (offers (stands v p e .action))
       offers-at = rw number-is (offers-there (stands v p e) (v .walking .mapped))
@@ -70,13 +70,8 @@ module _ {bs row w : List ℕ} {k : ℕ} (v : Visiting bs row w k) where
       pub facing : Facing bs row w a k
       facing =
           record {
-            model = m;
-            fits = v .walking .fits;
-            nested = v .walking .nested;
-            few-rounds = v .walking .few-rounds;
+            run = v .walking .run;
             mapped = v .walking .mapped;
-            is = s;
-            shows = v .walking .shows;
             in-hand = v .walking .in-hand;
             amounts = λ j. 0;
             holds = v .walking .holds;
@@ -85,7 +80,7 @@ module _ {bs row w : List ℕ} {k : ℕ} (v : Visiting bs row w k) where
             asked = stands v p e .action;
             asked-at = offers-at;
             asked-low = action-low;
-            asked-fit = fit-at m (v .walking .fits) (process s p .frames) (stands v p e .action) (stands-at v p e);
+            asked-fit = fit-at m (v .walking .run .fits) (process s p .frames) (stands v p e .action) (stands-at v p e);
           }
 
       pub at-action : AtAction bs row a
@@ -103,7 +98,7 @@ module _ {bs row w : List ℕ} {k : ℕ} (v : Visiting bs row w k) where
       -- THE ANSWER says what it chooses: to wait,
       module _ {r : Answer}
           (told₂ : (d : Facing bs row w a k)
-          → r ≡ choiceIn (choice (d .model) (d .is) (take k (d .is .blocked)) (offers (d .asked)))) where
+          → r ≡ choiceIn (choice (d .run .model) (d .run .is) (take k (d .run .is .blocked)) (offers (d .asked)))) where
         abbrev os : List Offer
         os = offers (stands v p e .action)
 
@@ -148,7 +143,8 @@ module _ {bs row w : List ℕ} {k : ℕ} (v : Visiting bs row w k) where
 
             pub gone : (at : ℕ) (out out′ w′ : List ℕ) (n : ℕ) → ((d : Shown w (λ _. p < 64)) → n ≡ process (d .is) p .number)
                 → ((d : Shown w Any) → out′ ≡ wroteAt at (line (d .is) n No.granted (pos which) ∷ []) out)
-                → ((g : Going bs row w k p (first + which) enters) → w′ ≡ workOf (went k (g .offer) (g .visiting .walking .is)))
+                → ((g : Going bs row w k p (first + which) enters)
+                → w′ ≡ workOf (went k (g .offer) (g .visiting .walking .run .is)))
                 → Visited s k (chooses m s k) 1 w w′ at out out′
             unfolding going
             gone at out out′ w′ n numbered wrote done =

@@ -12,12 +12,11 @@ use Rattle.semantics.specs.Model.{Action, kindOf, Model}
 use Rattle.semantics.specs.State.{State, process, wake}
 use Rattle.semantics.specs.Claim.{Offer, asks, Choice, waits, goes, choice, grant}
 use Rattle.semantics.specs.Walk.{Next, Line, line, quiet, after}
-use Rattle.promises.specs.Fit.{Fit, Nested}
 use Rattle.promises.specs.Sound.{Held}
 use Rattle.base_journal.specs.Wrote.{wroteAt}
 use Rattle.file_index.specs.Ties.{ActionAt}
 use Rattle.row_work.specs.Work.{workOf, FloorSized}
-use Rattle.row_work.specs.Sized.{Rounds}
+use Rattle.row_work.specs.Underway.{Underway}
 use Rattle.file_map.specs.Map.{OfferAt, Mapped}
 use Rattle.row_lists.specs.Lists.{unblocked}
 use Rattle.row_grant.specs.Grant.{intoBlock}
@@ -25,16 +24,11 @@ use Rattle.row_grant.specs.Standing.{placeAt}
 
 -- A run in the middle of a step that walks: w shows its state, and map and bs are its model's.
 pub record Walking (bs map w : List ℕ) : Type 0 where
-  pub model : Model
-  pub fits : Fit model
-  pub nested : Nested model
-  pub few-rounds : Rounds model
-  pub mapped : Mapped bs model map
-  pub is : State
-  pub shows : w ≡ workOf is
+  pub run : Underway w
+  pub mapped : Mapped bs (run .model) map
   pub in-hand : ℕ → ℕ
-  pub holds : Held model is (is .blocked) in-hand (λ j. 0)
-  pub floor-ok : FloorSized (is .floor)
+  pub holds : Held (run .model) (run .is) (run .is .blocked) in-hand (λ j. 0)
+  pub floor-ok : FloorSized (run .is .floor)
 
 -- What a walk comes to: the work shows its state, and its lines, r of them, are written from line `at` on.
 abbrev pub Walked : Next → (r : ℕ) (w′ : List ℕ) (at : ℕ) (out out′ : List ℕ) → Type 0
@@ -43,7 +37,7 @@ Walked n r w′ at out out′ = (r ≡ length (n .lines)) × ((w′ ≡ workOf (
 -- The blocked one at k is looked at, where those ahead of it are still blocked.
 pub record Visiting (bs map w : List ℕ) (k : ℕ) : Type 0 where
   pub walking : Walking bs map w
-  pub there : k < length (walking .is .blocked)
+  pub there : k < length (walking .run .is .blocked)
 
 -- What it chooses; and the state where it has gone.
 abbrev pub chooses : Model → State → ℕ → Choice
@@ -64,11 +58,11 @@ Visited s k (goes i o) r w w′ at out out′ =
 -- It goes: it is in place p, and what it takes is the n-th branch of the map, which enters a block or doesn't.
 pub record Going (bs map w : List ℕ) (k p n : ℕ) (enters : Bool) : Type 0 where
   pub visiting : Visiting bs map w k
-  pub place-is : p ≡ placeAt (visiting .walking .is .blocked) k
+  pub place-is : p ≡ placeAt (visiting .walking .run .is .blocked) k
   pub which : ℕ
   pub offer : Offer
-  pub chosen : chooses (visiting .walking .model) (visiting .walking .is) k ≡ goes which offer
-  pub offered : getElem? (asks (visiting .walking .model) (visiting .walking .is) p) which ≡ some offer
+  pub chosen : chooses (visiting .walking .run .model) (visiting .walking .run .is) k ≡ goes which offer
+  pub offered : getElem? (asks (visiting .walking .run .model) (visiting .walking .run .is) p) which ≡ some offer
   pub offer-at : OfferAt bs map n offer
   pub enters-is : enters ≡ intoBlock (offer .andThen)
 

@@ -69,7 +69,7 @@ fn release<'a>(
 )
     requires { ⌜ Going (now s) (now map) (now w) k p n enters ⌝ }
     ensures { λ _. ⌜ ((v : Going (now (s .entry)) (now (map .entry)) (now (w .entry)) k p n enters)
-        → now (w .exit) ≡ workOf (went k (v .offer) (v .visiting .walking .is))) ⌝ }
+        → now (w .exit) ≡ workOf (went k (v .offer) (v .visiting .walking .run .is))) ⌝ }
 {
     let clock = act_floor::clock_of(w);
     row_lists::unblock(w, k);
@@ -89,7 +89,7 @@ fn visit<'a>(
     requires { ⌜ Visiting (now s) (now map) (now w) k ⌝ }
     requires { ⌜ 16 * at + 16 ≤ length (now out) ⌝ }
     ensures { λ r. ⌜ ((v : Visiting (now (s .entry)) (now (map .entry)) (now (w .entry)) k)
-        → Visited (v .walking .is) k (chooses (v .walking .model) (v .walking .is) k) r
+        → Visited (v .walking .run .is) k (chooses (v .walking .run .model) (v .walking .run .is) k) r
         (now (w .entry)) (now (w .exit)) at (now (out .entry)) (now (out .exit))) × (r ≤ 1) ⌝ }
 {
     let place = row_lists::blocked_at(w, k);
@@ -117,7 +117,7 @@ pub fn walk<'a>(
     requires { ⌜ Walking (now s) (now map) (now w) ⌝ }
     requires { ⌜ 16 * (at + 64) ≤ length (now out) ⌝ }
     ensures { λ r. ⌜ ((v : Walking (now (s .entry)) (now (map .entry)) (now (w .entry)))
-        → Walked (walk (v .model) (v .is)) r (now (w .exit)) at (now (out .entry)) (now (out .exit))) × (r ≤ 64) ⌝ }
+        → Walked (walk (v .run .model) (v .run .is)) r (now (w .exit)) at (now (out .entry)) (now (out .exit))) × (r ≤ 64) ⌝ }
 {
     let mut left = blocked_count(w);
     let mut k = 0;

@@ -7,13 +7,14 @@ use mathlib.Core.List.{List, [], _∷_}
 use mathlib.Core.Bool.{Bool, true, false, _||_}
 use lib.ListN.{length, getD, take, drop}
 use Rattle.semantics.specs.Words.{any}
-use Rattle.semantics.specs.State.{Waiter}
+use Rattle.semantics.specs.Model.{Model}
+use Rattle.semantics.specs.State.{State, Waiter}
 use Rattle.semantics.specs.Claim.{offers, bars, asks, barred, Choice, waits, firstMet, choice}
 use Rattle.promises.specs.Laws.{AllOf, all-map}
 use Rattle.promises.specs.Fit.{ItemFit}
 use Rattle.promises.specs.Takes.{OfferOk, offers-ok}
 use Rattle.row_work.specs.Work.{Sized}
-use Rattle.row_work.specs.Sized.{held-sized}
+use Rattle.row_work.specs.Underway.{still-sized}
 use Rattle.row_process.specs.Process.{Shown, Lives}
 use Rattle.row_lists.specs.Lists.{IsBlocked}
 use Rattle.file_bars.specs.Barring.{Barring}
@@ -41,20 +42,21 @@ module _ (g : ℕ → Bool) where
   none-behind (suc k) (w ∷ ws) = none-behind k ws
 
 module _ {bs row w : List ℕ} {a k : ℕ} (v : Facing bs row w a k) where
-  pub is-sized : Sized (v .is)
-  is-sized = held-sized (v .model) (v .fits) (v .nested) (v .few-rounds) (v .is) (v .holds) (v .floor-ok)
+  abbrev m : Model
+  m = v .run .model
+
+  abbrev s : State
+  s = v .run .is
+
+  pub is-sized : Sized s
+  is-sized = still-sized (v .run) s (v .holds) (v .floor-ok)
 
   -- The same, held against fewer.
   pub nearer : (i : ℕ) → i ≤ k → Facing bs row w a i
   nearer i h =
       record {
-        model = v .model;
-        fits = v .fits;
-        nested = v .nested;
-        few-rounds = v .few-rounds;
+        run = v .run;
         mapped = v .mapped;
-        is = v .is;
-        shows = v .shows;
         in-hand = v .in-hand;
         amounts = v .amounts;
         holds = v .holds;
@@ -69,20 +71,20 @@ module _ {bs row w : List ℕ} {a k : ℕ} (v : Facing bs row w a k) where
   -- THE i-th of the blocked, in place r,
   module _ (i : ℕ) (h : i < k) where
     pub there-is : Shown w (IsBlocked i)
-    there-is = record { is = v .is; shows = v .shows; sized = is-sized; given = omega (arith, v .ahead) }
+    there-is = record { is = s; shows = v .run .shows; sized = is-sized; given = omega (arith, v .ahead) }
 
-    pub place-is : (r : ℕ) → ((d : Shown w (IsBlocked i)) → r ≡ placeAt (d .is .blocked) i) → r ≡ placeAt (v .is .blocked) i
+    pub place-is : (r : ℕ) → ((d : Shown w (IsBlocked i)) → r ≡ placeAt (d .is .blocked) i) → r ≡ placeAt (s .blocked) i
     unfolding there-is
     place-is r told = told there-is
 
-    module _ (r : ℕ) (e : r ≡ placeAt (v .is .blocked) i) where
-      stands : Standing (v .model) r (v .is)
+    module _ (r : ℕ) (e : r ≡ placeAt (s .blocked) i) where
+      stands : Standing m r s
       stands =
-          subst (λ p. Standing (v .model) p (v .is)) (sym e)
-          (blocked-standing (v .model) (v .is) (v .holds) i (omega (arith, v .ahead)))
+          subst (λ p. Standing m p s) (sym e)
+          (blocked-standing m s (v .holds) i (omega (arith, v .ahead)))
 
       pub its-place : Shown w (Lives r)
-      its-place = record { is = v .is; shows = v .shows; sized = is-sized; given = stands .lives }
+      its-place = record { is = s; shows = v .run .shows; sized = is-sized; given = stands .lives }
 
       -- stands at action b, which bars or not.
       module _ (b : ℕ)
@@ -98,38 +100,38 @@ module _ {bs row w : List ℕ} {a k : ℕ} (v : Facing bs row w a k) where
               by = offers (stands .action);
               of = offers (v .asked);
               long = v .mapped .long;
-              b-few = rw number-is (number-low stands (v .mapped) (v .fits));
+              b-few = rw number-is (number-low stands (v .mapped) (v .run .fits));
               q-few = v .asked-low;
               by-at = rw number-is (offers-there stands (v .mapped));
               of-at = v .asked-at;
             }
 
         pub bars-is : (x : Bool) → ((d : Barring row b a) → x ≡ bars (d .by) (d .of))
-            → x ≡ bars (asks (v .model) (v .is) (placeAt (v .is .blocked) i)) (offers (v .asked))
+            → x ≡ bars (asks m s (placeAt (s .blocked) i)) (offers (v .asked))
         unfolding its-barring
         bars-is x f =
             f its-barring
-            ∙ ap (λ q. bars q (offers (v .asked))) (sym (asks-are stands) ∙ ap (asks (v .model) (v .is)) e)
+            ∙ ap (λ q. bars q (offers (v .asked))) (sym (asks-are stands) ∙ ap (asks m s) e)
 
   -- ONE AFTER THE OTHER: whether one bars is whether one from the i-th on does.
   abbrev is-barred : Bool
-  is-barred = barred (v .model) (v .is) (take k (v .is .blocked)) (offers (v .asked))
+  is-barred = barred m s (take k (s .blocked)) (offers (v .asked))
 
   abbrev barring : ℕ → Bool
-  barring p = bars (asks (v .model) (v .is) p) (offers (v .asked))
+  barring p = bars (asks m s p) (offers (v .asked))
 
   abbrev pub BarredFrom : ℕ → Type 0
-  BarredFrom i = is-barred ≡ anyFrom barring i k (v .is .blocked)
+  BarredFrom i = is-barred ≡ anyFrom barring i k (s .blocked)
 
   module _ (i : ℕ) (h : i < k) (r : Bool)
       (told : (d : Faced row w a (i + 1))
-      → r ≡ bars (asks (d .1 .model) (d .1 .is) (placeAt (d .1 .is .blocked) i)) (offers (d .1 .asked)))
+      → r ≡ bars (asks (d .1 .run .model) (d .1 .run .is) (placeAt (d .1 .run .is .blocked) i)) (offers (d .1 .asked)))
       (f : BarredFrom i) where
-    turn : is-barred ≡ r || anyFrom barring (i + 1) k (v .is .blocked)
+    turn : is-barred ≡ r || anyFrom barring (i + 1) k (s .blocked)
     unfolding nearer
     turn =
-        let e : r ≡ barring (placeAt (v .is .blocked) i) = told (bs, nearer (i + 1) (omega arith)) in
-        f ∙ next barring i k (v .is .blocked) h (v .ahead) ∙ rw (e, add-one i)
+        let e : r ≡ barring (placeAt (s .blocked) i) = told (bs, nearer (i + 1) (omega arith)) in
+        f ∙ next barring i k (s .blocked) h (v .ahead) ∙ rw (e, add-one i)
 
     pub one-bars : r ≡ true → true ≡ is-barred
     one-bars e = sym (rw e at turn)
@@ -140,15 +142,15 @@ module _ {bs row w : List ℕ} {a k : ℕ} (v : Facing bs row w a k) where
   pub none-bars : (i : ℕ) → i ≤ k → k ≤ i → BarredFrom i → false ≡ is-barred
   none-bars i l g f =
       let e : i ≡ k = omega arith in
-      sym (f ∙ ap (λ j. anyFrom barring j k (v .is .blocked)) e ∙ none-behind barring k (v .is .blocked))
+      sym (f ∙ ap (λ j. anyFrom barring j k (s .blocked)) e ∙ none-behind barring k (s .blocked))
 
   -- WHICH BRANCH.
   pub asking : Asking bs row w a
   asking =
       record {
-        model = v .model;
-        is = v .is;
-        shows = v .shows;
+        model = m;
+        is = s;
+        shows = v .run .shows;
         sized = is-sized;
         declares =
             record {
@@ -162,15 +164,15 @@ module _ {bs row w : List ℕ} {a k : ℕ} (v : Facing bs row w a k) where
         asks = offers (v .asked);
         asks-at = v .asked-at;
         asks-fit =
-            all-map (OfferOk (v .model) (v .asked)) (λ o. AllOf (ItemFit (v .model)) (o .claim)) (λ o b. b .0 .1)
-            (offers (v .asked)) (offers-ok (v .model) (v .asked) (v .asked-fit));
+            all-map (OfferOk m (v .asked)) (λ o. AllOf (ItemFit m) (o .claim)) (λ o b. b .0 .1)
+            (offers (v .asked)) (offers-ok m (v .asked) (v .asked-fit));
       }
 
   abbrev chosen : Choice
-  chosen = choice (v .model) (v .is) (take k (v .is .blocked)) (offers (v .asked))
+  chosen = choice m s (take k (s .blocked)) (offers (v .asked))
 
   abbrev first : Choice
-  first = firstMet (v .is) 0 (offers (v .asked))
+  first = firstMet s 0 (offers (v .asked))
 
   free-chooses : is-barred ≡ false → chosen ≡ first
   unfolding choice

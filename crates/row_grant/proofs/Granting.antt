@@ -7,6 +7,7 @@ use mathlib.Core.Bool.{Bool, true, false}
 use lib.Dec.{ltb}
 use borrow.Author.Tests.{ltb-true, ltb-false}
 use lib.ListN.{length, getD, List·getD-eq-default}
+use Rattle.semantics.specs.Model.{Model}
 use Rattle.semantics.specs.Bytes.{u16}
 use Rattle.semantics.specs.State.{State, Process, process, past, into}
 use Rattle.semantics.specs.Claim.{itemMet, Then, pass, enterBlock, offers, takeAll, follow, grant}
@@ -15,7 +16,7 @@ use Rattle.promises.specs.Sound.{Held}
 use Rattle.promises.specs.Parts.{fit-at}
 use Rattle.promises.specs.Takes.{OfferOk, still-all, still-grant, take-all, grant-held, offers-ok}
 use Rattle.row_work.specs.Work.{workOf, FloorSized, Sized, Doing, Done}
-use Rattle.row_work.specs.Sized.{held-sized}
+use Rattle.row_work.specs.Underway.{still-sized}
 use Rattle.row_process.specs.Process.{Lives, changed}
 use Rattle.row_grant.specs.Grant.{Taking, Granting, intoBlock}
 use Rattle.row_process.specs.Alive.{hand-lives}
@@ -42,13 +43,19 @@ in-list xs k h = by (ltb k (length xs)) refl
     by false e = absurd (omega (arith, List·getD-eq-default xs 0 {n = k} (ltb-false k (length xs) e)))
 
 module _ {bs row w : List ℕ} {p n : ℕ} {enters : Bool} (v : Granting bs row w p n enters) where
+  abbrev m : Model
+  m = v .run .model
+
+  abbrev s : State
+  s = v .run .is
+
   pub in-map : 2_370 + n < length row
   in-map = in-list row (2_370 + n) (omega (arith, v .offer-at .behind))
 
-  is-ok : OfferOk (v .model) (v .stands-at) (v .offer)
+  is-ok : OfferOk m (v .stands-at) (v .offer)
   is-ok =
-      all-at (OfferOk (v .model) (v .stands-at)) (offers (v .stands-at)) (v .which) (v .offer)
-      (offers-ok (v .model) (v .stands-at) (fit-at (v .model) (v .fits) (process (v .is) p .frames) (v .stands-at) (v .stands)))
+      all-at (OfferOk m (v .stands-at)) (offers (v .stands-at)) (v .which) (v .offer)
+      (offers-ok m (v .stands-at) (fit-at m (v .run .fits) (process s p .frames) (v .stands-at) (v .stands)))
       (v .offered)
 
   -- The claim is taken,
@@ -56,12 +63,7 @@ module _ {bs row w : List ℕ} {p n : ℕ} {enters : Bool} (v : Granting bs row 
     pub its-claim : Taking bs at w p
     its-claim =
         record {
-          model = v .model;
-          fits = v .fits;
-          nested = v .nested;
-          few-rounds = v .few-rounds;
-          is = v .is;
-          shows = v .shows;
+          run = v .run;
           in-hand = v .in-hand;
           holds = v .holds;
           one = v .one;
@@ -81,31 +83,31 @@ module _ {bs row w : List ℕ} {p n : ℕ} {enters : Bool} (v : Granting bs row 
 
     -- and then the process goes on.
     abbrev t : State
-    t = takeAll p (v .offer .claim) (v .is)
+    t = takeAll p (v .offer .claim) s
 
-    taken-held : Held (v .model) t (t .blocked) (v .in-hand) (λ j. 0)
+    taken-held : Held m t (t .blocked) (v .in-hand) (λ j. 0)
     taken-held =
-        subst (λ b. Held (v .model) t b (v .in-hand) (λ j. 0)) (sym (still-all p (v .offer .claim) (v .is) .same-blocked))
-        (take-all (v .model) p (v .is .blocked) (v .in-hand) (v .one) (v .offer .claim) (v .is) (v .holds) (is-ok .0 .1)
-        (is-ok .0 .2) (all-hold (itemMet (v .is)) (v .offer .claim) (v .met)))
+        subst (λ b. Held m t b (v .in-hand) (λ j. 0)) (sym (still-all p (v .offer .claim) s .same-blocked))
+        (take-all m p (s .blocked) (v .in-hand) (v .one) (v .offer .claim) s (v .holds) (is-ok .0 .1)
+        (is-ok .0 .2) (all-hold (itemMet s) (v .offer .claim) (v .met)))
 
     taken-sized : Sized t
     taken-sized =
-        held-sized (v .model) (v .fits) (v .nested) (v .few-rounds) t taken-held
-        (subst FloorSized (sym (still-all p (v .offer .claim) (v .is) .same-floor)) (v .floor-ok))
+        still-sized (v .run) t taken-held
+        (subst FloorSized (sym (still-all p (v .offer .claim) s .same-floor)) (v .floor-ok))
 
     abbrev g : State
-    g = grant p (v .offer) (v .is)
+    g = grant p (v .offer) s
 
     granted-sized : Sized g
     granted-sized =
-        held-sized (v .model) (v .fits) (v .nested) (v .few-rounds) g
-        (subst (λ b. Held (v .model) g b (v .in-hand) (λ j. 0)) (sym (still-grant p (v .offer) (v .is) .same-blocked))
-        (grant-held (v .model) p (v .is .blocked) (v .in-hand) (v .one) (v .stands-at) (v .offer) (v .is) (v .holds) (v .stands)
+        still-sized (v .run) g
+        (subst (λ b. Held m g b (v .in-hand) (λ j. 0)) (sym (still-grant p (v .offer) s .same-blocked))
+        (grant-held m p (s .blocked) (v .in-hand) (v .one) (v .stands-at) (v .offer) s (v .holds) (v .stands)
         (is-ok .0) (is-ok .1) (v .met)))
-        (subst FloorSized (sym (still-grant p (v .offer) (v .is) .same-floor)) (v .floor-ok))
+        (subst FloorSized (sym (still-grant p (v .offer) s .same-floor)) (v .floor-ok))
 
-    module _ {x : List ℕ} (told : (d : Taking bs at w p) → x ≡ workOf (takeAll p (d .claim) (d .is))) where
+    module _ {x : List ℕ} (told : (d : Taking bs at w p) → x ≡ workOf (takeAll p (d .claim) (d .run .is))) where
       shown : x ≡ workOf t
       unfolding its-claim
       shown = told its-claim

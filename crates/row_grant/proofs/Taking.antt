@@ -20,7 +20,7 @@ use Rattle.promises.specs.Takes.{still-item, still-met, take-item}
 use Rattle.file_check_parts.proofs.Laws.{rest-of, parts-cons, parts-none}
 use Rattle.row_work.specs.Work.{workOf, FloorSized, Sized, Doing, Done}
 use Rattle.row_work.specs.Shown.{work-long, free-at, free-set, bins-at, bins-set}
-use Rattle.row_work.specs.Sized.{held-sized}
+use Rattle.row_work.specs.Underway.{still-sized}
 use Rattle.row_process.specs.Process.{Lives, Claims, changed}
 use Rattle.row_claim.specs.Laid.{itemsIn, claim-items}
 use Rattle.row_slaves.specs.Slaves.{Waiting}
@@ -197,18 +197,21 @@ known m s h p one (get sync i n) k = omega (arith, k .0, h .syncs-many)
 known m s h p one (condition i r v) k = tt
 
 module _ {bs : List ℕ} {at : ℕ} {first : List ℕ} {p : ℕ} (v : Taking bs at first p) where
+  abbrev m : Model
+  m = v .run .model
+
   abbrev pub LeftOf : ℕ → List ℕ → List ℕ → Type 0
-  LeftOf n rest w = Left (v .model) (v .in-hand) p (takeAll p (v .claim) (v .is)) n rest w
+  LeftOf n rest w = Left m (v .in-hand) p (takeAll p (v .claim) (v .run .is)) n rest w
 
   pub first-long : length first ≡ 10_696
   first-long =
-      ap length (v .shows)
-      ∙ work-long (v .is) (held-sized (v .model) (v .fits) (v .nested) (v .few-rounds) (v .is) (v .holds) (v .floor-ok))
+      ap length (v .run .shows)
+      ∙ work-long (v .run .is) (still-sized (v .run) (v .run .is) (v .holds) (v .floor-ok))
 
   pub left-long : {n : ℕ} {rest w : List ℕ} → LeftOf n rest w → length w ≡ 10_696
   left-long l =
       ap length (l .shows)
-      ∙ work-long (l .is) (held-sized (v .model) (v .fits) (v .nested) (v .few-rounds) (l .is) (l .holds) (l .floor-ok))
+      ∙ work-long (l .is) (still-sized (v .run) (l .is) (l .holds) (l .floor-ok))
 
   -- All, before the first.
   pub all-left : {n : ℕ} → n ≡ u16 bs at → LeftOf n (take (length bs - (at + 2)) (drop (at + 2) bs)) first
@@ -217,14 +220,15 @@ module _ {bs : List ℕ} {at : ℕ} {first : List ℕ} {p : ℕ} (v : Taking bs 
       ap (λ k. itemsIn k (drop (at + 2) bs)) e ∙ claim-items (v .claim-at) in
       rw (rest-of (at + 2) bs)
       (record {
-        is = v .is;
-        shows = v .shows;
+        is = v .run .is;
+        shows = v .run .shows;
         holds = v .holds;
         floor-ok = v .floor-ok;
-        fit = subst (AllOf (ItemFit (v .model))) (sym c) (v .claim-fit .1);
+        fit = subst (AllOf (ItemFit m)) (sym c) (v .claim-fit .1);
         apart = subst (Ordered Apart) (sym c) (v .claim-fit .2);
-        enough = subst (AllOf (λ x. itemMet (v .is) x ≡ true)) (sym c) (all-hold (itemMet (v .is)) (v .claim) (v .met));
-        same = ap (λ x. takeAll p x (v .is)) c;
+        enough =
+            subst (AllOf (λ x. itemMet (v .run .is) x ≡ true)) (sym c) (all-hold (itemMet (v .run .is)) (v .claim) (v .met));
+        same = ap (λ x. takeAll p x (v .run .is)) c;
       })
 
   -- One further.
@@ -241,8 +245,8 @@ module _ {bs : List ℕ} {at : ℕ} {first : List ℕ} {p : ℕ} (v : Taking bs 
     next : itemsIn n rest ≡ x ∷ xs
     next = ap (map itemOf) (parts-cons 8 n rest h)
 
-    fits : AllOf (ItemFit (v .model)) (x ∷ xs)
-    fits = subst (AllOf (ItemFit (v .model))) next (l .fit)
+    fits : AllOf (ItemFit m) (x ∷ xs)
+    fits = subst (AllOf (ItemFit m)) next (l .fit)
 
     apart : Ordered Apart (x ∷ xs)
     apart = subst (Ordered Apart) next (l .apart)
@@ -250,10 +254,10 @@ module _ {bs : List ℕ} {at : ℕ} {first : List ℕ} {p : ℕ} (v : Taking bs 
     enough : AllOf (λ y. itemMet s y ≡ true) (x ∷ xs)
     enough = subst (AllOf (λ y. itemMet s y ≡ true)) next (l .enough)
 
-    still-holds : Held (v .model) (takeItem p x s) (takeItem p x s .blocked) (v .in-hand) (λ j. 0)
+    still-holds : Held m (takeItem p x s) (takeItem p x s .blocked) (v .in-hand) (λ j. 0)
     still-holds =
-        subst (λ b. Held (v .model) (takeItem p x s) b (v .in-hand) (λ j. 0)) (sym (still-item p x s .same-blocked))
-        (take-item (v .model) s (l .holds) p (v .one) x (fits .0) (enough .0))
+        subst (λ b. Held m (takeItem p x s) b (v .in-hand) (λ j. 0)) (sym (still-item p x s .same-blocked))
+        (take-item m s (l .holds) p (v .one) x (fits .0) (enough .0))
 
     still-floor : FloorSized (takeItem p x s .floor)
     still-floor = subst FloorSized (sym (still-item p x s .same-floor)) (l .floor-ok)
@@ -263,13 +267,12 @@ module _ {bs : List ℕ} {at : ℕ} {first : List ℕ} {p : ℕ} (v : Taking bs 
         record {
           is = s;
           shows = l .shows;
-          before = held-sized (v .model) (v .fits) (v .nested) (v .few-rounds) s (l .holds) (l .floor-ok);
-          after =
-              held-sized (v .model) (v .fits) (v .nested) (v .few-rounds) (takeItem p x s) still-holds still-floor;
+          before = still-sized (v .run) s (l .holds) (l .floor-ok);
+          after = still-sized (v .run) (takeItem p x s) still-holds still-floor;
           given =
               record {
                 lives = hand-lives (l .holds) p (v .one);
-                known = known (v .model) s (l .holds) p (v .one) x (fits .0);
+                known = known m s (l .holds) p (v .one) x (fits .0);
                 enough = enough .0;
               };
         }
@@ -292,7 +295,7 @@ module _ {bs : List ℕ} {at : ℕ} {first : List ℕ} {p : ℕ} (v : Taking bs 
           same = sym (ap (λ c. takeAll p c s) next) ∙ l .same;
         })
 
-  pub none-left : {n : ℕ} {rest w : List ℕ} → n ≡ 0 → LeftOf n rest w → w ≡ workOf (takeAll p (v .claim) (v .is))
+  pub none-left : {n : ℕ} {rest w : List ℕ} → n ≡ 0 → LeftOf n rest w → w ≡ workOf (takeAll p (v .claim) (v .run .is))
   unfolding takeAll
   none-left {n} {rest} e l =
       l .shows ∙ ap workOf (sym (ap (λ c. takeAll p (map itemOf c) (l .is)) (parts-none 8 n rest e)) ∙ l .same)

@@ -5,13 +5,13 @@ use mathlib.Core.List.{List}
 use mathlib.Core.Bool.{Bool, true, false}
 use mathlib.Core.Option.{some}
 use lib.ListN.{length, getD, getElem?}
-use Rattle.semantics.specs.Model.{resource, bin, sync, Item, get, condition, Claim, Action, Model}
+use Rattle.semantics.specs.Model.{resource, bin, sync, Item, get, condition, Claim, Action}
 use Rattle.semantics.specs.State.{State, process}
 use Rattle.semantics.specs.Claim.{itemMet, met, Then, pass, enterBlock, Offer, offers, standsIn}
-use Rattle.promises.specs.Fit.{ClaimFit, ActFit, Fit, Nested}
+use Rattle.promises.specs.Fit.{ClaimFit, ActFit}
 use Rattle.promises.specs.Sound.{Held}
-use Rattle.row_work.specs.Work.{workOf, FloorSized}
-use Rattle.row_work.specs.Sized.{Rounds}
+use Rattle.row_work.specs.Work.{FloorSized}
+use Rattle.row_work.specs.Underway.{Underway}
 use Rattle.file_map.specs.Map.{OfferAt, OffersAt, Mapped}
 use Rattle.row_process.specs.Process.{Lives}
 use Rattle.row_claim.specs.Asking.{ClaimAt}
@@ -35,20 +35,15 @@ pub record InBin (i n : ℕ) (s : State) : Type 0 where
 
 -- THE CLAIM at byte `at`, which is met, is taken by the process in place p, which is in hand in the middle of a step.
 pub record Taking (bs : List ℕ) (at : ℕ) (w : List ℕ) (p : ℕ) : Type 0 where
-  pub model : Model
-  pub fits : Fit model
-  pub nested : Nested model
-  pub few-rounds : Rounds model
-  pub is : State
-  pub shows : w ≡ workOf is
+  pub run : Underway w
   pub in-hand : ℕ → ℕ
-  pub holds : Held model is (is .blocked) in-hand (λ j. 0)
+  pub holds : Held (run .model) (run .is) (run .is .blocked) in-hand (λ j. 0)
   pub one : 1 ≤ in-hand p
-  pub floor-ok : FloorSized (is .floor)
+  pub floor-ok : FloorSized (run .is .floor)
   pub claim : Claim
   pub claim-at : ClaimAt bs at claim
-  pub claim-fit : ClaimFit model claim
-  pub met : met is claim ≡ true
+  pub claim-fit : ClaimFit (run .model) claim
+  pub met : met (run .is) claim ≡ true
 
 -- THE OFFER, which is the n-th branch of the map, is granted to it: it stands at the action that makes the offer.
 abbrev pub intoBlock : Then → Bool
@@ -56,43 +51,33 @@ intoBlock pass = false
 intoBlock (enterBlock b) = true
 
 pub record Granting (bs map w : List ℕ) (p n : ℕ) (enters : Bool) : Type 0 where
-  pub model : Model
-  pub fits : Fit model
-  pub nested : Nested model
-  pub few-rounds : Rounds model
-  pub is : State
-  pub shows : w ≡ workOf is
+  pub run : Underway w
   pub in-hand : ℕ → ℕ
-  pub holds : Held model is (is .blocked) in-hand (λ j. 0)
+  pub holds : Held (run .model) (run .is) (run .is .blocked) in-hand (λ j. 0)
   pub one : 1 ≤ in-hand p
-  pub floor-ok : FloorSized (is .floor)
+  pub floor-ok : FloorSized (run .is .floor)
   pub stands-at : Action
-  pub stands : standsIn model (process is p .frames) ≡ some stands-at
+  pub stands : standsIn (run .model) (process (run .is) p .frames) ≡ some stands-at
   pub offer : Offer
   pub which : ℕ  -- of the action's offers
   pub offered : getElem? (offers stands-at) which ≡ some offer
   pub offer-at : OfferAt bs map n offer
-  pub met : met is (offer .claim) ≡ true
+  pub met : met (run .is) (offer .claim) ≡ true
   pub enters-is : enters ≡ intoBlock (offer .andThen)
 
 -- THE ACTION of number a is held against the first k of the blocked.
 pub record Facing (bs map w : List ℕ) (a k : ℕ) : Type 0 where
-  pub model : Model
-  pub fits : Fit model
-  pub nested : Nested model
-  pub few-rounds : Rounds model
-  pub mapped : Mapped bs model map
-  pub is : State
-  pub shows : w ≡ workOf is
+  pub run : Underway w
+  pub mapped : Mapped bs (run .model) map
   pub in-hand : ℕ → ℕ
   pub amounts : ℕ → ℕ  -- of the resources, in hand
-  pub holds : Held model is (is .blocked) in-hand amounts
-  pub floor-ok : FloorSized (is .floor)
-  pub ahead : k ≤ length (is .blocked)
+  pub holds : Held (run .model) (run .is) (run .is .blocked) in-hand amounts
+  pub floor-ok : FloorSized (run .is .floor)
+  pub ahead : k ≤ length (run .is .blocked)
   pub asked : Action
   pub asked-at : OffersAt bs map a (offers asked)
   pub asked-low : a < 1_024
-  pub asked-fit : ActFit model asked
+  pub asked-fit : ActFit (run .model) asked
 
 -- .. in some file.
 abbrev pub Faced : List ℕ → List ℕ → ℕ → ℕ → Type 0

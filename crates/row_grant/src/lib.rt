@@ -77,7 +77,7 @@ fn take_item<'a>(i: &'a [u8], w: &'a mut [u64], p: usize)
 fn take_all<'a>(s: &'a [u8], at: usize, w: &'a mut [u64], p: usize)
     requires { ⌜ Taking (now s) at (now w) p ⌝ }
     ensures { λ _. ⌜ ((v : Taking (now (s .entry)) at (now (w .entry)) p)
-        → now (w .exit) ≡ workOf (takeAll p (v .claim) (v .is))) ⌝ }
+        → now (w .exit) ≡ workOf (takeAll p (v .claim) (v .run .is))) ⌝ }
 {
     let mut left = file_fields::u16_at(s, at);
     let mut rest = &s[at + 2..];
@@ -94,7 +94,7 @@ fn take_all<'a>(s: &'a [u8], at: usize, w: &'a mut [u64], p: usize)
 pub fn grant<'a>(s: &'a [u8], map: &'a [u32], w: &'a mut [u64], p: usize, n: usize, enters: bool)
     requires { ⌜ Granting (now s) (now map) (now w) p n enters ⌝ }
     ensures { λ _. ⌜ ((v : Granting (now (s .entry)) (now (map .entry)) (now (w .entry)) p n enters)
-        → now (w .exit) ≡ workOf (grant p (v .offer) (v .is))) ⌝ }
+        → now (w .exit) ≡ workOf (grant p (v .offer) (v .run .is))) ⌝ }
 {
     let at = file_map::number_at(map, map::CLAIM + n);
     take_all(s, at, w, p);
@@ -123,7 +123,7 @@ pub fn action_at<'a>(map: &'a [u32], w: &'a [u64], p: usize) -> usize
 fn bars_at<'a>(map: &'a [u32], w: &'a [u64], a: usize, i: usize) -> bool
     requires { ⌜ Faced (now map) (now w) a (i + 1) ⌝ }
     ensures { λ r. ⌜ ((v : Faced (now (map .entry)) (now (w .entry)) a (i + 1))
-        → r ≡ bars (asks (v .1 .model) (v .1 .is) (placeAt (v .1 .is .blocked) i)) (offers (v .1 .asked))) ⌝ }
+        → r ≡ bars (asks (v .1 .run .model) (v .1 .run .is) (placeAt (v .1 .run .is .blocked) i)) (offers (v .1 .asked))) ⌝ }
 {
     let place = row_lists::blocked_at(w, i);
     let by = action_at(map, w, place);
@@ -134,7 +134,7 @@ fn bars_at<'a>(map: &'a [u32], w: &'a [u64], a: usize, i: usize) -> bool
 fn barred<'a>(map: &'a [u32], w: &'a [u64], a: usize, k: usize) -> bool
     requires { ⌜ Faced (now map) (now w) a k ⌝ }
     ensures { λ r. ⌜ ((v : Faced (now (map .entry)) (now (w .entry)) a k)
-        → r ≡ barred (v .1 .model) (v .1 .is) (take k (v .1 .is .blocked)) (offers (v .1 .asked))) ⌝ }
+        → r ≡ barred (v .1 .run .model) (v .1 .run .is) (take k (v .1 .run .is .blocked)) (offers (v .1 .asked))) ⌝ }
 {
     let mut i = 0;
     while i < k {
@@ -152,7 +152,7 @@ fn barred<'a>(map: &'a [u32], w: &'a [u64], a: usize, k: usize) -> bool
 pub fn choice<'a>(s: &'a [u8], map: &'a [u32], w: &'a [u64], a: usize, k: usize) -> Choice
     requires { ⌜ Facing (now s) (now map) (now w) a k ⌝ }
     ensures { λ r. ⌜ ((v : Facing (now (s .entry)) (now (map .entry)) (now (w .entry)) a k)
-        → r ≡ choiceIn (choice (v .model) (v .is) (take k (v .is .blocked)) (offers (v .asked)))) ⌝ }
+        → r ≡ choiceIn (choice (v .run .model) (v .run .is) (take k (v .run .is .blocked)) (offers (v .asked)))) ⌝ }
 {
     let first = row_claim::first_met(s, map, w, a);
     match first {

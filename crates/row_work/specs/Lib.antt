@@ -9,5 +9,6 @@ pub mod Blocked
 pub mod Waiting
 pub mod Places
 pub mod Sized
+pub mod Underway
 pub mod Same
 pub mod Tied

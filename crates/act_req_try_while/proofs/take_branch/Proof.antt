@@ -10,7 +10,7 @@ place-in-front-requires : tie.Need-place-in-front-requires
 place-in-front-requires c κs =
     let start = c .before .before .before .before .before in
     let v = start .pre .0 .asked in
-    shown v (v .acting .running .shows)
+    shown v (v .acting .running .run .shows)
 
 choice-requires : tie.Need-choice-requires
 choice-requires c κs =
@@ -59,7 +59,7 @@ note-requires : tie.Need-note-requires
 note-requires c κs =
     let start = c .before .before .before .before .before .before .before .before .before .before .before .before .before in
     let v = start .pre .0 .asked in
-    (shown v (v .acting .running .shows), (omega (arith, start .pre .1), omega arith))
+    (shown v (v .acting .running .run .shows), (omega (arith, start .pre .1), omega arith))
 
 branches-from-requires : tie.Need-branches-from-requires
 branches-from-requires c κs =
@@ -111,7 +111,7 @@ returns-2 c =
     let taken = at-chosen .chosen .given .1 in
     let g = granting (v .asked) _ front told taken (at-branches-from .branches-from .ensures) _ (v .enters-all) in
     one-taken (v .asked) _ front told taken (at-grant .grant .ensures g) _ _
-    (at-note .note .ensures (shown (v .asked) (v .asked .acting .running .shows)))
+    (at-note .note .ensures (shown (v .asked) (v .asked .acting .running .run .shows)))
 
 pub take-branch-spec : {M : Type 1} → statement M
 take-branch-spec =

@@ -77,7 +77,7 @@ returns-2 c =
     let n = at-number-of .number-of .ensures .0 in
     let e = resource-comes v (at-kind-of .kind-of .ensures .0) n (at-amount-of .amount-of .ensures .0)
     (at-giver-of .giver-of .ensures) (then2 .if2 .taken) in
-    rw (ap (occurs (v .model) (v .is)) e) (at-resource-back .resource-back .ensures (resource-back v e))
+    rw (ap (occurs (v .run .model) (v .run .is)) e) (at-resource-back .resource-back .ensures (resource-back v e))
 
 bin-back-requires : tie.Need-bin-back-requires
 bin-back-requires c κs =
@@ -113,7 +113,7 @@ returns-3 c =
     let n = at-number-of .number-of .ensures .0 in
     let e = bin-comes v (at-kind-of .kind-of .ensures .0) n (at-amount-of .amount-of .ensures .0)
     (at-giver-of .giver-of .ensures) (else1 .if1 .left) (else2 .if2 .left) in
-    rw (ap (occurs (v .model) (v .is)) e) (at-bin-back .bin-back .ensures (bin-back v e))
+    rw (ap (occurs (v .run .model) (v .run .is)) e) (at-bin-back .bin-back .ensures (bin-back v e))
 
 pub occurs-spec : {M : Type 1} → statement M
 occurs-spec =
