@@ -6,7 +6,7 @@ use mathlib.Core.Bool.{Bool, true, false, _&&_}
 use Rattle.semantics.specs.Model.{Model}
 use Rattle.semantics.specs.State.{State}
 use Rattle.semantics.specs.Sound.{shaped, numbersInRange, allChained, inOrder, ownNumbers, inOne, blockedStand, addsUp, soundIn}
-use Rattle.row_sound.specs.Chain.{Viewed, Chained}
+use Rattle.row_sound.specs.Chain.{Chained}
 use Rattle.row_sound.specs.Handed.{Handed}
 use Rattle.row_sound_lists.specs.Counted.{Counted, soundBeside}
 
@@ -48,31 +48,17 @@ module _ (m : Model) (s : State) where
 -- What the tests ask.
 module _ {bs map w totals : List ℕ} {resources bins syncs classes : ℕ}
     (v : Handed bs map w totals resources bins syncs classes) where
-  unfoldable pub viewed : Viewed bs map w classes
-  viewed =
-      record {
-        model = v .model;
-        fits = v .fits;
-        nested = v .nested;
-        mapped = v .mapped;
-        classes-are = v .classes-are;
-        is = v .is;
-        shows = v .shows;
-        sized = v .sized;
-      }
-
-  unfoldable pub chained-all : allChained (v .model) (v .is) ≡ true → Chained bs map w classes
-  unfolding viewed
-  chained-all e = record { viewed = viewed; all-chained = e }
+  unfoldable pub chained-all : allChained (v .viewed .model) (v .viewed .is) ≡ true → Chained bs map w classes
+  chained-all e = record { viewed = v .viewed; all-chained = e }
 
   unfoldable pub counted : Counted w totals resources bins syncs
   counted =
       record {
-        model = v .model;
-        fits = v .fits;
+        model = v .viewed .model;
+        fits = v .viewed .fits;
         things = v .things;
-        is = v .is;
-        shows = v .shows;
-        sized = v .sized;
+        is = v .viewed .is;
+        shows = v .viewed .shows;
+        sized = v .viewed .sized;
         shaped = v .shaped;
       }

@@ -264,7 +264,7 @@ pub fn sound_in<'a>(
 ) -> bool
     requires { ⌜ Handed (now bytes) (now map) (now w) (now totals) resources bins syncs classes ⌝ }
     ensures { λ r. ⌜ ((v : Handed (now (bytes .entry)) (now (map .entry)) (now (w .entry)) (now (totals .entry))
-        resources bins syncs classes) → r ≡ soundIn (v .model) (v .is)) ⌝ }
+        resources bins syncs classes) → r ≡ soundIn (v .viewed .model) (v .viewed .is)) ⌝ }
 {
     if !all_chained(bytes, map, w, classes) {
         return false;

@@ -105,21 +105,24 @@ module _ {bs : List ℕ} (p : Passing bs) where
           abbrev pub handed : sound.Handed bs map w (cut 8 32 x) (k .resources) (k .bins) (k .syncs) (i .classes)
           handed =
               record {
-                model = m;
-                fits = fit;
-                nested = nested;
-                mapped = maps map f;
+                viewed =
+                    record {
+                      model = m;
+                      fits = fit;
+                      nested = nested;
+                      mapped = maps map f;
+                      classes-are =
+                          ap (λ (y : Index). y .classes) n ∙ index-ties bs m (accepted-by bs m (p .passes)) .classes-are;
+                      is = viewIn m w;
+                      shows = showing .is-form;
+                      sized = showing .is-sized;
+                    };
                 things = fresh-things fit nested rounds counted x (g (loaded map f));
-                classes-are =
-                    ap (λ (y : Index). y .classes) n ∙ index-ties bs m (accepted-by bs m (p .passes)) .classes-are;
-                is = viewIn m w;
-                shows = showing .is-form;
-                sized = showing .is-sized;
                 shaped = shown-shaped m w fit showing;
               }
 
           pub sound-says : (r : Bool)
               → ((v : sound.Handed bs map w (cut 8 32 x) (k .resources) (k .bins) (k .syncs) (i .classes))
-              → r ≡ soundIn (v .model) (v .is))
+              → r ≡ soundIn (v .viewed .model) (v .viewed .is))
               → r ≡ soundRow bs w
           sound-says r h = h handed ∙ row-is
