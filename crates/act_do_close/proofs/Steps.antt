@@ -2,10 +2,12 @@
 use Prim.Native.Nat.{ℕ}
 use mathlib.Core.Path.{_≡_, refl}
 use mathlib.Core.List.{List, [], _∷_}
+use Rattle.semantics.specs.Numbers as No
 use Rattle.semantics.specs.Model.{Action, Model}
 use Rattle.semantics.specs.State.{State, Process, process, put, past, into, now-closed}
 use Rattle.semantics.specs.Walk.{line}
 use Rattle.semantics.specs.Step.{doTimes, close}
+use Rattle.base_numbers.specs.Code as Code
 use Rattle.base_i32.specs.Code.{valueOf}
 use Rattle.base_journal.specs.Wrote.{wroteAt}
 use Rattle.row_work.specs.Work.{workOf}
@@ -32,7 +34,7 @@ module _ {w : List ℕ} {p : ℕ} {x : Action} (v : On w p x) where
     done-some h f = rw (do-some model state p n b h) (refl, (refl, (f, refl)))
 
   pub closed : {w′ : List ℕ} → w′ ≡ workOf (now-closed (put p (past who) state)) → (at : ℕ) (out : List ℕ) {out′ : List ℕ}
-      → out′ ≡ wroteAt at (line state (who .number) 10 (valueOf 2_147_483_648) ∷ []) out
+      → out′ ≡ wroteAt at (line state (who .number) No.closed (valueOf Code.ZERO) ∷ []) out
       → Stepped (close model state p) 0 1 w w′ at out out′
   unfolding close valueOf
   closed f at out g = (refl, (refl, (f, g)))

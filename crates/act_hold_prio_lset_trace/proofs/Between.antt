@@ -12,6 +12,7 @@ use Rattle.promises.specs.Fit.{I32}
 use Rattle.promises.specs.Sound.{Below, Held}
 use Rattle.promises.specs.Parts.{priority-ok, fine-local, fine-priority}
 use Rattle.promises.specs.Takes.{wakes-up}
+use Rattle.base_numbers.specs.Code as Code
 use Rattle.base_i32.specs.Code.{valueOf, code, larger}
 use Rattle.base_i32.specs.Laws.{valueOf-code, code-fits, value-fits}
 use Rattle.row_work.specs.Work.{workOf, Sized, Doing}
@@ -24,7 +25,7 @@ use Rattle.row_lists.specs.Lists.{Any}
 
 module _ {w : List ℕ} {p : ℕ} {x : Action} (v : On w p x) where
   -- THE PRIORITY becomes the value of code c, but never below the lowest: that of code d.
-  module _ (c d : ℕ) (fits : c < 4_294_967_296) (e : d ≡ code (larger (valueOf 2_147_473_648) (valueOf c))) where
+  module _ (c d : ℕ) (fits : c < Code.CODES) (e : d ≡ code (larger (valueOf Code.LOWEST) (valueOf c))) where
     abbrev pub raised : Process → Process
     raised r = with-priority r (valueOf d)
 
@@ -87,7 +88,7 @@ module _ {w : List ℕ} {p : ℕ} {x : Action} (v : On w p x) where
       record { is = floorless; shows = e; before = floorless-sized; after = awake-sized t a b; given = alive-floorless }
 
 -- A LOCAL becomes the value of code c.
-module _ {w : List ℕ} {p : ℕ} {i : ℕ} {e : Expr} (v : On w p (LSET i e)) (c : ℕ) (fits : c < 4_294_967_296) where
+module _ {w : List ℕ} {p : ℕ} {i : ℕ} {e : Expr} (v : On w p (LSET i e)) (c : ℕ) (fits : c < Code.CODES) where
   abbrev pub stored : Process → Process
   stored r = with-locals r (set (r .locals) i (valueOf c))
 

@@ -14,6 +14,7 @@ use Rattle.semantics.specs.State.{State, Process, empty, process, put, wake, pa
 use Rattle.semantics.specs.Value.{eval}
 use Rattle.semantics.specs.Walk.{line, quiet, after}
 use Rattle.semantics.specs.Step.{hold, prio, setLocal, trace}
+use Rattle.base_numbers.specs.Code as Code
 use Rattle.base_i32.specs.Code.{valueOf, larger}
 use Rattle.act_hold_prio_lset_trace.proofs.Values.{below-zero, from-zero}
 
@@ -54,11 +55,11 @@ module _ (m : Model) (s : State) (p : ℕ) (e : Expr) where
 
   -- A HOLD of the value of code c: back in time, too late, or until t.
   module _ (c : ℕ) (yes : eval s q e ≡ ok (valueOf c)) where
-    pub hold-back : c < 2_147_483_648 → hold m s p e ≡ fails No.BACK
+    pub hold-back : c < Code.ZERO → hold m s p e ≡ fails No.BACK
     unfolding hold _>>=_ _>>_ need
     hold-back l = rw (yes, below-zero c l)
 
-    module _ (l : 2_147_483_648 ≤ c) (t : ℕ) (d : t ≡ s .clock + (c - 2_147_483_648)) where
+    module _ (l : Code.ZERO ≤ c) (t : ℕ) (d : t ≡ s .clock + (c - Code.ZERO)) where
       goes-on : nonNeg (valueOf c) ≡ true
       goes-on = ap nonNeg (from-zero c l)
 

@@ -12,6 +12,7 @@ use Rattle.semantics.specs.State.{State, Process, empty, process, put, wake, pa
 use Rattle.semantics.specs.Value.{eval}
 use Rattle.semantics.specs.Walk.{line}
 use Rattle.semantics.specs.Step.{hold, prio, setLocal, trace}
+use Rattle.base_numbers.specs.Code as Code
 use Rattle.base_i32.specs.Code.{valueOf, outcomeOf, larger}
 use Rattle.base_i32.specs.declared.Value.{Value}
 use Rattle.base_journal.specs.Wrote.{wroteAt}
@@ -42,28 +43,28 @@ module _ {body w : List ℕ} {p : ℕ} {x : Expr → Action} (v : Given body w p
       none : eval s q e ≡ fails No.SUM
       none = no-value r t no
 
-      pub hold-faults : SteppedQuietly (hold m s p e) 21 0 w w
-      hold-faults = rw (hold-fails m s p e 21 none) (refl, (refl, refl))
+      pub hold-faults : SteppedQuietly (hold m s p e) No.SUM 0 w w
+      hold-faults = rw (hold-fails m s p e No.SUM none) (refl, (refl, refl))
 
-      pub prio-faults : SteppedQuietly (prio m s p e) 21 0 w w
-      prio-faults = rw (prio-fails m s p e 21 none) (refl, (refl, refl))
+      pub prio-faults : SteppedQuietly (prio m s p e) No.SUM 0 w w
+      prio-faults = rw (prio-fails m s p e No.SUM none) (refl, (refl, refl))
 
-      pub local-faults : (i : ℕ) → SteppedQuietly (setLocal m s p i e) 21 0 w w
-      local-faults i = rw (local-fails m s p e 21 none i) (refl, (refl, refl))
+      pub local-faults : (i : ℕ) → SteppedQuietly (setLocal m s p i e) No.SUM 0 w w
+      local-faults i = rw (local-fails m s p e No.SUM none i) (refl, (refl, refl))
 
-      pub trace-faults : (at : ℕ) (out : List ℕ) → Stepped (trace m s p e) 21 0 w w at out out
-      trace-faults at out = rw (trace-fails m s p e 21 none) (refl, (refl, (refl, refl)))
+      pub trace-faults : (at : ℕ) (out : List ℕ) → Stepped (trace m s p e) No.SUM 0 w w at out out
+      trace-faults at out = rw (trace-fails m s p e No.SUM none) (refl, (refl, (refl, refl)))
 
     -- There is one.
     module _ (yes : r .ok ≡ true) where
       there : eval s q e ≡ ok (valueOf (r .code))
       there = a-value r t yes
 
-      pub hold-is-back : r .code < 2_147_483_648 → SteppedQuietly (hold m s p e) 22 0 w w
+      pub hold-is-back : r .code < Code.ZERO → SteppedQuietly (hold m s p e) No.BACK 0 w w
       hold-is-back l = rw (hold-back m s p e (r .code) there l) (refl, (refl, refl))
 
-      module _ (l : 2_147_483_648 ≤ r .code) (k : ℕ) (d : k ≡ s .clock + (r .code - 2_147_483_648)) where
-        pub hold-is-late : No.latest < k → SteppedQuietly (hold m s p e) 23 0 w w
+      module _ (l : Code.ZERO ≤ r .code) (k : ℕ) (d : k ≡ s .clock + (r .code - Code.ZERO)) where
+        pub hold-is-late : No.latest < k → SteppedQuietly (hold m s p e) No.LATE 0 w w
         hold-is-late h = rw (hold-late m s p e (r .code) there l k d h) (refl, (refl, refl))
 
         pub held : k ≤ No.latest → {w′ : List ℕ} → w′ ≡ workOf (wake k p (with-floor (put p (past q) s) empty))

@@ -17,6 +17,10 @@ use Rattle.semantics.specs.Value.{eval}
 use Rattle.promises.specs.Fit.{ExprFit, ActFit}
 use Rattle.promises.specs.Sound.{al, Fine}
 use Rattle.promises.specs.Moves.{proc-at}
+use Rattle.base_numbers.specs.Row as Row
+use Rattle.base_numbers.specs.Process as Process
+use Rattle.base_numbers.specs.Limit as Limit
+use Rattle.base_numbers.specs.Code as Code
 use Rattle.base_i32.specs.Code.{code, valueOf, valueIn, outcomeOf, Ranged}
 use Rattle.base_i32.specs.Laws.{told}
 use Rattle.base_i32.specs.declared.Value.{Value}
@@ -41,17 +45,19 @@ module _ {body w : List ℕ} {p : ℕ} (v : Valued body w p) where
 
   -- The eight locals, as the code cuts them out.
   abbrev pub cut : List ℕ
-  cut = take (2_508 + 128 * p + 8 - (2_508 + 128 * p)) (drop (2_508 + 128 * p) w)
+  cut = take (Row.FIRST_LOCALS + Process.WORDS * p + No.locals - (Row.FIRST_LOCALS + Process.WORDS * p))
+      (drop (Row.FIRST_LOCALS + Process.WORDS * p) w)
 
   pub shows-cut : cut ≡ pad 8 (map code (q .locals))
   shows-cut =
-      let e : 2_508 + 128 * p + 8 - (2_508 + 128 * p) ≡ 8 = omega arith in
-      ap (λ k. take k (drop (2_508 + 128 * p) w)) e
-      ∙ ap (λ l. take 8 (drop (2_508 + 128 * p) l)) (v .running .run .shows)
+      let e : Row.FIRST_LOCALS + Process.WORDS * p + No.locals - (Row.FIRST_LOCALS + Process.WORDS * p) ≡ No.locals =
+      omega arith in
+      ap (λ k. take k (drop (Row.FIRST_LOCALS + Process.WORDS * p) w)) e
+      ∙ ap (λ l. take No.locals (drop (Row.FIRST_LOCALS + Process.WORDS * p) l)) (v .running .run .shows)
       ∙ locals-part s (is-sized (v .running)) p (v .lives .in-places)
 
   module _ (t : ℕ) (clock : t ≡ s .clock) where
-    abbrev pub readable : Readable body (take 32 (drop 72 w)) cut t
+    abbrev pub readable : Readable body (take Limit.THINGS (drop Row.GLOBALS w)) cut t
     readable =
         record {
           model = v .running .run .model;
@@ -66,7 +72,8 @@ module _ {body w : List ℕ} {p : ℕ} (v : Valued body w p) where
           globals-ok = v .running .sound .globals-ok;
           locals-ok = has-fine .locals-ok;
           clock-ok = rw clock (v .running .sound .clock-ok);
-          shows-globals = ap (λ l. take 32 (drop 72 l)) (v .running .run .shows) ∙ globals-part s (is-sized (v .running));
+          shows-globals = ap (λ l. take Limit.THINGS (drop Row.GLOBALS l)) (v .running .run .shows)
+              ∙ globals-part s (is-sized (v .running));
           shows-locals = shows-cut;
         }
 
@@ -111,10 +118,10 @@ module _ (r : Value) {o : Outcome ℤ} (t : outcomeOf r ≡ o) where
   pub a-value : r .ok ≡ true → o ≡ ok (valueOf (r .code))
   a-value e = sym t ∙ ap (λ b. if b then ok (valueOf (r .code)) else fails No.SUM) e
 
-pub below-zero : (c : ℕ) → c < 2_147_483_648 → nonNeg (valueOf c) ≡ false
+pub below-zero : (c : ℕ) → c < Code.ZERO → nonNeg (valueOf c) ≡ false
 unfolding valueOf
-below-zero c h = rw (lt-ltb c 2_147_483_648 h)
+below-zero c h = rw (lt-ltb c Code.ZERO h)
 
-pub from-zero : (c : ℕ) → 2_147_483_648 ≤ c → valueOf c ≡ pos (c - 2_147_483_648)
+pub from-zero : (c : ℕ) → Code.ZERO ≤ c → valueOf c ≡ pos (c - Code.ZERO)
 unfolding valueOf
-from-zero c h = rw (le-ltb c 2_147_483_648 h)
+from-zero c h = rw (le-ltb c Code.ZERO h)

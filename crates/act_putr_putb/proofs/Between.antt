@@ -6,6 +6,7 @@ use mathlib.Core.List.{List}
 use lib.ListN.{length, getD, set, length-set}
 use Rattle.semantics.specs.Words.{keep, fewer}
 use Rattle.semantics.specs.Numbers.{ofReturns}
+use Rattle.semantics.specs.Numbers as No
 use Rattle.semantics.specs.Model.{Action, PUTR, PUTB}
 use Rattle.semantics.specs.State.{Process, Notice, returnsR, returnsB, put, past, with-held}
 use Rattle.semantics.specs.Step.{isReturn}
@@ -26,7 +27,7 @@ module _ {w : List ℕ} {p : ℕ} {x : Action} (v : On w p x) where
       (owed : owes n ≡ 1)
       (nobody-noticed : (k : ℕ) → noticed k n ≡ 0)
       (told : NoticeOk (m v) (s v .last) (set (s v .processes) p (past r)) ofReturns n)
-      (few : length (keep isReturn (s v .events)) < 64) where
+      (few : length (keep isReturn (s v .events)) < No.returns) where
     pub returned-sized : Sized (returned n (put p (past r) (s v)))
     returned-sized =
         let c = returning-are (s v .events) in
@@ -48,14 +49,14 @@ module _ {w : List ℕ} {p : ℕ} {x : Action} (v : On w p x) where
 
 -- AMOUNTS RETURNED to a bin, given by the process of number g, while k returns wait;
 module _ {w : List ℕ} {p i n : ℕ} (v : On w p (PUTB i n)) {k g : ℕ} (many : k ≡ length (keep isReturn (s v .events)))
-    (few : k < 64) (giver : g ≡ q v .number) where
+    (few : k < No.returns) (giver : g ≡ q v .number) where
   pub bin-told : NoticeOk (m v) (s v .last) (set (s v .processes) p (past (q v))) ofReturns (returnsB i n g)
   bin-told =
       let k = action-fits v in
       let f = fine v in
       record { is-low = refl; is-known = k .0; amount-ok = k .1; giver-ok = omega arith }
 
-  pub bin-room : length (keep isReturn (s v .events)) < 64
+  pub bin-room : length (keep isReturn (s v .events)) < No.returns
   bin-room = omega (arith, many)
 
   abbrev pub binning : {w₁ : List ℕ} → w₁ ≡ workOf (after-it v) → Doing w₁ Any (returned (returnsB i n g))
@@ -100,14 +101,14 @@ module _ {w : List ℕ} {p i n : ℕ} (v : On w p (PUTR i n)) where
     pub given-is : workOf (changed p given-up (after-it v)) ≡ workOf (put p (past (given-up (q v))) (s v))
     given-is = ap workOf (then-is v given-up given-first)
 
-    module _ {k g : ℕ} (many : k ≡ length (keep isReturn (s v .events))) (few : k < 64) (giver : g ≡ q v .number) where
+    module _ {k g : ℕ} (many : k ≡ length (keep isReturn (s v .events))) (few : k < No.returns) (giver : g ≡ q v .number) where
       pub told-back : NoticeOk (m v) (s v .last) (set (s v .processes) p (past (given-up (q v)))) ofReturns (returnsR i n g)
       told-back =
           let k = action-fits v in
           let f = fine v in
           record { is-low = refl; is-known = k .0; amount-ok = k .1; giver-ok = omega arith }
 
-      pub room-back : length (keep isReturn (s v .events)) < 64
+      pub room-back : length (keep isReturn (s v .events)) < No.returns
       room-back = omega (arith, many)
 
       abbrev pub giving-back : {w₁ : List ℕ} → w₁ ≡ workOf (put p (past (given-up (q v))) (s v))

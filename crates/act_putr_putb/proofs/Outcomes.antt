@@ -20,26 +20,26 @@ module _ (m : Model) (s : State) (p : ℕ) where
 
   -- k returns wait.
   module _ (i n k : ℕ) (many : k ≡ length (keep isReturn (s .events))) where
-    few : k < 64 → ltb (length (keep isReturn (s .events))) No.returns ≡ true
+    few : k < No.returns → ltb (length (keep isReturn (s .events))) No.returns ≡ true
     few h = lt-ltb (length (keep isReturn (s .events))) No.returns (omega (arith, many))
 
-    full : 64 ≤ k → ltb (length (keep isReturn (s .events))) No.returns ≡ false
+    full : No.returns ≤ k → ltb (length (keep isReturn (s .events))) No.returns ≡ false
     full h = le-ltb (length (keep isReturn (s .events))) No.returns (omega (arith, many))
 
-    pub putb-full : 64 ≤ k → putb m s p i n ≡ fails No.NOTICES
+    pub putb-full : No.returns ≤ k → putb m s p i n ≡ fails No.NOTICES
     unfolding putb _>>_ need
     putb-full h = rw (full h)
 
-    pub putb-goes : k < 64 → putb m s p i n ≡ ok (quiet (returned (returnsB i n (q .number)) (put p (past q) s)))
+    pub putb-goes : k < No.returns → putb m s p i n ≡ ok (quiet (returned (returnsB i n (q .number)) (put p (past q) s)))
     unfolding putb _>>_ need
     putb-goes h = rw (few h)
 
     module _ (enough : n ≤ getD (q .held) i 0) where
-      pub putr-full : 64 ≤ k → putr m s p i n ≡ fails No.NOTICES
+      pub putr-full : No.returns ≤ k → putr m s p i n ≡ fails No.NOTICES
       unfolding putr _>>_ need
       putr-full h = rw (le-leb n (getD (q .held) i 0) enough, full h)
 
-      pub putr-goes : k < 64 → putr m s p i n
+      pub putr-goes : k < No.returns → putr m s p i n
           ≡ ok (quiet (returned (returnsR i n (q .number)) (put p (past (with-held q (fewer (q .held) i n))) s)))
       unfolding putr _>>_ need
       putr-goes h = rw (le-leb n (getD (q .held) i 0) enough, few h)

@@ -10,6 +10,7 @@ use lib.Dec.{eqb, leb}
 use lib.ListN.{length, drop, getD}
 use lib.IntN.{negℤ}
 use Rattle.semantics.specs.Words.{within}
+use Rattle.semantics.specs.Numbers as No
 use Rattle.semantics.specs.Model.{Expr, negate}
 use Rattle.semantics.specs.Bytes.{u16, u32}
 use Rattle.semantics.specs.Record.{Node, nodes, pile, oneTree, theTree, expressionIn}
@@ -38,7 +39,7 @@ module _ {bs gl lo : List ℕ} {t : ℕ} (w : Readable bs gl lo t) where
 
   one-tree : (leb 1 (length bs / 6) ≡ true) × (oneTree (pile (nodes bs)) ≡ true)
   one-tree =
-      let a = and-true (within 1 16 (length bs / 6)) _ (and-true (eqb (length bs % 6) 0) _ (w .is-sized) .1) in
+      let a = and-true (within 1 No.mostNodes (length bs / 6)) _ (and-true (eqb (length bs % 6) 0) _ (w .is-sized) .1) in
       (and-true (leb 1 (length bs / 6)) _ (a .0) .0, a .1)
 
   pub begins : 0 < length bs / 6

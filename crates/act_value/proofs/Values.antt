@@ -11,6 +11,8 @@ use Rattle.semantics.specs.Model.{Expr, negate}
 use Rattle.semantics.specs.Value.{inRange}
 use Rattle.promises.specs.Laws.{AllOf, all-get}
 use Rattle.promises.specs.Fit.{I32, ExprFit}
+use Rattle.base_numbers.specs.Limit as Limit
+use Rattle.base_numbers.specs.Code as Code
 use Rattle.base_i32.specs.declared.Value.{Value}
 use Rattle.base_i32.specs.Code.{code, valueOf, aValue, valueIn, Ranged, larger}
 use Rattle.base_i32.specs.Laws.{valueOf-code, code-fits}
@@ -36,7 +38,7 @@ has-code n vs i e g h =
 
 -- Past the literals, variables and locals a leaf is the clock.
 pub clock-code : (gl lo : List ℕ) (t op v : ℕ) → (op ≡ 0 → ⊥) → (op ≡ 1 → ⊥) → (op ≡ 2 → ⊥) →
-    2_147_483_648 + t ≡ leafCode gl lo t op v
+    Code.ZERO + t ≡ leafCode gl lo t op v
 unfolding leafCode
 clock-code gl lo t zero v e f g = absurd (e refl)
 clock-code gl lo t (suc zero) v e f g = absurd (f refl)
@@ -95,7 +97,7 @@ module _ {bs gl lo : List ℕ} {t : ℕ} (w : Readable bs gl lo t) where
   pub leaf-inside : (op v : ℕ) → ExprFit (w .model) (leafOf op v) → (op ≡ 1 → HasCode gl v) × (op ≡ 2 → HasCode lo v)
   leaf-inside zero v h = ((λ e. absurd (omega arith)), (λ e. absurd (omega arith)))
   leaf-inside (suc zero) v h = (
-    (λ e. has-code 32 (w .gs) v (w .shows-globals) (w .globals-ok) (omega (arith, w .vars-many))),
+    (λ e. has-code Limit.THINGS (w .gs) v (w .shows-globals) (w .globals-ok) (omega (arith, w .vars-many))),
     (λ e. absurd (omega arith)),
   )
   leaf-inside (suc (suc zero)) v h = (

@@ -12,6 +12,7 @@ use Rattle.semantics.specs.Model.{Model}
 use Rattle.semantics.specs.Record.{expressionIn}
 use Rattle.promises.specs.Laws.{all-replicate}
 use Rattle.promises.specs.Fit.{I32}
+use Rattle.base_numbers.specs.Limit as Limit
 use Rattle.base_i32.specs.Code.{code}
 use Rattle.act_value.specs.Parts.{evalIn}
 use Rattle.act_value.specs.Reading.{Readable, pad}
@@ -30,7 +31,7 @@ abbrev one-variable : Model
 one-variable =
     record { totals = []; amounts = []; syncs = 0; vars = pos 0 ∷ []; classes = []; blocks = []; entities = [] }
 
-can-be-read : Readable sum (pad 32 0 (map code variables)) (pad 8 0 (map code locals)) 0
+can-be-read : Readable sum (pad Limit.THINGS 0 (map code variables)) (pad No.locals 0 (map code locals)) 0
 unfolding expressionIn
 can-be-read =
     record {

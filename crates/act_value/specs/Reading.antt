@@ -15,6 +15,8 @@ use Rattle.semantics.specs.Record.{nodes, pile, theTree, expression, sized, val
 use Rattle.semantics.specs.Value.{inRange}
 use Rattle.promises.specs.Laws.{AllOf}
 use Rattle.promises.specs.Fit.{I32, ExprFit}
+use Rattle.base_numbers.specs.Limit as Limit
+use Rattle.base_numbers.specs.Code as Code
 use Rattle.base_i32.specs.Code.{code, valueIn, smaller, larger}
 use Rattle.act_value.specs.Parts.{evalIn}
 use Rattle.act_value.specs.declared.Node.{Node}
@@ -34,24 +36,24 @@ pub record Readable (bs globals locals : List ℕ) (t : ℕ) : Type 0 where
   pub is-sized : sized expression bs ≡ true
   pub is-valid : valid expression bs ≡ true
   pub fits : ExprFit model (expressionIn bs)
-  pub few-vars : length (model .vars) ≤ 32
+  pub few-vars : length (model .vars) ≤ Limit.THINGS
   pub vars-many : length gs ≡ length (model .vars)
   pub locals-many : length ls ≡ No.locals
   pub globals-ok : AllOf I32 gs
   pub locals-ok : AllOf I32 ls
   pub clock-ok : t ≤ No.latest
-  pub shows-globals : globals ≡ pad 32 0 (map code gs)
-  pub shows-locals : locals ≡ pad 8 0 (map code ls)
+  pub shows-globals : globals ≡ pad Limit.THINGS 0 (map code gs)
+  pub shows-locals : locals ≡ pad No.locals 0 (map code ls)
 
 -- The number at i of a row is there, and is a code.
 pub record HasCode (row : List ℕ) (i : ℕ) : Type 0 where
   pub there : i < length row
-  pub is-code : getD row i 0 < 4_294_967_296
+  pub is-code : getD row i 0 < Code.CODES
 
 -- The code of a leaf's value, by its op and operand.
 unfoldable pub leafCode : List ℕ → List ℕ → ℕ → ℕ → ℕ → ℕ
 leafCode globals locals t op v =
-    getD (code (signed v) ∷ getD globals v 0 ∷ getD locals v 0 ∷ []) op (2_147_483_648 + t)
+    getD (code (signed v) ∷ getD globals v 0 ∷ getD locals v 0 ∷ []) op (Code.ZERO + t)
 
 -- The value of an op 3 to 7 over the values of its operands; given that both have one.
 abbrev pub twoBy : ℕ → ℤ → ℤ → Outcome ℤ

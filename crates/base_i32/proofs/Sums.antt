@@ -10,30 +10,31 @@ use lib.IntN.{ℤ, pos, negsuc, subℕ, natAbs, negℤ, _+ℤ_, _-ℤ_, _*ℤ_, 
 use lib.Signed.{mag}
 use Rattle.semantics.specs.Words.{if_then_else_, _>>_, need}
 use Rattle.semantics.specs.Value.{inRange}
-use Rattle.base_i32.specs.Code.{code, valueOf, aValue, noValue, valueIn, Difference}
+use Rattle.base_numbers.specs.Code as Code
+use Rattle.base_i32.specs.Code.{code, valueOf, aValue, noValue, valueIn, MIDDLE, Difference}
 use Rattle.base_i32.specs.Laws.{value-stands, code-stands}
 
 no-way : {A : Type 0} → false ≡ true → A
 no-way e = let z : _≡_ {A = ℕ} 0 1 = cc in absurd (omega arith)
 
 -- A number in the range has its code; others are no value.
-in-range : (v : ℤ) → mag v < 2_147_483_648 → valueIn (inRange v) ≡ aValue (code v)
+in-range : (v : ℤ) → mag v < Code.ZERO → valueIn (inRange v) ≡ aValue (code v)
 unfolding _>>_ need
-in-range v h = rw (lt-ltb (mag v) 2_147_483_648 h)
+in-range v h = rw (lt-ltb (mag v) Code.ZERO h)
 
-out-of-range : (v : ℤ) → 2_147_483_648 ≤ mag v → valueIn (inRange v) ≡ noValue
+out-of-range : (v : ℤ) → Code.ZERO ≤ mag v → valueIn (inRange v) ≡ noValue
 unfolding _>>_ need
-out-of-range v h = rw (le-ltb (mag v) 2_147_483_648 h)
+out-of-range v h = rw (le-ltb (mag v) Code.ZERO h)
 
 -- Where 0 stands in the middle, and the ends of the range about it.
 abbrev middle : ℕ
-middle = 9_223_372_036_854_775_808
+middle = MIDDLE
 
 abbrev lowest : ℕ
-lowest = 9_223_372_034_707_292_160
+lowest = MIDDLE - Code.ZERO
 
 abbrev highest : ℕ
-highest = 9_223_372_039_002_259_455
+highest = MIDDLE + Code.MINUS_ONE
 
 abbrev At : ℤ → ℕ → Type 0
 At v s = Difference v s middle
@@ -49,10 +50,10 @@ too-high (negsuc n) s h d = absurd (omega arith)
 pub between : (v : ℤ) (s : ℕ) → lowest ≤ s → s ≤ highest → At v s → aValue (s - lowest) ≡ valueIn (inRange v)
 between v s h k d = go v d
   where
-    coded : (v : ℤ) → At v s → mag v < 2_147_483_648 → aValue (s - lowest) ≡ valueIn (inRange v)
+    coded : (v : ℤ) → At v s → mag v < Code.ZERO → aValue (s - lowest) ≡ valueIn (inRange v)
     coded v d l = ap aValue (sym (code-stands v (s - lowest) (nearer v d))) ∙ sym (in-range v l)
       where
-        nearer : (v : ℤ) → At v s → Difference v (s - lowest) 2_147_483_648
+        nearer : (v : ℤ) → At v s → Difference v (s - lowest) Code.ZERO
         nearer (pos n) d = omega arith
         nearer (negsuc n) d = omega arith
 
@@ -83,31 +84,31 @@ moved : (v : ℤ) (p q r s : ℕ) → p + s ≡ r + q → Difference v p q → D
 moved (pos n) p q r s e d = omega arith
 moved (negsuc n) p q r s e d = omega arith
 
-pub sum-at : (x y : ℕ) → At (valueOf x +ℤ valueOf y) (9_223_372_032_559_808_512 + x + y)
+pub sum-at : (x y : ℕ) → At (valueOf x +ℤ valueOf y) (middle - Code.CODES + x + y)
 sum-at x y =
-    moved (valueOf x +ℤ valueOf y) (x + y) 4_294_967_296 _ _ (omega arith)
-    (sum-stands (valueOf x) (valueOf y) x 2_147_483_648 y 2_147_483_648 (value-stands x) (value-stands y))
+    moved (valueOf x +ℤ valueOf y) (x + y) Code.CODES _ _ (omega arith)
+    (sum-stands (valueOf x) (valueOf y) x Code.ZERO y Code.ZERO (value-stands x) (value-stands y))
 
-pub difference-at : (x y : ℕ) → y < 4_294_967_296 → At (valueOf x -ℤ valueOf y) (middle + x - y)
+pub difference-at : (x y : ℕ) → y < Code.CODES → At (valueOf x -ℤ valueOf y) (middle + x - y)
 difference-at x y h =
-    moved (valueOf x -ℤ valueOf y) (x + 2_147_483_648) (2_147_483_648 + y) _ _ (omega arith)
-    (sum-stands (valueOf x) (negℤ (valueOf y)) x 2_147_483_648 2_147_483_648 y (value-stands x)
-    (negated-stands (valueOf y) y 2_147_483_648 (value-stands y)))
+    moved (valueOf x -ℤ valueOf y) (x + Code.ZERO) (Code.ZERO + y) _ _ (omega arith)
+    (sum-stands (valueOf x) (negℤ (valueOf y)) x Code.ZERO Code.ZERO y (value-stands x)
+    (negated-stands (valueOf y) y Code.ZERO (value-stands y)))
 
-pub from-zero : (x : ℕ) → valueIn (inRange (valueOf 2_147_483_648 -ℤ valueOf x)) ≡ valueIn (inRange (negℤ (valueOf x)))
+pub from-zero : (x : ℕ) → valueIn (inRange (valueOf Code.ZERO -ℤ valueOf x)) ≡ valueIn (inRange (negℤ (valueOf x)))
 unfolding valueOf
 from-zero x = ap (λ (v : ℤ). valueIn (inRange v)) (+ℤ-idl (negℤ (valueOf x)))
 
 -- Products.
-pub magnitude-low : (x : ℕ) → x < 2_147_483_648 → 2_147_483_648 - x ≡ natAbs (valueOf x)
+pub magnitude-low : (x : ℕ) → x < Code.ZERO → Code.ZERO - x ≡ natAbs (valueOf x)
 unfolding valueOf
-magnitude-low x h = rw (lt-ltb x 2_147_483_648 h) (omega arith)
+magnitude-low x h = rw (lt-ltb x Code.ZERO h) (omega arith)
 
-pub magnitude-high : (x : ℕ) → 2_147_483_648 ≤ x → x - 2_147_483_648 ≡ natAbs (valueOf x)
+pub magnitude-high : (x : ℕ) → Code.ZERO ≤ x → x - Code.ZERO ≡ natAbs (valueOf x)
 unfolding valueOf
-magnitude-high x h = rw (le-ltb x 2_147_483_648 h)
+magnitude-high x h = rw (le-ltb x Code.ZERO h)
 
-pub product-fits : (p q : ℕ) → p ≤ 2_147_483_648 → q ≤ 2_147_483_648 → p * q ≤ 4_611_686_018_427_387_904
+pub product-fits : (p q : ℕ) → p ≤ Code.ZERO → q ≤ Code.ZERO → p * q ≤ Code.ZERO * Code.ZERO
 product-fits p q h k = mul-le-mul h k
 
 negated-at : (n : ℕ) → n ≤ middle → At (negℤ (pos n)) (middle - n)
@@ -115,16 +116,16 @@ negated-at n h = negated-stands (pos n) middle (middle - n) (omega arith)
 
 -- What the number of code x is, by the test whether it is negative.
 abbrev byTest : Bool → ℕ → ℤ
-byTest t x = if t then negsuc (2_147_483_647 - x) else pos (x - 2_147_483_648)
+byTest t x = if t then negsuc (Code.MINUS_ONE - x) else pos (x - Code.ZERO)
 
 module _ (x y : ℕ) where
   abbrev product : ℕ
   product = natAbs (valueOf x) * natAbs (valueOf y)
 
-  pub same-signs : Bool·beq (ltb x 2_147_483_648) (ltb y 2_147_483_648) ≡ true →
+  pub same-signs : Bool·beq (ltb x Code.ZERO) (ltb y Code.ZERO) ≡ true →
       At (valueOf x *ℤ valueOf y) (middle + product)
   unfolding valueOf
-  same-signs = go (ltb x 2_147_483_648) (ltb y 2_147_483_648)
+  same-signs = go (ltb x Code.ZERO) (ltb y Code.ZERO)
     where
       go : (t u : Bool) → Bool·beq t u ≡ true →
           At (byTest t x *ℤ byTest u y) (middle + natAbs (byTest t x) * natAbs (byTest u y))
@@ -133,10 +134,10 @@ module _ (x y : ℕ) where
       go false true e = no-way e
       go false false e = refl
 
-  pub other-signs : Bool·beq (ltb x 2_147_483_648) (ltb y 2_147_483_648) ≡ false → product ≤ middle →
+  pub other-signs : Bool·beq (ltb x Code.ZERO) (ltb y Code.ZERO) ≡ false → product ≤ middle →
       At (valueOf x *ℤ valueOf y) (middle - product)
   unfolding valueOf
-  other-signs = go (ltb x 2_147_483_648) (ltb y 2_147_483_648)
+  other-signs = go (ltb x Code.ZERO) (ltb y Code.ZERO)
     where
       go : (t u : Bool) → Bool·beq t u ≡ false → natAbs (byTest t x) * natAbs (byTest u y) ≤ middle →
           At (byTest t x *ℤ byTest u y) (middle - natAbs (byTest t x) * natAbs (byTest u y))

@@ -13,20 +13,21 @@ use Rattle.semantics.specs.Numbers as No
 use Rattle.semantics.specs.Bytes.{signed}
 use Rattle.semantics.specs.Journal.{twos}
 use Rattle.semantics.specs.Value.{isI32, inRange}
+use Rattle.base_numbers.specs.Code as Code
 use Rattle.base_i32.specs.Code.{code, valueOf, valueIn, outcomeOf, Ranged, Difference, turned}
 
 -- The number of code x is x - 2^31.
-pub value-stands : (x : ℕ) → Difference (valueOf x) x 2_147_483_648
+pub value-stands : (x : ℕ) → Difference (valueOf x) x Code.ZERO
 unfolding valueOf
-value-stands x = go (ltb x 2_147_483_648) refl
+value-stands x = go (ltb x Code.ZERO) refl
   where
-    go : (t : Bool) → ltb x 2_147_483_648 ≡ t →
-        Difference (if t then negsuc (2_147_483_647 - x) else pos (x - 2_147_483_648)) x 2_147_483_648
-    go true e = omega (arith, ltb-true x 2_147_483_648 e)
-    go false e = omega (arith, ltb-false x 2_147_483_648 e)
+    go : (t : Bool) → ltb x Code.ZERO ≡ t →
+        Difference (if t then negsuc (Code.MINUS_ONE - x) else pos (x - Code.ZERO)) x Code.ZERO
+    go true e = omega (arith, ltb-true x Code.ZERO e)
+    go false e = omega (arith, ltb-false x Code.ZERO e)
 
 -- What stands at x has code x.
-pub code-stands : (v : ℤ) (x : ℕ) → Difference v x 2_147_483_648 → code v ≡ x
+pub code-stands : (v : ℤ) (x : ℕ) → Difference v x Code.ZERO → code v ≡ x
 unfolding code
 code-stands (pos n) x d = omega arith
 code-stands (negsuc n) x d = omega arith
@@ -34,20 +35,20 @@ code-stands (negsuc n) x d = omega arith
 pub code-valueOf : (x : ℕ) → code (valueOf x) ≡ x
 code-valueOf x = code-stands (valueOf x) x (value-stands x)
 
-pub valueOf-code : (v : ℤ) → mag v < 2_147_483_648 → valueOf (code v) ≡ v
+pub valueOf-code : (v : ℤ) → mag v < Code.ZERO → valueOf (code v) ≡ v
 unfolding code valueOf
-valueOf-code (pos n) h = rw (le-ltb (2_147_483_648 + n) 2_147_483_648 (omega arith)) (ap pos (omega arith))
-valueOf-code (negsuc n) h = rw (lt-ltb (2_147_483_647 - n) 2_147_483_648 (omega arith)) (ap negsuc (omega arith))
+valueOf-code (pos n) h = rw (le-ltb (Code.ZERO + n) Code.ZERO (omega arith)) (ap pos (omega arith))
+valueOf-code (negsuc n) h = rw (lt-ltb (Code.MINUS_ONE - n) Code.ZERO (omega arith)) (ap negsuc (omega arith))
 
-pub code-fits : (v : ℤ) → mag v < 2_147_483_648 → code v < 4_294_967_296
+pub code-fits : (v : ℤ) → mag v < Code.ZERO → code v < Code.CODES
 unfolding code
 code-fits (pos n) h = omega arith
 code-fits (negsuc n) h = omega arith
 
-pub value-fits : (x : ℕ) → x < 4_294_967_296 → mag (valueOf x) < 2_147_483_648
+pub value-fits : (x : ℕ) → x < Code.CODES → mag (valueOf x) < Code.ZERO
 value-fits x h = go (valueOf x) (value-stands x)
   where
-    go : (v : ℤ) → Difference v x 2_147_483_648 → mag v < 2_147_483_648
+    go : (v : ℤ) → Difference v x Code.ZERO → mag v < Code.ZERO
     go (pos n) d = omega arith
     go (negsuc n) d = omega arith
 
@@ -56,7 +57,7 @@ same-test : (t : Bool) (x y : ℕ) → (t ≡ true → x ≤ y) → (t ≡ false
 same-test true x y f g = sym (le-leb x y (f refl))
 same-test false x y f g = sym (lt-leb x y (g refl))
 
-in-order : (v w : ℤ) (x y : ℕ) → Difference v x 2_147_483_648 → Difference w y 2_147_483_648 → leZ v w ≡ leb x y
+in-order : (v w : ℤ) (x y : ℕ) → Difference v x Code.ZERO → Difference w y Code.ZERO → leZ v w ≡ leb x y
 in-order (pos m) (pos n) x y d e =
     same-test (leb m n) x y (λ h. omega (arith, leb-true m n h)) (λ h. omega (arith, leb-false m n h))
 in-order (pos m) (negsuc n) x y d e = sym (lt-leb x y (omega arith))
@@ -67,24 +68,24 @@ in-order (negsuc m) (negsuc n) x y d e =
 pub value-order : (x y : ℕ) → leZ (valueOf x) (valueOf y) ≡ leb x y
 value-order x y = in-order (valueOf x) (valueOf y) x y (value-stands x) (value-stands y)
 
-pub code-order : (v w : ℤ) → mag v < 2_147_483_648 → mag w < 2_147_483_648 → leb (code v) (code w) ≡ leZ v w
+pub code-order : (v w : ℤ) → mag v < Code.ZERO → mag w < Code.ZERO → leb (code v) (code w) ≡ leZ v w
 code-order v w h k = sym (value-order (code v) (code w)) ∙ rw (valueOf-code v h, valueOf-code w k)
 
 -- TWO'S COMPLEMENT. Half of 2^32 on, either way.
-pub signed-turned : (n : ℕ) → n < 4_294_967_296 → code (signed n) ≡ turned n
+pub signed-turned : (n : ℕ) → n < Code.CODES → code (signed n) ≡ turned n
 unfolding code turned
-signed-turned n h = go (ltb n 2_147_483_648) refl
+signed-turned n h = go (ltb n Code.ZERO) refl
   where
-    go : (t : Bool) → ltb n 2_147_483_648 ≡ t →
-        code (if t then pos n else negsuc (4_294_967_295 - n)) ≡ (n + 2_147_483_648) % 4_294_967_296
-    go true e = omega (arith, ltb-true n 2_147_483_648 e)
-    go false e = omega (arith, ltb-false n 2_147_483_648 e)
+    go : (t : Bool) → ltb n Code.ZERO ≡ t →
+        code (if t then pos n else negsuc (Code.HIGHEST - n)) ≡ (n + Code.ZERO) % Code.CODES
+    go true e = omega (arith, ltb-true n Code.ZERO e)
+    go false e = omega (arith, ltb-false n Code.ZERO e)
 
-pub twos-turned : (x : ℕ) → x < 4_294_967_296 → twos (valueOf x) ≡ turned x
+pub twos-turned : (x : ℕ) → x < Code.CODES → twos (valueOf x) ≡ turned x
 unfolding turned
 twos-turned x h = go (valueOf x) (value-stands x)
   where
-    go : (v : ℤ) → Difference v x 2_147_483_648 → twos v ≡ (x + 2_147_483_648) % 4_294_967_296
+    go : (v : ℤ) → Difference v x Code.ZERO → twos v ≡ (x + Code.ZERO) % Code.CODES
     go (pos n) d = omega arith
     go (negsuc n) d = omega arith
 
@@ -94,7 +95,7 @@ unfolding _>>_ need
 in-range v = go (isI32 v) refl
   where
     go : (t : Bool) → isI32 v ≡ t → Ranged (need No.SUM t >> ok v)
-    go true e = ltb-true (mag v) 2_147_483_648 e
+    go true e = ltb-true (mag v) Code.ZERO e
     go false e = refl
 
 pub told : (o : Outcome ℤ) → Ranged o → outcomeOf (valueIn o) ≡ o

@@ -5,7 +5,8 @@ ghost use lib.IntN.{ℤ, natAbs, negℤ, _+ℤ_, _-ℤ_, _*ℤ_};
 ghost use Rattle.semantics.specs.Bytes.{signed};
 ghost use Rattle.semantics.specs.Journal.{twos};
 ghost use Rattle.semantics.specs.Value.{inRange};
-ghost use Rattle.base_i32.specs.Code.{code, valueOf, valueIn, smaller, larger, Difference, turned};
+ghost use Rattle.base_numbers.specs.Code as Code;
+ghost use Rattle.base_i32.specs.Code.{code, valueOf, valueIn, smaller, larger, MIDDLE, Difference, turned};
 use base_numbers::code;
 
 // Where 0 stands among the numbers that a sum, a difference or a product of two of them can be: room on both sides for 2^62.
@@ -26,7 +27,7 @@ pub struct Value {
 
 // The number v that stands at s, if it is in the range.
 fn in_range(s: u64) -> Value
-    ensures { λ r. ⌜ ((v : ℤ) → Difference v s 9223372036854775808 → r ≡ valueIn (inRange v)) ⌝ }
+    ensures { λ r. ⌜ ((v : ℤ) → Difference v s MIDDLE → r ≡ valueIn (inRange v)) ⌝ }
 {
     if s < MIDDLE - BELOW {
         return Value { ok: false, code: 0 };
@@ -53,7 +54,7 @@ pub fn subtract(x: u32, y: u32) -> Value
 }
 
 fn magnitude(x: u32) -> u64
-    ensures { λ r. ⌜ (r ≡ natAbs (valueOf x)) × (r ≤ 2147483648) ⌝ }
+    ensures { λ r. ⌜ (r ≡ natAbs (valueOf x)) × (r ≤ Code.ZERO) ⌝ }
 {
     if x < code::ZERO {
         base_wide::wide(code::ZERO - x)

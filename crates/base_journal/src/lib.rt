@@ -5,12 +5,13 @@ ghost use lib.ListN.{length};
 ghost use lib.Seq.{sets};
 ghost use Rattle.semantics.specs.Journal.{le16, le32, lineBytes};
 ghost use Rattle.base_numbers.specs.Line as Line;
+ghost use Rattle.base_numbers.specs.Byte as Byte;
 ghost use Rattle.base_i32.specs.Code.{valueOf};
 use base_numbers::byte;
 use base_numbers::line;
 
 fn low_byte(n: u32) -> u8
-    ensures { λ r. ⌜ r ≡ n % 256 ⌝ }
+    ensures { λ r. ⌜ r ≡ n % Byte.ONE ⌝ }
 {
     (n % byte::ONE) as u8
 }
@@ -36,7 +37,7 @@ fn write_32(out: &mut [u8], at: usize, n: u32)
 // A line at its place, counted in lines. The kind has 16 bits, and `value` is a code.
 pub fn write_line(out: &mut [u8], at: usize, kind: u32, time: u32, process: u32, value: u32)
     requires { ⌜ Line.BYTES * at + Line.BYTES ≤ length (now out) ⌝ }
-    requires { ⌜ kind < 65536 ⌝ }
+    requires { ⌜ kind < Byte.TWO ⌝ }
     ensures { λ _. ⌜ now (out .exit) ≡ sets (now (out .entry)) (Line.BYTES * at)
         (lineBytes (record { time = time; process = process; kind = kind; value = valueOf value })) ⌝ }
 {

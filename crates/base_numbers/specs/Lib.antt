@@ -6,3 +6,9 @@ pub mod Word
 pub mod Most
 pub mod Code
 pub mod Line
+pub mod Byte
+pub mod Group
+pub mod Column
+pub mod Item
+pub mod Tail
+pub mod Bound

@@ -1,26 +1,34 @@
--- How many there may be in a model, and how large, in the words of the code (module limit).
+-- How many there may be in a model, and how large, in the words of the code (module limit): the numbers of document 01.
 -- Assumes nothing.
-use Prim.Native.Nat.{ℕ}
+use Prim.Native.Nat.{ℕ, _+_, _*_}
+use Rattle.semantics.specs.Numbers as No
 
 -- RES, BIN, SYNC and VAR each; CLASS, BLOCK, actions, and branches of actions.
 abbrev pub THINGS : ℕ
-THINGS = 32
+THINGS = No.mostThings
 
 abbrev pub CLASSES : ℕ
-CLASSES = 64
+CLASSES = No.mostClasses
 
 abbrev pub BLOCKS : ℕ
-BLOCKS = 256
+BLOCKS = No.mostBlocks
 
 abbrev pub ACTIONS : ℕ
-ACTIONS = 1_024
+ACTIONS = No.mostActions
 
 abbrev pub BRANCHES : ℕ
-BRANCHES = 4_096
+BRANCHES = ACTIONS * No.mostBranches
 
 -- The amount of an item, a share, a total or an offset; the blocks that nest.
 abbrev pub AMOUNT : ℕ
-AMOUNT = 1_000_000
+AMOUNT = No.topAmount
 
 abbrev pub DEPTH : ℕ
-DEPTH = 8
+DEPTH = No.deepest
+
+-- The lines of one step; and the least bound that is OVER.
+abbrev pub STEP_LINES : ℕ
+STEP_LINES = 66
+
+abbrev pub OVER : ℕ
+OVER = No.largestBound + 1

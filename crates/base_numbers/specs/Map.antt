@@ -1,32 +1,33 @@
 -- The map of a model: where each part begins, in the words of the code (module map).
 -- Assumes nothing.
-use Prim.Native.Nat.{ℕ}
+use Prim.Native.Nat.{ℕ, _+_}
+use Rattle.base_numbers.specs.Limit as Limit
 
 -- Actions before each block, the place of each action, the body of each class, branches before each action.
 abbrev pub FIRST : ℕ
 FIRST = 0
 
 abbrev pub PLACE : ℕ
-PLACE = 257
+PLACE = FIRST + Limit.BLOCKS + 1
 
 abbrev pub BODY : ℕ
-BODY = 1_281
+BODY = PLACE + Limit.ACTIONS
 
 abbrev pub FROM : ℕ
-FROM = 1_345
+FROM = BODY + Limit.CLASSES
 
 -- Of each branch: the place of its claim, and the resources, bins and syncs that it names, as bits; and the end.
 abbrev pub CLAIM : ℕ
-CLAIM = 2_370
+CLAIM = FROM + Limit.ACTIONS + 1
 
 abbrev pub RESOURCES : ℕ
-RESOURCES = 6_466
+RESOURCES = CLAIM + Limit.BRANCHES
 
 abbrev pub BINS : ℕ
-BINS = 10_562
+BINS = RESOURCES + Limit.BRANCHES
 
 abbrev pub SYNCS : ℕ
-SYNCS = 14_658
+SYNCS = BINS + Limit.BRANCHES
 
 abbrev pub WORDS : ℕ
-WORDS = 18_754
+WORDS = SYNCS + Limit.BRANCHES

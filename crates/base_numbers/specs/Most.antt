@@ -1,13 +1,17 @@
 -- Limits as words, in the words of the code (module most).
 -- Assumes nothing.
-use Prim.Native.Nat.{ℕ}
+use Prim.Native.Nat.{ℕ, _+_, _*_, _-_}
+use Rattle.semantics.specs.Numbers as No
+use Rattle.base_numbers.specs.Limit as Limit
+use Rattle.base_numbers.specs.Word as Word
+use Rattle.base_numbers.specs.Code as Code
 
 -- The largest word of a slave, word of one that waits, and key of an event.
 abbrev pub SLAVE : ℕ
-SLAVE = 2_047
+SLAVE = Word.SYNC * Limit.THINGS - 1
 
 abbrev pub WAITER : ℕ
-WAITER = 274_877_906_943
+WAITER = Word.KEY * Word.RANKS - 1
 
 abbrev pub KEY : ℕ
-KEY = 8_589_934_596_294_967_295
+KEY = Word.TIME * No.latest + Code.HIGHEST

@@ -1,6 +1,9 @@
 -- The work, a row of numbers that shows the state of a run: where each part begins, in the words of the code (module row).
 -- Assumes nothing.
-use Prim.Native.Nat.{ℕ}
+use Prim.Native.Nat.{ℕ, _+_, _*_}
+use Rattle.semantics.specs.Numbers as No
+use Rattle.base_numbers.specs.Limit as Limit
+use Rattle.base_numbers.specs.Process as Process
 
 -- Single numbers.
 abbrev pub CLOCK : ℕ
@@ -27,58 +30,58 @@ BLOCKED = 6
 abbrev pub SPARE : ℕ
 SPARE = 7
 
--- By number: what is free, the bins, the codes of the variables, how many wait for each sync.
-abbrev pub FREE : ℕ
-FREE = 8
-
-abbrev pub BINS : ℕ
-BINS = 40
-
-abbrev pub GLOBALS : ℕ
-GLOBALS = 72
-
-abbrev pub WAITS : ℕ
-WAITS = 104
-
--- The blocked list; the keys of the events and what they do; the waiting lists; the processes; and the end.
-abbrev pub QUEUE : ℕ
-QUEUE = 136
-
-abbrev pub KEYS : ℕ
-KEYS = 200
-
-abbrev pub NOTICES : ℕ
-NOTICES = 328
-
-abbrev pub WAITING : ℕ
-WAITING = 456
-
-abbrev pub PROCESSES : ℕ
-PROCESSES = 2_504
-
-abbrev pub WORDS : ℕ
-WORDS = 10_696
-
 -- How many numbers the event list has room for, and a list of those that wait.
 abbrev pub EVENTS_MOST : ℕ
-EVENTS_MOST = 128
+EVENTS_MOST = No.places + No.returns
 
 abbrev pub WAITERS_MOST : ℕ
-WAITERS_MOST = 64
+WAITERS_MOST = No.places
 
 -- How many numbers all waiting lists have, and all processes.
 abbrev pub WAITERS_ALL : ℕ
-WAITERS_ALL = 2_048
+WAITERS_ALL = WAITERS_MOST * Limit.THINGS
 
 abbrev pub PROCESSES_ALL : ℕ
-PROCESSES_ALL = 8_192
+PROCESSES_ALL = Process.WORDS * No.places
+
+-- By number: what is free, the bins, the codes of the variables, how many wait for each sync.
+abbrev pub FREE : ℕ
+FREE = SPARE + 1
+
+abbrev pub BINS : ℕ
+BINS = FREE + Limit.THINGS
+
+abbrev pub GLOBALS : ℕ
+GLOBALS = BINS + Limit.THINGS
+
+abbrev pub WAITS : ℕ
+WAITS = GLOBALS + Limit.THINGS
+
+-- The blocked list; the keys of the events and what they do; the waiting lists; the processes; and the end.
+abbrev pub QUEUE : ℕ
+QUEUE = WAITS + Limit.THINGS
+
+abbrev pub KEYS : ℕ
+KEYS = QUEUE + WAITERS_MOST
+
+abbrev pub NOTICES : ℕ
+NOTICES = KEYS + EVENTS_MOST
+
+abbrev pub WAITING : ℕ
+WAITING = NOTICES + EVENTS_MOST
+
+abbrev pub PROCESSES : ℕ
+PROCESSES = WAITING + WAITERS_ALL
+
+abbrev pub WORDS : ℕ
+WORDS = (PROCESSES) + PROCESSES_ALL
 
 -- Where the locals of the process in place 0 begin, what it holds, and its slaves.
 abbrev pub FIRST_LOCALS : ℕ
-FIRST_LOCALS = 2_508
+FIRST_LOCALS = (PROCESSES) + Process.LOCALS
 
 abbrev pub FIRST_HELD : ℕ
-FIRST_HELD = 2_516
+FIRST_HELD = (PROCESSES) + Process.HELD
 
 abbrev pub FIRST_OWNED : ℕ
-FIRST_OWNED = 2_556
+FIRST_OWNED = (PROCESSES) + Process.OWNED

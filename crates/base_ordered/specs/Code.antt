@@ -8,6 +8,7 @@ use lib.IntN.{ℤ, pos, negsuc}
 use lib.Signed.{ltZ}
 use borrow.Author.Tests.{lt-ltb, le-ltb, ltb-true, ltb-false}
 use Rattle.promises.specs.Fit.{I32}
+use Rattle.base_numbers.specs.Code as Code
 use Rattle.base_i32.specs.Code.{code}
 
 -- Two tests on two numbers agree where each follows from the other.
@@ -21,8 +22,8 @@ same-test a b c d f g = by (ltb a b) refl
 pub code-order : (x y : ℤ) → I32 x → I32 y → ltb (code x) (code y) ≡ ltZ x y
 unfolding code
 code-order (pos a) (pos b) h g =
-    same-test a b (2_147_483_648 + a) (2_147_483_648 + b) (λ l. omega arith) (λ l. omega arith)
-code-order (pos a) (negsuc b) h g = le-ltb (2_147_483_648 + a) (2_147_483_647 - b) (omega arith)
-code-order (negsuc a) (pos b) h g = lt-ltb (2_147_483_647 - a) (2_147_483_648 + b) (omega arith)
+    same-test a b (Code.ZERO + a) (Code.ZERO + b) (λ l. omega arith) (λ l. omega arith)
+code-order (pos a) (negsuc b) h g = le-ltb (Code.ZERO + a) (Code.MINUS_ONE - b) (omega arith)
+code-order (negsuc a) (pos b) h g = lt-ltb (Code.MINUS_ONE - a) (Code.ZERO + b) (omega arith)
 code-order (negsuc a) (negsuc b) h g =
-    same-test b a (2_147_483_647 - a) (2_147_483_647 - b) (λ l. omega arith) (λ l. omega arith)
+    same-test b a (Code.MINUS_ONE - a) (Code.MINUS_ONE - b) (λ l. omega arith) (λ l. omega arith)

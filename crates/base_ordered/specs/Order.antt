@@ -15,6 +15,7 @@ use Rattle.promises.specs.Fit.{I32}
 use Rattle.promises.specs.Laws.{AllOf}
 use Rattle.base_numbers.specs.Word as Word
 use Rattle.base_numbers.specs.Code as Code
+use Rattle.base_numbers.specs.Byte as Byte
 use Rattle.base_i32.specs.Code.{code}
 use Rattle.base_i32.specs.Laws.{code-fits}
 use Rattle.base_ordered.specs.Code.{same-test, code-order}
@@ -64,7 +65,7 @@ waiter-below w v p =
     at-most (waiterKey v) (waiterKey w) (waiterWord v) (Word.KEY * (waiterKey w + 1)) (λ h. omega arith) (λ h. omega arith)
 
 -- A key and the limit above it are a u64.
-pub event-key-low : (e : Event) → e .time ≤ No.latest → eventKey e + 1 < 18_446_744_073_709_551_616
+pub event-key-low : (e : Event) → e .time ≤ No.latest → eventKey e + 1 < Byte.EIGHT
 event-key-low e h = omega arith
 
 -- ONE MORE, put in behind those whose key is at most its own, goes where document 01 inserts it. The order is asked of those

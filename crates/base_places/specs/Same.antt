@@ -7,7 +7,9 @@ use mathlib.Core.List.{List, [], _∷_}
 use mathlib.Core.Bool.{Bool, true, false}
 use lib.IntN.{pos}
 use lib.ListN.{length, set}
+use Rattle.semantics.specs.Numbers as No
 use Rattle.semantics.specs.State.{Process, nobody, isFree}
+use Rattle.base_numbers.specs.Byte as Byte
 use Rattle.base_places.specs.Places.{lives, livingOf, Shows}
 
 -- A PLACE of a binary digit: free, or somebody in a block has it.
@@ -51,22 +53,22 @@ digits-are zero x l = omega arith
 digits-are (suc n) x l =
     let a = lives-digit (x % 2) (omega arith) in let b = digits-are n (x / 2) (omega arith) in omega arith
 
-module _ (living : ℕ) (low : living < 18_446_744_073_709_551_616) where
-  shown : Shows living (placesOf 64 living)
+module _ (living : ℕ) (low : living < Byte.EIGHT) where
+  shown : Shows living (placesOf No.places living)
   unfolding powerOf
-  shown = record { places = places-many 64 living; digits = sym (digits-are 64 living low) }
+  shown = record { places = places-many No.places living; digits = sym (digits-are No.places living low) }
 
   -- What is read of the places has one answer,
   pub same-read : (f : List Process → ℕ) (B : ℕ → Type 0) (r r′ : ℕ)
       → ((ps : List Process) → Shows living ps → r ≡ f ps) × B r
       → ((ps : List Process) → Shows living ps → r′ ≡ f ps) × B r′ → r ≡ r′
-  same-read f B r r′ h k = h .0 (placesOf 64 living) shown ∙ sym (k .0 (placesOf 64 living) shown)
+  same-read f B r r′ h k = h .0 (placesOf No.places living) shown ∙ sym (k .0 (placesOf No.places living) shown)
 
   -- and so has the number of the places with another process in one of them, one that lives or nobody.
   pub same-changed : (p : ℕ) (free : Bool) (r r′ : ℕ)
       → ((ps : List Process) (q : Process) → Shows living ps → isFree q ≡ free → r ≡ livingOf (set ps p q))
       → ((ps : List Process) (q : Process) → Shows living ps → isFree q ≡ free → r′ ≡ livingOf (set ps p q)) → r ≡ r′
   same-changed p true r r′ h k =
-      h (placesOf 64 living) nobody shown refl ∙ sym (k (placesOf 64 living) nobody shown refl)
+      h (placesOf No.places living) nobody shown refl ∙ sym (k (placesOf No.places living) nobody shown refl)
   same-changed p false r r′ h k =
-      h (placesOf 64 living) somebody shown refl ∙ sym (k (placesOf 64 living) somebody shown refl)
+      h (placesOf No.places living) somebody shown refl ∙ sym (k (placesOf No.places living) somebody shown refl)

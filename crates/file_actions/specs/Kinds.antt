@@ -51,7 +51,7 @@ OfKind k x =
     ∷ ((c : ℕ) × (t : ℕ) × (h : List Share) × (x ≡ START c t h))
     ∷ ((e : Expr) × (x ≡ TRACE e))
     ∷ (x ≡ CLOSE) ∷ [])
-    (k - 16)
+    (k - K.HOLD)
     ⊥
 
 its-kind : (x : Action) → OfKind (kindOf x) x
@@ -83,47 +83,47 @@ module _ {bs : List ℕ} {p : ℕ} {x : Action} (a : ActionAt bs p x) where
   pub of-kind : (k : ℕ) → kindAt bs p ≡ k → OfKind k x
   of-kind k e = subst (λ n. OfKind n x) (sym kind-of ∙ e) (its-kind x)
 
-  pub is-hold : kindAt bs p ≡ 16 → (e : Expr) × (x ≡ HOLD e)
-  is-hold = of-kind 16
+  pub is-hold : kindAt bs p ≡ K.HOLD → (e : Expr) × (x ≡ HOLD e)
+  is-hold = of-kind K.HOLD
 
-  pub is-prio : kindAt bs p ≡ 17 → (e : Expr) × (x ≡ PRIO e)
-  is-prio = of-kind 17
+  pub is-prio : kindAt bs p ≡ K.PRIO → (e : Expr) × (x ≡ PRIO e)
+  is-prio = of-kind K.PRIO
 
-  pub is-set : kindAt bs p ≡ 18 → (i : ℕ) × (e : Expr) × (x ≡ SET i e)
-  is-set = of-kind 18
+  pub is-set : kindAt bs p ≡ K.SET → (i : ℕ) × (e : Expr) × (x ≡ SET i e)
+  is-set = of-kind K.SET
 
-  pub is-lset : kindAt bs p ≡ 19 → (i : ℕ) × (e : Expr) × (x ≡ LSET i e)
-  is-lset = of-kind 19
+  pub is-lset : kindAt bs p ≡ K.LSET → (i : ℕ) × (e : Expr) × (x ≡ LSET i e)
+  is-lset = of-kind K.LSET
 
-  pub is-do : kindAt bs p ≡ 20 → (n : ℕ) × (b : ℕ) × (x ≡ DO n b)
-  is-do = of-kind 20
+  pub is-do : kindAt bs p ≡ K.DO → (n : ℕ) × (b : ℕ) × (x ≡ DO n b)
+  is-do = of-kind K.DO
 
-  pub is-putr : kindAt bs p ≡ 21 → (i : ℕ) × (n : ℕ) × (x ≡ PUTR i n)
-  is-putr = of-kind 21
+  pub is-putr : kindAt bs p ≡ K.PUTR → (i : ℕ) × (n : ℕ) × (x ≡ PUTR i n)
+  is-putr = of-kind K.PUTR
 
-  pub is-putb : kindAt bs p ≡ 22 → (i : ℕ) × (n : ℕ) × (x ≡ PUTB i n)
-  is-putb = of-kind 22
+  pub is-putb : kindAt bs p ≡ K.PUTB → (i : ℕ) × (n : ℕ) × (x ≡ PUTB i n)
+  is-putb = of-kind K.PUTB
 
-  pub is-puts : kindAt bs p ≡ 23 → (i : ℕ) × (n : ℕ) × (x ≡ PUTS i n)
-  is-puts = of-kind 23
+  pub is-puts : kindAt bs p ≡ K.PUTS → (i : ℕ) × (n : ℕ) × (x ≡ PUTS i n)
+  is-puts = of-kind K.PUTS
 
-  pub is-become : kindAt bs p ≡ 24 → (i : ℕ) × (x ≡ BECOME i)
-  is-become = of-kind 24
+  pub is-become : kindAt bs p ≡ K.BECOME → (i : ℕ) × (x ≡ BECOME i)
+  is-become = of-kind K.BECOME
 
-  pub is-req : kindAt bs p ≡ 25 → (c : Claim) × (x ≡ REQ c)
-  is-req = of-kind 25
+  pub is-req : kindAt bs p ≡ K.REQ → (c : Claim) × (x ≡ REQ c)
+  is-req = of-kind K.REQ
 
-  pub is-try : kindAt bs p ≡ 26 → (l : List Branch) × (x ≡ TRY l)
-  is-try = of-kind 26
+  pub is-try : kindAt bs p ≡ K.TRY → (l : List Branch) × (x ≡ TRY l)
+  is-try = of-kind K.TRY
 
-  pub is-while : kindAt bs p ≡ 27 → (b : ℕ) × (c : Claim) × (x ≡ WHILE b c)
-  is-while = of-kind 27
+  pub is-while : kindAt bs p ≡ K.WHILE → (b : ℕ) × (c : Claim) × (x ≡ WHILE b c)
+  is-while = of-kind K.WHILE
 
-  pub is-start : kindAt bs p ≡ 28 → (c : ℕ) × (t : ℕ) × (h : List Share) × (x ≡ START c t h)
-  is-start = of-kind 28
+  pub is-start : kindAt bs p ≡ K.START → (c : ℕ) × (t : ℕ) × (h : List Share) × (x ≡ START c t h)
+  is-start = of-kind K.START
 
-  pub is-trace : kindAt bs p ≡ 29 → (e : Expr) × (x ≡ TRACE e)
-  is-trace = of-kind 29
+  pub is-trace : kindAt bs p ≡ K.TRACE → (e : Expr) × (x ≡ TRACE e)
+  is-trace = of-kind K.TRACE
 
-  pub is-close : kindAt bs p ≡ 30 → x ≡ CLOSE
-  is-close = of-kind 30
+  pub is-close : kindAt bs p ≡ K.CLOSE → x ≡ CLOSE
+  is-close = of-kind K.CLOSE

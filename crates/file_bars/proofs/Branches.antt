@@ -9,6 +9,7 @@ use native.Mathlib.Omega.{arith}
 use lib.ListN.{length, getD, getElem?}
 use Rattle.semantics.specs.Words.{all, any}
 use Rattle.semantics.specs.Claim.{Offer, covered, bars}
+use Rattle.base_numbers.specs.Map as Map
 use Rattle.file_map.specs.Map.{OfferAt, OffersAt}
 use Rattle.file_bars.specs.declared.Named.{Named}
 use Rattle.file_bars.specs.Barring.{Barring}
@@ -49,8 +50,8 @@ branches-are bs row n (o ∷ os) h =
 
 offers-are : (bs row : List ℕ) (a : ℕ) (os : List Offer) → OffersAt bs row a os → branchesOf row a ≡ map offered os
 offers-are bs row a os h =
-    let k : getD row (1_345 + (a + 1)) 0 - getD row (1_345 + a) 0 ≡ length os = omega (arith, h .to-is) in
-    rw k (branches-are bs row (getD row (1_345 + a) 0) os (h .each))
+    let k : getD row (Map.FROM + (a + 1)) 0 - getD row (Map.FROM + a) 0 ≡ length os = omega (arith, h .to-is) in
+    rw k (branches-are bs row (getD row (Map.FROM + a) 0) os (h .each))
 
 covered-is : (os : List Offer) (x : Offer) → any (strictlyWithin (offered x)) (map offered os) ≡ covered os x
 covered-is [] x = refl

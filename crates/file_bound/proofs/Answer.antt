@@ -5,11 +5,13 @@ use mathlib.Core.List.{List}
 use mathlib.Core.Bool.{Bool, true, false}
 use native.Mathlib.Omega.{arith}
 use borrow.Author.Tests.{le-leb, lt-leb}
+use Rattle.semantics.specs.Numbers as No
 use Rattle.semantics.specs.Model.{Model}
 use Rattle.semantics.specs.Bytes.{recordsFrom}
 use Rattle.semantics.specs.Decode.{accepted, gather, decode}
 use Rattle.semantics.specs.Bound.{loops, bound, boundIs}
 use Rattle.semantics.specs.Desk.{boundFile}
+use Rattle.base_numbers.specs.Limit as Limit
 use Rattle.file_index.specs.Index.{Readable, indexOf, loopsIn}
 use Rattle.file_index.specs.declared.Index.{Index}
 use Rattle.file_index.proofs.Standing.{accepted-by}
@@ -53,12 +55,12 @@ module _ (bs : List ℕ) where
 
     -- THE TOTAL, w.
     module _ (l : loops m ≡ false) (w : ℕ) (e : w ≡ cap (bound m)) where
-      pub at-says : w < 4_294_967_296 → Bounded.At w ≡ boundedOf (boundFile bs)
+      pub at-says : w < Limit.OVER → Bounded.At w ≡ boundedOf (boundFile bs)
       unfolding boundFile boundIs
       at-says h =
           let i : w ≡ bound m = omega arith in
-          rw (a, boundIs, l, le-leb (bound m) 4_294_967_295 (omega arith), i)
+          rw (a, boundIs, l, le-leb (bound m) No.largestBound (omega arith), i)
 
-      pub over-says : 4_294_967_296 ≤ w → Bounded.Over ≡ boundedOf (boundFile bs)
+      pub over-says : Limit.OVER ≤ w → Bounded.Over ≡ boundedOf (boundFile bs)
       unfolding boundFile boundIs
-      over-says h = rw (a, boundIs, l, lt-leb (bound m) 4_294_967_295 (omega arith))
+      over-says h = rw (a, boundIs, l, lt-leb (bound m) No.largestBound (omega arith))

@@ -11,6 +11,7 @@ use Rattle.semantics.specs.Decode.{gather, depth}
 use Rattle.semantics.specs.Bound.{weight}
 use Rattle.promises.specs.Fit.{Fit, Nested, Forward}
 use Rattle.promises.specs.Accepted.{accepted-fit, accepted-nested, accepted-forward}
+use Rattle.base_numbers.specs.Limit as Limit
 use Rattle.file_index.specs.Index.{Readable, indexOf, graphOf}
 use Rattle.file_index.specs.Ties.{Ties, GraphTies}
 use Rattle.file_index.specs.declared.Index as X
@@ -30,7 +31,7 @@ use Rattle.file_check.proofs.Laid.{laid}
 pub record Arrays (m : Model) (bodies first from goes own times : List ℕ) (n : ℕ) : Type 0 where
   pub graph : Graph first from goes n
   pub body-is : (c : ℕ) → getD bodies c 0 ≡ body m c
-  pub few-classes : length (m .classes) ≤ 64
+  pub few-classes : length (m .classes) ≤ Limit.CLASSES
   pub body-in : (c : ℕ) → c < length (m .classes) → body m c < n
   pub weighs : (b : ℕ) → b < n → weightOf (actsIn first from goes own times) n b ≡ weight m b
 

@@ -14,6 +14,7 @@ use Rattle.semantics.specs.Decode.{gather}
 use Rattle.semantics.specs.Bound.{weight, classWeight, bound}
 use Rattle.promises.specs.Laws.{AllOf, no-way}
 use Rattle.promises.specs.Fit.{EntityFit}
+use Rattle.base_numbers.specs.Limit as Limit
 use Rattle.file_reader.specs.Reads.{recordAt}
 use Rattle.file_reader.specs.Records.{bodyAt}
 use Rattle.file_reader.specs.Walk.{onward, onward-ends, Step}
@@ -34,12 +35,12 @@ pub record Going (s bodies first from goes own times : List ℕ) (n : ℕ) (memo
   pub made-for : Arrays (modelOf s) bodies first from goes own times n
   pub known : Known (told (actsIn first from goes own times) n) n memo
   pub named : AllOf (EntityFit (modelOf s)) (gather (onward s at) .model .entities)
-  pub small : w ≤ 4_294_967_296
+  pub small : w ≤ Limit.OVER
   pub found : cap (w + due (modelOf s) (onward s at)) ≡ cap (bound (modelOf s))
 
 pub going-begun : (s : List ℕ) → Endable s → {bodies first from goes own times : List ℕ} {n : ℕ} →
     Arrays (modelOf s) bodies first from goes own times n →
-    Going s bodies first from goes own times n (replicate 256 0) 0 0
+    Going s bodies first from goes own times n (replicate Limit.BLOCKS 0) 0 0
 going-begun s e {bodies} {first} {from} {goes} {own} {times} {n} a =
     record {
       on = fine-first s (readable s e);
@@ -101,10 +102,10 @@ module _ {s bodies first from goes own times : List ℕ} {n : ℕ} {memo : List 
 
     -- What the code finds of the record that stands here, and the record's part of the bound.
     module _ {v : ℕ} (f : v ≡ (if eqb k 7 then told acting n (getD bodies (u16 front 0) 0) else 0)) where
-      pub going-small : v ≤ 4_294_967_297
+      pub going-small : v ≤ Limit.OVER + 1
       going-small = go (eqb k 7) f
         where
-          go : (b : Bool) → v ≡ (if b then told acting n (getD bodies (u16 front 0) 0) else 0) → v ≤ 4_294_967_297
+          go : (b : Bool) → v ≡ (if b then told acting n (getD bodies (u16 front 0) 0) else 0) → v ≤ Limit.OVER + 1
           go true g = omega arith
           go false g = omega arith
 

@@ -9,6 +9,7 @@ use Rattle.semantics.specs.Model.{Model}
 use Rattle.semantics.specs.Bytes.{u16}
 use Rattle.semantics.specs.Decode.{accepted, decode}
 use Rattle.semantics.specs.Bound.{loops}
+use Rattle.base_numbers.specs.Limit as Limit
 
 -- An accepted file whose model has no WHILE, and whose STARTs name later bodies.
 pub record Endable (bs : List ℕ) : Type 0 where
@@ -19,5 +20,5 @@ pub record Endable (bs : List ℕ) : Type 0 where
 -- bs is the body of an ENTITY record, whose class has, by the classes' bodies, one of n blocks.
 pub record Bodied (bs bodies : List ℕ) (n : ℕ) : Type 0 where
   pub there : 2 ≤ length bs
-  pub class-in : u16 bs 0 < 64
+  pub class-in : u16 bs 0 < Limit.CLASSES
   pub block-in : getD bodies (u16 bs 0) 0 < n

@@ -8,6 +8,7 @@ ghost use Rattle.semantics.specs.Bytes.{u16, recordsFrom};
 ghost use Rattle.semantics.specs.Decode.{gather};
 ghost use Rattle.semantics.specs.Bound.{bound as boundOf};
 ghost use Rattle.semantics.specs.Desk.{boundFile};
+ghost use Rattle.base_numbers.specs.Limit as Limit;
 ghost use Rattle.file_depth.specs.Deep.{Graph, Known};
 ghost use Rattle.file_weight.specs.Weigh.{actsIn, cap, told, weighed};
 ghost use Rattle.file_bound.specs.Endable.{Endable, Bodied};
@@ -25,7 +26,7 @@ pub enum Bounded {
 
 // The body block of a class.
 fn body_of(body: [u16; limit::CLASSES], class: u32) -> usize
-    requires { ⌜ class < 64 ⌝ }
+    requires { ⌜ class < Limit.CLASSES ⌝ }
     ensures { λ r. ⌜ r ≡ getD body class 0 ⌝ }
 {
     let c = class as usize;
@@ -34,8 +35,8 @@ fn body_of(body: [u16; limit::CLASSES], class: u32) -> usize
 
 // w and v, up to the least number that is OVER.
 fn added(w: u64, v: u64) -> u64
-    requires { ⌜ w ≤ 4294967296 ⌝ }
-    requires { ⌜ v ≤ 4294967297 ⌝ }
+    requires { ⌜ w ≤ Limit.OVER ⌝ }
+    requires { ⌜ v ≤ Limit.OVER + 1 ⌝ }
     ensures { λ r. ⌜ r ≡ cap (w + v) ⌝ }
 {
     let x = w + v;

@@ -3,6 +3,7 @@ use Prim.Native.Nat.{ℕ}
 use mathlib.Core.Path.{_≡_, refl}
 use mathlib.Core.List.{List}
 use native.Mathlib.Omega.{arith}
+use Rattle.semantics.specs.Numbers as No
 use Rattle.semantics.specs.Model.{Model}
 use Rattle.semantics.specs.Decode.{Checked, refused, accepted, decode}
 use Rattle.file_check.specs.Check.{refusalOf}
@@ -20,6 +21,6 @@ module _ (bs : List ℕ) (r : Refusal) (e : r ≡ refusalOf (decode bs)) where
   pub accepts : r .number ≡ 0 → (a : Model) × (decode bs ≡ accepted a)
   accepts z = go (decode bs) (decode-stated bs) e
     where
-      go : (p : Checked Model) → Stated 65_535 p → r ≡ refusalOf p → (a : Model) × (p ≡ accepted a)
+      go : (p : Checked Model) → Stated No.longestFile p → r ≡ refusalOf p → (a : Model) × (p ≡ accepted a)
       go (refused n p) q e = let i : r .number ≡ n = rw e in absurd (omega (arith, q .0 .0))
       go (accepted a) q e = (a, refl)

@@ -18,6 +18,7 @@ use Rattle.promises.specs.Fit.{Linked}
 use Rattle.promises.specs.Passes.{not-accepted, first-on, second-on}
 use Rattle.promises.specs.Counted.{counted}
 use Rattle.promises.specs.Accepted.{links}
+use Rattle.base_numbers.specs.Limit as Limit
 use Rattle.file_index.specs.Index.{Readable, indexOf, graphOf}
 use Rattle.file_index.specs.Ties.{goesOf, Ties, GraphTies}
 use Rattle.file_index.specs.declared.Graph as G
@@ -68,7 +69,7 @@ module _ (bs : List ℕ) (n : Named bs) where
   linked : Linked m
   linked = links rs (n .two)
 
-  blocks-few : length (m .blocks) ≤ 256
+  blocks-few : length (m .blocks) ≤ Limit.BLOCKS
   blocks-few = counted rs (n .two) 6 .1
 
   -- THE DEPTHS that the code finds are the model's.
@@ -131,7 +132,7 @@ module _ (s : List ℕ) where
     pub goes-on : thirdPass (gather whole-file .model) (onward s at) ≡ thirdPass (gather whole-file .model) whole-file
 
   pub begun : Named s → (i : I.Index) → i ≡ indexOf whole-file → (g : G.Graph) → g ≡ graphOf false (i .body) whole-file
-      → Turn (i .first) (g .from) (g .goes) (i .blocks) (replicate 256 0) 0
+      → Turn (i .first) (g .from) (g .goes) (i .blocks) (replicate Limit.BLOCKS 0) 0
   begun n i e g f =
       let q : g ≡ graphOf false (indexOf whole-file .body) whole-file = f ∙ rw e in
       rw (q, e) (record {
@@ -175,7 +176,7 @@ module _ (s : List ℕ) where
       unfolding thirdPass
       third-step b g = sym (w .goes-on) ∙ rw (step .here, thirdPass, sym test-is, g) refl
 
-      pub third-refused : t ≡ true → thirdPass (gather whole-file .model) whole-file ≡ refused 10 at
+      pub third-refused : t ≡ true → thirdPass (gather whole-file .model) whole-file ≡ refused No.DEEP at
       third-refused g = third-step true g
 
       pub turned : t ≡ false → {after : List ℕ} → Known (depthOf (namesIn first from goes) blocks) blocks after

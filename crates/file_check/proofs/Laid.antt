@@ -8,6 +8,7 @@ use lib.ListN.{length, getD, replicate, length-append, length-replicate}
 use Rattle.semantics.specs.Words.{collect}
 use Rattle.semantics.specs.Model.{Model}
 use Rattle.semantics.specs.Bytes.{Raw, recordsFrom}
+use Rattle.base_numbers.specs.Limit as Limit
 use Rattle.file_index.specs.Index.{actsOf, indexOf, goesBy, graphOf}
 use Rattle.file_index.specs.Ties.{Ties, GraphTies}
 use Rattle.file_index.specs.declared.Graph.{Graph}
@@ -16,7 +17,7 @@ use Rattle.file_index.proofs.Standing.{Accepted}
 use Rattle.file_index.proofs.Ties.{index-ties, graph-ties}
 use Rattle.file_depth.specs.Deep.{Laid}
 
-module _ (bs : List ℕ) (m : Model) (e : Accepted bs m) (start : Bool) (few-blocks : length (m .blocks) ≤ 256) where
+module _ (bs : List ℕ) (m : Model) (e : Accepted bs m) (start : Bool) (few-blocks : length (m .blocks) ≤ Limit.BLOCKS) where
   abbrev rs : List Raw
   rs = recordsFrom 0 bs
 
@@ -32,12 +33,17 @@ module _ (bs : List ℕ) (m : Model) (e : Accepted bs m) (start : Bool) (few-blo
   wires : GraphTies m start first graph
   wires = graph-ties bs m e start
 
-  goes-long : length (graph .goes) ≡ 4_096
+  goes-long : length (graph .goes) ≡ Limit.BRANCHES
   unfolding graphOf
   goes-long =
       let xs : List ℕ = collect (goesBy start (indexOf rs .body)) (actsOf rs) in
       let f = few-goes bs (e .readable) start (indexOf rs .body) in
-      omega (arith, length-append xs (replicate (4_096 - length xs) 0), length-replicate {A = ℕ} (4_096 - length xs) 0)
+      omega (
+        arith,
+        length-append xs (replicate (Limit.BRANCHES - length xs) 0),
+        length-replicate {A = ℕ}
+            (Limit.BRANCHES - length xs) 0,
+      )
 
   -- The first actions of the blocks rise up to the number of actions.
   first-rises : (j b : ℕ) → b + j ≤ length (m .blocks) → getD first b 0 ≤ getD first (b + j) 0

@@ -19,7 +19,7 @@ use Rattle.file_index.proofs.Records.{sized-by, passed-on}
 
 -- THE NUMBER of an outcome tells whether it is one.
 abbrev pub Number : ℕ → Type 0
-Number n = (0 < n) × (n ≤ 10)
+Number n = (0 < n) × (n ≤ No.DEEP)
 
 pub data Proper : Outcome Passed → Type 0 where
   fine : Proper (ok passed)

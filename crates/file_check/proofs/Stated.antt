@@ -92,17 +92,17 @@ wider : {A : Type 0} (j k : ℕ) → j ≤ k → (p : Checked A) → Stated j p 
 wider j k h (refused n p) i = (i .0, omega (arith, i .1))
 wider j k h (accepted a) i = tt
 
-either-stated : {A : Type 0} (n : ℕ) (b : Bool) → leb n 65_535 ≡ b → (p : Checked A) → Stated n p
-    → Stated 65_535 {A = A} (elim b [ false ↦ refused No.MANY 0 | true ↦ p ])
+either-stated : {A : Type 0} (n : ℕ) (b : Bool) → leb n No.longestFile ≡ b → (p : Checked A) → Stated n p
+    → Stated No.longestFile {A = A} (elim b [ false ↦ refused No.MANY 0 | true ↦ p ])
 either-stated n false e p h = ((omega arith, omega arith), omega arith)
-either-stated n true e p h = wider n 65_535 (leb-true n 65_535 e) p h
+either-stated n true e p h = wider n No.longestFile (leb-true n No.longestFile e) p h
 
-pub decode-stated : (bs : List ℕ) → Stated 65_535 (decode bs)
+pub decode-stated : (bs : List ℕ) → Stated No.longestFile (decode bs)
 unfolding decode
 decode-stated bs =
     let rs : List Raw = recordsFrom 0 bs in
     let w = records-within bs in
-    either-stated (length bs) (leb (length bs) 65_535) refl _
+    either-stated (length bs) (leb (length bs) No.longestFile) refl _
     (then-stated (length bs) (firstPass noneSeen rs) _ (first-stated (length bs) noneSeen rs w) λ n.
     then-stated (length bs) (secondPass n 0 rs) _ (second-stated (length bs) n 0 rs w) λ x.
     then-stated (length bs) (thirdPass (gather rs .model) rs) _ (third-stated (length bs) (gather rs .model) rs w) λ y. tt)

@@ -6,6 +6,7 @@ use native.Mathlib.Omega.{arith}
 use borrow.Author.Tests.{le-leb, lt-leb}
 use lib.ListN.{length}
 use Rattle.semantics.specs.Words.{Passed, passed}
+use Rattle.semantics.specs.Numbers as No
 use Rattle.semantics.specs.Bytes.{Raw, recordsFrom}
 use Rattle.semantics.specs.Model.{Model}
 use Rattle.semantics.specs.Decode.{Checked, refused, accepted, firstPass, noneSeen, secondPass, gather, thirdPass, ifAccepted}
@@ -16,12 +17,12 @@ use Rattle.file_check.specs.declared.First.{First}
 use Rattle.file_check.specs.declared.Refusal.{Refusal}
 use Rattle.file_check.proofs.Stated.{Stated, records-within, first-stated, second-stated}
 
-pub too-long : (bs : List ℕ) → 65_535 < length bs → record { number = 4; place = 0 } ≡ refusalOf (decode bs)
+pub too-long : (bs : List ℕ) → No.longestFile < length bs → record { number = No.MANY; place = 0 } ≡ refusalOf (decode bs)
 unfolding decode
-too-long bs h = rw (decode, lt-leb (length bs) 65_535 h)
+too-long bs h = rw (decode, lt-leb (length bs) No.longestFile h)
 
 -- A file that is not too long.
-module _ (bs : List ℕ) (h : length bs ≤ 65_535) where
+module _ (bs : List ℕ) (h : length bs ≤ No.longestFile) where
   abbrev rs : List Raw
   rs = recordsFrom 0 bs
 
@@ -31,7 +32,7 @@ module _ (bs : List ℕ) (h : length bs ≤ 65_535) where
   in-order : decode bs ≡ ifAccepted (firstPass noneSeen rs) λ n. ifAccepted (secondPass n 0 rs) λ x. ifAccepted
       (thirdPass m rs) λ y. accepted m
   unfolding decode
-  in-order = rw (decode, le-leb (length bs) 65_535 h)
+  in-order = rw (decode, le-leb (length bs) No.longestFile h)
 
   -- THE FIRST PASS, f.
   module _ (f : First) (e : f ≡ firstOf (firstPass noneSeen rs)) where

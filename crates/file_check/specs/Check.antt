@@ -2,6 +2,7 @@
 use Prim.Native.Nat.{ℕ, _≤_}
 use mathlib.Core.List.{List}
 use lib.ListN.{length}
+use Rattle.semantics.specs.Numbers as No
 use Rattle.semantics.specs.Bytes.{recordsFrom}
 use Rattle.semantics.specs.Decode.{Checked, refused, accepted, noneSeen}
 use Rattle.promises.specs.Passes.{TwoPasses}
@@ -19,5 +20,5 @@ firstOf (accepted seen) = record { number = 0; place = 0; seen = seen }
 
 -- The bytes of a file that passes 1 to 9.
 pub record Named (bs : List ℕ) : Type 0 where
-  pub short : length bs ≤ 65_535
+  pub short : length bs ≤ No.longestFile
   pub two : TwoPasses (recordsFrom 0 bs)

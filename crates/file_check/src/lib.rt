@@ -10,6 +10,7 @@ ghost use Rattle.semantics.specs.Decode.{gather, thirdPass, decode};
 ghost use Rattle.file_index.specs.Index.{Readable};
 ghost use Rattle.file_depth.specs.Deep.{Graph, Known, namesIn, depthOf, measured};
 ghost use Rattle.semantics.specs.Words.{if_then_else_};
+ghost use Rattle.base_numbers.specs.Byte as Byte;
 ghost use Rattle.file_check.specs.Check.{refusalOf, firstOf, Named};
 use base_numbers::group;
 use base_numbers::kind;
@@ -68,7 +69,7 @@ fn first_pass(s: &[u8]) -> First
 
 // How many BLOCKs stand before the next record.
 fn opened(own: u32, kind: u32) -> u32
-    requires { ⌜ own < 65536 ⌝ }
+    requires { ⌜ own < Byte.TWO ⌝ }
     ensures { λ r. ⌜ (r ≡ blocksAfter own kind) × (r ≤ own + 1) ⌝ }
 {
     if kind == kind::BLOCK { own + 1 } else { own }

@@ -10,6 +10,7 @@ use borrow.Author.Tests.{le-ltb}
 use lib.ListN.{length, take, drop, getD, length-drop, List·getD-eq-default}
 use lib.Seq.{take-all}
 use Rattle.semantics.specs.Words.{all, any}
+use Rattle.semantics.specs.Kinds as K
 use Rattle.semantics.specs.Bytes.{parts}
 use Rattle.semantics.specs.Record.{repeats}
 use Rattle.semantics.specs.Decode.{nodeKnown}
@@ -108,5 +109,5 @@ last-test (suc (suc (suc zero))) e₀ e₁ e₂ e₃ e₄ n x = absurd (e₃ ref
 last-test (suc (suc (suc (suc zero)))) e₀ e₁ e₂ e₃ e₄ n x = absurd (e₄ refl)
 last-test (suc (suc (suc (suc (suc t))))) e₀ e₁ e₂ e₃ e₄ n x = refl
 
-pub past-counts : (n : List ℕ) (g i : ℕ) → length n ≡ 17 → 17 ≤ g → ltb i (getD n g 0) ≡ false
+pub past-counts : (n : List ℕ) (g i : ℕ) → length n ≡ K.groups → K.groups ≤ g → ltb i (getD n g 0) ≡ false
 past-counts n g i e h = let z : getD n g 0 ≡ 0 = List·getD-eq-default n 0 (omega arith) in rw z (le-ltb i 0 (omega arith))

@@ -8,11 +8,14 @@ use borrow.Author.Tests.{eqb-true, leb-true, le-leb, lt-leb}
 use lib.Dec.{leb, ltb, eqb}
 use lib.ListN.{length, getD, take, drop}
 use Rattle.semantics.specs.Words.{if_then_else_, need, _>>_, all, within}
+use Rattle.semantics.specs.Numbers as No
+use Rattle.semantics.specs.Kinds as K
 use Rattle.semantics.specs.Bytes.{u16}
 use Rattle.semantics.specs.Record.{Row, Tail, sized, valid, twice, inSet, bodyJudged, table, rowIn, rowOf, branchesFrom}
 use Rattle.semantics.specs.Record.{branchOf}
 use Rattle.semantics.specs.Record.{branchesIn, Field, anyValue, u16In, u32In, Naming, nameless, names, namesLocal}
 use Rattle.semantics.specs.Decode.{placed, judged, fieldKnown, tailKnown, innerOf, named}
+use Rattle.base_numbers.specs.Group as Group
 use Rattle.file_check_parts.proofs.Laws.{rest-of}
 use Rattle.file_check_tails.specs.Tails.{tailOf, branchPasses}
 use Rattle.file_check_tails.proofs.Branches.{and-left, and-right}
@@ -91,7 +94,7 @@ named-is n own k bs =
 -- THE FIELD THAT NAMES. In no row does it name the group 0 or 17.
 pub proper : Naming → Bool
 proper nameless = true
-proper (names group at) = within 1 16 group
+proper (names group at) = within 1 K.ACTION group
 proper (namesLocal at) = true
 
 pub naming-proper : (k : ℕ) → proper (rowOf k .naming) ≡ true
@@ -105,13 +108,14 @@ module _ (n bs : List ℕ) where
   known-none (names group at) p e = absurd (omega (arith, leb-true 1 group (and-left (leb 1 group) _ p)))
   known-none (namesLocal at) p e = absurd (omega arith)
 
-  pub known-local : (x : Naming) → proper x ≡ true → namingOf x ≡ 17 → ltb (u16 bs (namingAt x)) 8 ≡ fieldKnown n x bs
+  pub known-local : (x : Naming) → proper x ≡ true → namingOf x ≡ Group.LOCAL
+      → ltb (u16 bs (namingAt x)) No.locals ≡ fieldKnown n x bs
   unfolding proper
   known-local nameless p e = absurd (omega arith)
-  known-local (names group at) p e = absurd (omega (arith, leb-true group 16 (and-right (leb 1 group) _ p)))
+  known-local (names group at) p e = absurd (omega (arith, leb-true group K.ACTION (and-right (leb 1 group) _ p)))
   known-local (namesLocal at) p e = refl
 
-  pub known-group : (x : Naming) → (namingOf x ≡ 0 → ⊥) → (namingOf x ≡ 17 → ⊥) → ltb (u16 bs (namingAt x)) (getD n
+  pub known-group : (x : Naming) → (namingOf x ≡ 0 → ⊥) → (namingOf x ≡ Group.LOCAL → ⊥) → ltb (u16 bs (namingAt x)) (getD n
       (namingOf x) 0) ≡ fieldKnown n x bs
   known-group nameless e f = absurd (e refl)
   known-group (names group at) e f = refl
@@ -122,16 +126,16 @@ alone : (x : Bool) → x ≡ x && true
 alone true = refl
 alone false = refl
 
-pub later-do : (own : ℕ) (bs : List ℕ) → leb own (u16 bs 2) ≡ all (leb own) (innerOf (rowOf 20 .says bs))
+pub later-do : (own : ℕ) (bs : List ℕ) → leb own (u16 bs 2) ≡ all (leb own) (innerOf (rowOf K.DO .says bs))
 unfolding rowOf
 later-do own bs = alone (leb own (u16 bs 2))
 
-pub later-while : (own : ℕ) (bs : List ℕ) → leb own (u16 bs 0) ≡ all (leb own) (innerOf (rowOf 27 .says bs))
+pub later-while : (own : ℕ) (bs : List ℕ) → leb own (u16 bs 0) ≡ all (leb own) (innerOf (rowOf K.WHILE .says bs))
 unfolding rowOf
 later-while own bs = alone (leb own (u16 bs 0))
 
 pub later-try : (own : ℕ) (n bs : List ℕ) → all (branchPasses 3 n own) (branchesFrom (u16 bs 0) (drop 2 bs)) ≡ all
-    (leb own) (innerOf (rowOf 26 .says bs))
+    (leb own) (innerOf (rowOf K.TRY .says bs))
 unfolding rowOf branchesIn branchPasses
 later-try own n bs = go (branchesFrom (u16 bs 0) (drop 2 bs))
   where
@@ -141,7 +145,7 @@ later-try own n bs = go (branchesFrom (u16 bs 0) (drop 2 bs))
 
 -- The blocks that a row's records name, if it is of none of these kinds.
 abbrev Quiet : List ℕ → Row → Type 0
-Quiet bs r = (r .kind ≡ 20 → ⊥) → (r .kind ≡ 26 → ⊥) → (r .kind ≡ 27 → ⊥) → innerOf (r .says bs) ≡ []
+Quiet bs r = (r .kind ≡ K.DO → ⊥) → (r .kind ≡ K.TRY → ⊥) → (r .kind ≡ K.WHILE → ⊥) → innerOf (r .says bs) ≡ []
 
 data AllRows (P : Row → Type 0) : List Row → Type 0 where
   end : AllRows P []
@@ -156,8 +160,8 @@ quiet-row bs =
     plain : {A B C : Type 0} {x : List ℕ} → A → B → C → x ≡ x
     plain a b c = refl
 
-quiet-in : (bs : List ℕ) (rs : List Row) → AllRows (Quiet bs) rs → (k : ℕ) → (k ≡ 20 → ⊥) → (k ≡ 26 → ⊥) →
-    (k ≡ 27 → ⊥) → innerOf (rowIn rs k .says bs) ≡ []
+quiet-in : (bs : List ℕ) (rs : List Row) → AllRows (Quiet bs) rs → (k : ℕ) → (k ≡ K.DO → ⊥) → (k ≡ K.TRY → ⊥) →
+    (k ≡ K.WHILE → ⊥) → innerOf (rowIn rs k .says bs) ≡ []
 quiet-in bs [] end k a b c = refl
 quiet-in bs (r ∷ rs) (row p ps) k a b c = go (eqb k (r .kind)) refl (quiet-in bs rs ps k a b c)
   where
@@ -167,7 +171,7 @@ quiet-in bs (r ∷ rs) (row p ps) k a b c = go (eqb k (r .kind)) refl (quiet-in 
         let d = eqb-true k (r .kind) e in p (λ f. a (d ∙ f)) (λ f. b (d ∙ f)) (λ f. c (d ∙ f))
     go false e ih = ih
 
-pub later-none : (own k : ℕ) (bs : List ℕ) → (k ≡ 20 → ⊥) → (k ≡ 26 → ⊥) → (k ≡ 27 → ⊥) → true ≡ all (leb own) (innerOf
+pub later-none : (own k : ℕ) (bs : List ℕ) → (k ≡ K.DO → ⊥) → (k ≡ K.TRY → ⊥) → (k ≡ K.WHILE → ⊥) → true ≡ all (leb own) (innerOf
     (rowOf k .says bs))
 unfolding rowOf
 later-none own k bs a b c = sym (ap (all (leb own)) (quiet-in bs table (quiet-row bs) k a b c))

@@ -8,23 +8,27 @@ use borrow.Author.Tests.{ne-eqb, leb-true, eqb-true}
 use lib.Dec.{leb, eqb}
 use lib.ListN.{length, getD}
 use Rattle.semantics.specs.Words.{all, if_then_else_}
+use Rattle.semantics.specs.Kinds as K
 use Rattle.semantics.specs.Record.{Row, Tail, nothing, expression, branches, listOf, item, share, table, noRow, rowIn, rowOf}
+use Rattle.base_numbers.specs.Limit as Limit
+use Rattle.base_numbers.specs.Group as Group
+use Rattle.base_numbers.specs.Column as Column
 use Rattle.file_check_tails.specs.Tails.{tailOf}
 use Rattle.file_check_tails.proofs.Branches.{and-left, and-right}
 use Rattle.file_check_record.specs.Rows.{columnOf, fieldSize, fieldAt, namingAt, namingOf, tailNumber}
 
 -- A KIND PAST THE TABLE has no row.
 low : Row → Bool
-low r = leb (r .kind) 30
+low r = leb (r .kind) K.CLOSE
 
-past : (rs : List Row) (k : ℕ) → all low rs ≡ true → 31 ≤ k → rowIn rs k ≡ noRow
+past : (rs : List Row) (k : ℕ) → all low rs ≡ true → Column.KINDS ≤ k → rowIn rs k ≡ noRow
 unfolding low
 past [] k e h = refl
 past (r ∷ rs) k e h =
-    let l : r .kind ≤ 30 = leb-true _ _ (and-left (leb (r .kind) 30) (all low rs) e) in
-    rw (ne-eqb k (r .kind) (λ (q : k ≡ r .kind). omega arith)) (past rs k (and-right (leb (r .kind) 30) (all low rs) e) h)
+    let l : r .kind ≤ K.CLOSE = leb-true _ _ (and-left (leb (r .kind) K.CLOSE) (all low rs) e) in
+    rw (ne-eqb k (r .kind) (λ (q : k ≡ r .kind). omega arith)) (past rs k (and-right (leb (r .kind) K.CLOSE) (all low rs) e) h)
 
-pub row-past : (k : ℕ) → 31 ≤ k → rowOf k ≡ noRow
+pub row-past : (k : ℕ) → Column.KINDS ≤ k → rowOf k ≡ noRow
 unfolding rowOf low
 row-past k h = past table k refl h
 
@@ -39,13 +43,13 @@ holds ok (r ∷ rs) e f k =
     choice (eqb k (r .kind)) ok r (rowIn rs k) (and-left (ok r) (all ok rs) e)
     (holds ok rs (and-right (ok r) (all ok rs) e) f k)
 
-pub group-small : (k : ℕ) → rowOf k .group ≤ 16
+pub group-small : (k : ℕ) → rowOf k .group ≤ K.ACTION
 unfolding rowOf
-group-small k = leb-true _ _ (holds (λ r. leb (r .group) 16) table refl refl k)
+group-small k = leb-true _ _ (holds (λ r. leb (r .group) K.ACTION) table refl refl k)
 
-pub most-small : (k : ℕ) → rowOf k .most ≤ 1_024
+pub most-small : (k : ℕ) → rowOf k .most ≤ Limit.ACTIONS
 unfolding rowOf
-most-small k = leb-true _ _ (holds (λ r. leb (r .most) 1_024) table refl refl k)
+most-small k = leb-true _ _ (holds (λ r. leb (r .most) Limit.ACTIONS) table refl refl k)
 
 pub field-in : (k : ℕ) → fieldAt (rowOf k .field) + fieldSize (rowOf k .field) ≤ rowOf k .head
 unfolding rowOf
@@ -63,9 +67,9 @@ naming-in k f =
     go true e h = absurd (f (eqb-true _ _ e))
     go false e h = leb-true _ _ h
 
-pub naming-small : (k : ℕ) → namingOf (rowOf k .naming) ≤ 17
+pub naming-small : (k : ℕ) → namingOf (rowOf k .naming) ≤ Group.LOCAL
 unfolding rowOf
-naming-small k = leb-true _ _ (holds (λ r. leb (namingOf (r .naming)) 17) table refl refl k)
+naming-small k = leb-true _ _ (holds (λ r. leb (namingOf (r .naming)) Group.LOCAL) table refl refl k)
 
 -- THE NUMBERS, each held to its row by one computed test.
 abbrev entries : List ℕ
@@ -115,18 +119,19 @@ at f (x ∷ xs) i e zero j d h = let z : j ≡ i = omega arith in rw z (and-left
 at f (x ∷ xs) i e (suc k) j d h = at f xs (suc i) (and-right (f i x) _ e) k j (omega arith) (omega arith)
 
 right : ℕ → ℕ → Bool
-right i x = eqb x (columnOf (i % 10) (rowOf (i / 10)))
+right i x = eqb x (columnOf (i % Column.MANY) (rowOf (i / Column.MANY)))
 
 all-right : every right 0 entries ≡ true
 unfolding every right columnOf rowOf
 all-right = refl
 
-pub entry-is : (k c : ℕ) → k < 31 → c < 10 → getD entries (k * 10 + c) 0 ≡ columnOf c (rowOf k)
+pub entry-is : (k c : ℕ) → k < Column.KINDS → c < Column.MANY → getD entries (k * Column.MANY + c) 0 ≡ columnOf c (rowOf k)
 unfolding right
 entry-is k c h i =
-    let m : (k * 10 + c) % 10 ≡ c = omega arith in
-    let d : (k * 10 + c) / 10 ≡ k = omega arith in
-    eqb-true _ _ (rw (m, d) at (at right entries 0 all-right (k * 10 + c) (k * 10 + c) (omega arith) (omega arith)))
+    let m : (k * Column.MANY + c) % Column.MANY ≡ c = omega arith in
+    let d : (k * Column.MANY + c) / Column.MANY ≡ k = omega arith in
+    eqb-true _ _ (rw (m, d) at
+    (at right entries 0 all-right (k * Column.MANY + c) (k * Column.MANY + c) (omega arith) (omega arith)))
 
 pub tail-back : (t : Tail) → tailOf (tailNumber t) ≡ t
 unfolding tailOf
@@ -136,7 +141,7 @@ tail-back branches = refl
 tail-back (listOf item) = refl
 tail-back (listOf share) = refl
 
-pub column-none : (c : ℕ) → c < 10 → columnOf c noRow ≡ 0
+pub column-none : (c : ℕ) → c < Column.MANY → columnOf c noRow ≡ 0
 unfolding columnOf
 column-none zero h = refl
 column-none (suc zero) h = refl

@@ -9,6 +9,8 @@ use Rattle.semantics.specs.Words.{if_then_else_, Outcome, ok, fails, Passed}
 use Rattle.semantics.specs.Bytes.{u16, u32}
 use Rattle.semantics.specs.Record.{Row, Tail, nothing, expression, branches, listOf, item, share, sized}
 use Rattle.semantics.specs.Record.{Field, anyValue, u16In, u32In, Naming, nameless, names, namesLocal}
+use Rattle.base_numbers.specs.Group as Group
+use Rattle.base_numbers.specs.Tail as Tail
 
 -- Document 01's number of an outcome, 0 where all is well.
 abbrev pub numberOf : Outcome Passed → ℕ
@@ -43,7 +45,7 @@ numberAt size bs at = if eqb size 4 then u32 bs at else if eqb size 2 then u16 b
 abbrev pub namingOf : Naming → ℕ
 namingOf nameless = 0
 namingOf (names group at) = group
-namingOf (namesLocal at) = 17
+namingOf (namesLocal at) = Group.LOCAL
 
 abbrev pub namingAt : Naming → ℕ
 namingAt nameless = 0
@@ -51,11 +53,11 @@ namingAt (names group at) = at
 namingAt (namesLocal at) = at
 
 abbrev pub tailNumber : Tail → ℕ
-tailNumber nothing = 0
-tailNumber expression = 1
-tailNumber branches = 2
-tailNumber (listOf item) = 3
-tailNumber (listOf share) = 4
+tailNumber nothing = Tail.NOTHING
+tailNumber expression = Tail.EXPRESSION
+tailNumber branches = Tail.BRANCHES
+tailNumber (listOf item) = Tail.CLAIM
+tailNumber (listOf share) = Tail.SHARES
 
 unfoldable pub columnOf : ℕ → Row → ℕ
 columnOf c r =

@@ -11,8 +11,10 @@ ghost use Prim.Native.Nat.{_+_, _≤_, _<_};
 ghost use lib.Dec.{leb};
 ghost use lib.ListN.{length};
 ghost use Rattle.semantics.specs.Words.{all};
+ghost use Rattle.semantics.specs.Kinds as K;
 ghost use Rattle.semantics.specs.Record.{inSet, bodyJudged, rowOf};
 ghost use Rattle.semantics.specs.Decode.{placed, judged, fieldKnown, innerOf, named};
+ghost use Rattle.base_numbers.specs.Column as Column;
 ghost use Rattle.file_check_record.specs.Rows.{numberOf, columnOf, numberAt, Judged};
 
 // A row for each kind from 0 to 30, in the columns of base_numbers::column: GROUP (0: no kind), MOST, HEAD, FIELD_SIZE (0: none),
@@ -52,7 +54,7 @@ const TABLE: [u32; column::KINDS * column::MANY] = [
 ];
 
 fn entry(kind: u32, column: usize) -> u32
-    requires { ⌜ column < 10 ⌝ }
+    requires { ⌜ column < Column.MANY ⌝ }
     ensures { λ r. ⌜ r ≡ columnOf column (rowOf kind) ⌝ }
 {
     let k = kind as usize;
@@ -64,7 +66,7 @@ fn entry(kind: u32, column: usize) -> u32
 
 // The group that a record is counted in.
 pub fn group_of(kind: u32) -> usize
-    ensures { λ r. ⌜ (r ≡ rowOf kind .group) × (r ≤ 16) ⌝ }
+    ensures { λ r. ⌜ (r ≡ rowOf kind .group) × (r ≤ K.ACTION) ⌝ }
 {
     entry(kind, column::GROUP) as usize
 }

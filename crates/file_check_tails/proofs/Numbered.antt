@@ -8,6 +8,7 @@ use borrow.Author.Tests.{leb-true, eqb-true}
 use lib.Dec.{leb, eqb}
 use lib.ListN.{length, drop}
 use Rattle.semantics.specs.Words.{all, within}
+use Rattle.semantics.specs.Numbers as No
 use Rattle.semantics.specs.Bytes.{u16}
 use Rattle.semantics.specs.Record.{Part, nothing, expression, branches, sized, twice, partSize, listSized}
 use Rattle.semantics.specs.Record.{branchesFrom, listTwice, item}
@@ -33,10 +34,10 @@ last-branch-test (suc (suc (suc t))) e f g n own b = refl
 
 -- What a tail of its size has room for.
 module _ (bs : List ℕ) where
-  pub expression-few : sized expression bs ≡ true → length bs / 6 ≤ 16
+  pub expression-few : sized expression bs ≡ true → length bs / 6 ≤ No.mostNodes
   expression-few e =
       let a = and-right (eqb (length bs % 6) 0) _ e in
-      leb-true _ _ (and-right (leb 1 (length bs / 6)) _ (and-left (within 1 16 (length bs / 6)) _ a))
+      leb-true _ _ (and-right (leb 1 (length bs / 6)) _ (and-left (within 1 No.mostNodes (length bs / 6)) _ a))
 
   pub list-room : (p : Part) → listSized p bs ≡ true → (2 ≤ length bs) × (2 + partSize p * u16 bs 0 ≤ length bs)
   list-room p e =

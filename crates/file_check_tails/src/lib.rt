@@ -11,10 +11,12 @@ ghost use mathlib.Core.Bool.{true};
 ghost use Prim.Native.Nat.{_+_, _*_, _≤_, _<_};
 ghost use lib.ListN.{length, drop};
 ghost use Rattle.semantics.specs.Words.{all};
+ghost use Rattle.semantics.specs.Numbers as No;
 ghost use Rattle.semantics.specs.Bytes.{u16, parts};
 ghost use Rattle.semantics.specs.Record.{partSize, partsOf, listSized, listValid, listTwice, pile, expression, branches};
 ghost use Rattle.semantics.specs.Record.{branchSize, branchesFit, branchesFrom, sized, valid, twice};
 ghost use Rattle.semantics.specs.Decode.{partKnown, tailKnown};
+ghost use Rattle.base_numbers.specs.Byte as Byte;
 ghost use Rattle.file_check_parts.specs.Tests.{partOf};
 ghost use Rattle.file_check_tails.specs.Tails.{tailOf, branchPasses, arity, heightOf, grownBy};
 
@@ -35,7 +37,7 @@ pub fn operands(op: u32) -> u32
 }
 
 fn grown(a: u32, h: u32) -> u32
-    requires { ⌜ (a ≤ 2) × (h ≤ 100) ⌝ }
+    requires { ⌜ (a ≤ 2) × (h ≤ No.longestFile) ⌝ }
     ensures { λ r. ⌜ (r ≡ grownBy a h) × (r ≤ h + 1) ⌝ }
 {
     if a + 1 <= h { h + 1 - a } else { 0 }
@@ -43,7 +45,7 @@ fn grown(a: u32, h: u32) -> u32
 
 // One more than the height of the pile that the nodes make, read from the last to the first; 0 where an operand is missing.
 fn height(n: usize, bs: &[u8]) -> u32
-    requires { ⌜ (n ≤ 16) × (6 * n ≤ length (now bs)) ⌝ }
+    requires { ⌜ (n ≤ No.mostNodes) × (6 * n ≤ length (now bs)) ⌝ }
     ensures { λ r. ⌜ r ≡ heightOf (pile (parts 6 n (now (bs .entry)))) ⌝ }
 {
     let mut h = 1;
@@ -123,7 +125,7 @@ fn list_known(share: bool, n: [u32; group::MANY], bs: &[u8]) -> bool
 
 fn branch_size(bs: &[u8]) -> usize
     requires { ⌜ 4 ≤ length (now bs) ⌝ }
-    ensures { λ r. ⌜ (r ≡ branchSize (now (bs .entry))) × ((4 ≤ r) × (r ≤ 600000)) ⌝ }
+    ensures { λ r. ⌜ (r ≡ branchSize (now (bs .entry))) × ((4 ≤ r) × (r < 4 + 8 * Byte.TWO)) ⌝ }
 {
     branch::HEAD + item::BYTES * (file_fields::u16_at(bs, 2) as usize)
 }

@@ -12,6 +12,7 @@ use lib.ListN.{length, take, getD, set, length-set, replicate, length-replicate,
 use lib.Seq.{slice, slice-cons, slice-empty, length-slice, getD-take, getD-drop, getD-set-same, getD-set-other}
 use Rattle.semantics.specs.Words.{if_then_else_, largest}
 use Rattle.promises.specs.Laws.{AllOf, all-map}
+use Rattle.base_numbers.specs.Limit as Limit
 use Rattle.file_depth.specs.Deep.{depthIn, depthOf, startOf, Laid, Later, Graph, Known}
 use Rattle.file_depth.specs.Deep.{measuredAll, measuredIn, measured}
 use Rattle.file_depth.proofs.Fuel.{at-distance}
@@ -107,7 +108,7 @@ module _ (first from goes : List ℕ) (n : ℕ) (s : Laid first from goes n) whe
       from-rises (getD first (b + 1) 0 - getD first b 0) (getD first b 0) (getD first (b + 1) 0)
       (omega (arith, s .rises b l)) (s .ends b l)
 
-  pub starts-stop : (b : ℕ) → b < n → startOf first from (b + 1) ≤ 4096
+  pub starts-stop : (b : ℕ) → b < n → startOf first from (b + 1) ≤ Limit.BRANCHES
   starts-stop b l = s .stops (getD first (b + 1) 0) (s .ends b l)
 
 module _ (first from goes : List ℕ) (n : ℕ) (g : Graph first from goes n) (b : ℕ) (l : b < n) where
@@ -119,7 +120,7 @@ module _ (first from goes : List ℕ) (n : ℕ) (g : Graph first from goes n) (b
       (omega (arith, starts-stop first from goes n (g .laid) b l, g .laid .room)) (startOf first from b) k p q (g .later b l)
 
 -- THE MEMO.
-module _ (value : ℕ → ℕ) (n : ℕ) (memo : List ℕ) (b v : ℕ) (l : b < 256) (w : Known value n memo) (e : v ≡ value b) where
+module _ (value : ℕ → ℕ) (n : ℕ) (memo : List ℕ) (b v : ℕ) (l : b < Limit.BLOCKS) (w : Known value n memo) (e : v ≡ value b) where
   by : (i : ℕ) → i < n → (getD (set memo b v) i 0 ≡ 0 → ⊥) → (t : Bool) → eqb i b ≡ t → getD (set memo b v) i 0 ≡ value i
   by i h z true q =
       let s : i ≡ b = eqb-true i b q in rw s (getD-set-same memo b v 0 (omega (arith, w .places)) ∙ e)
@@ -131,6 +132,10 @@ module _ (value : ℕ → ℕ) (n : ℕ) (memo : List ℕ) (b v : ℕ) (l : b < 
   known-more = record { places = length-set memo b v ∙ w .places; right = λ i h z. by i h z (eqb i b) refl }
 
 -- Nothing is known.
-pub known-none : (value : ℕ → ℕ) (n : ℕ) → n ≤ 256 → Known value n (replicate 256 0)
+pub known-none : (value : ℕ → ℕ) (n : ℕ) → n ≤ Limit.BLOCKS → Known value n (replicate Limit.BLOCKS 0)
 known-none value n f =
-    record { places = length-replicate {A = ℕ} 256 0; right = λ i h z. absurd (z (getD-replicate 256 i 0 0 (omega arith))) }
+    record {
+      places = length-replicate {A = ℕ} Limit.BLOCKS 0;
+      right = λ i h z. absurd
+          (z (getD-replicate Limit.BLOCKS i 0 0 (omega arith)));
+    }

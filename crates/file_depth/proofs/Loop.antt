@@ -9,6 +9,7 @@ use native.Mathlib.Numerals.{add-one}
 use lib.ListN.{length, getD, set}
 use lib.Seq.{slice, slice-cons, slice-empty}
 use Rattle.semantics.specs.Words.{largest}
+use Rattle.base_numbers.specs.Limit as Limit
 use Rattle.file_depth.specs.Deep.{depthOf, startOf, namesIn, Graph, Known, measuredAll, measured}
 use Rattle.file_depth.proofs.Laws.{starts-rise, starts-stop, named-later, depth-step, depth-small, measured-step}
 
@@ -79,7 +80,7 @@ module _ {first from goes : List ℕ} {n b : ℕ} (g : Graph first from goes n) 
   names-rise = starts-rise first from goes n (g .laid) b l
 
   module _ {end : ℕ} {old memo : List ℕ} {d k : ℕ} (w : DepthTurn first from goes n b end old memo d k) where
-    pub in-range : end ≤ 4096
+    pub in-range : end ≤ Limit.BRANCHES
     in-range = omega (arith, w .last, starts-stop first from goes n (g .laid) b l)
 
     pub next-later : k < end → (b < getD goes k 0) × (getD goes k 0 < n)
@@ -89,7 +90,7 @@ module _ {first from goes : List ℕ} {n b : ℕ} (g : Graph first from goes n) 
       pub depth-ended : d + 1 ≡ depths first from goes n b
       depth-ended = omega (arith, ended w h, depth-step (namesIn first from goes) n (g .later) b l)
 
-      pub small : d + 1 ≤ 256
+      pub small : d + 1 ≤ Limit.BLOCKS
       small = omega (arith, depth-ended, depth-small (namesIn first from goes) n b, g .laid .few)
 
       pub depth-noted : getD old b 0 ≡ 0 → set memo b (d + 1) ≡ measures first from goes n b old

@@ -8,6 +8,7 @@ use lib.ListN.{length, getD, set}
 use lib.Seq.{slice}
 use Rattle.semantics.specs.Words.{if_then_else_, largest}
 use Rattle.promises.specs.Laws.{AllOf}
+use Rattle.base_numbers.specs.Limit as Limit
 
 -- How many blocks nest at b, itself included, where the distance from b to the last block is at most d.
 unfoldable pub depthIn : (ℕ → List ℕ) → ℕ → ℕ → ℕ
@@ -28,13 +29,13 @@ namesIn first from goes b = slice (startOf first from b) (startOf first from (b 
 
 -- The arrays rise, and stay in range, as far as there are blocks and actions.
 pub record Laid (first from goes : List ℕ) (n : ℕ) : Type 0 where
-  pub few : n ≤ 256
-  pub many : getD first n 0 ≤ 1024
-  pub room : length goes ≡ 4096
+  pub few : n ≤ Limit.BLOCKS
+  pub many : getD first n 0 ≤ Limit.ACTIONS
+  pub room : length goes ≡ Limit.BRANCHES
   pub rises : (b : ℕ) → b < n → getD first b 0 ≤ getD first (b + 1) 0
   pub ends : (b : ℕ) → b < n → getD first (b + 1) 0 ≤ getD first n 0
   pub climbs : (a : ℕ) → a < getD first n 0 → getD from a 0 ≤ getD from (a + 1) 0
-  pub stops : (a : ℕ) → a ≤ getD first n 0 → getD from a 0 ≤ 4096
+  pub stops : (a : ℕ) → a ≤ getD first n 0 → getD from a 0 ≤ Limit.BRANCHES
 
 -- Each block that is named is a later one, which there is.
 abbrev pub Later : (ℕ → List ℕ) → ℕ → Type 0
@@ -46,7 +47,7 @@ pub record Graph (first from goes : List ℕ) (n : ℕ) : Type 0 where
 
 -- What is found already, and kept in the memo, is right; 0 is "not yet".
 pub record Known (value : ℕ → ℕ) (n : ℕ) (memo : List ℕ) : Type 0 where
-  pub places : length memo ≡ 256
+  pub places : length memo ≡ Limit.BLOCKS
   pub right : (i : ℕ) → i < n → (getD memo i 0 ≡ 0 → ⊥) → getD memo i 0 ≡ value i
 
 -- What a memo becomes when xs are measured one after another.

@@ -3,6 +3,7 @@ use base_numbers::limit;
 ghost use mathlib.Core.Path.{_≡_};
 ghost use Prim.Native.Nat.{_+_, _≤_, _<_, max};
 ghost use lib.ListN.{getD};
+ghost use Rattle.base_numbers.specs.Limit as Limit;
 ghost use Rattle.file_depth.specs.Deep.{depthOf, startOf, namesIn, Graph, Known, measured};
 
 fn greater(x: u16, y: u16) -> u16
@@ -17,8 +18,8 @@ fn start<'a>(
     from: &'a [u16; limit::ACTIONS + 1],
     b: usize,
 ) -> usize
-    requires { ⌜ b ≤ 256 ⌝ }
-    requires { ⌜ getD (now first) b 0 ≤ 1024 ⌝ }
+    requires { ⌜ b ≤ Limit.BLOCKS ⌝ }
+    requires { ⌜ getD (now first) b 0 ≤ Limit.ACTIONS ⌝ }
     ensures { λ r. ⌜ r ≡ startOf (now (first .entry)) (now (from .entry)) b ⌝ }
 {
     let a = base_wide::short_index(first[b]);

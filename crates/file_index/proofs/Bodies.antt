@@ -8,6 +8,7 @@ use borrow.Author.Tests.{leb-true, leb-false, eqb-true, ne-eqb}
 use lib.Dec.{eqb, leb}
 use lib.ListN.{length, getD, drop, length-map}
 use Rattle.semantics.specs.Words.{within}
+use Rattle.semantics.specs.Kinds as K
 use Rattle.semantics.specs.Bytes.{u16}
 use Rattle.semantics.specs.Record.{item, listSized, listValid, branchesFrom, branchesFit, Tail, branches, claim, sized, valid}
 use Rattle.semantics.specs.Record.{rowOf}
@@ -18,39 +19,39 @@ use Rattle.file_index.proofs.Records.{sized-by}
 use Rattle.file_index.proofs.Filled.{given-few}
 
 -- BODIES by kind.
-head-5 : rowOf 5 .head ≡ 2
+head-5 : rowOf K.CLASS .head ≡ 2
 unfolding rowOf
 head-5 = refl
 
-head-20 : rowOf 20 .head ≡ 4
+head-20 : rowOf K.DO .head ≡ 4
 unfolding rowOf
 head-20 = refl
 
-head-27 : rowOf 27 .head ≡ 2
+head-27 : rowOf K.WHILE .head ≡ 2
 unfolding rowOf
 head-27 = refl
 
-head-28 : rowOf 28 .head ≡ 6
+head-28 : rowOf K.START .head ≡ 6
 unfolding rowOf
 head-28 = refl
 
-head-25 : rowOf 25 .head ≡ 0
+head-25 : rowOf K.REQ .head ≡ 0
 unfolding rowOf
 head-25 = refl
 
-head-26 : rowOf 26 .head ≡ 0
+head-26 : rowOf K.TRY .head ≡ 0
 unfolding rowOf
 head-26 = refl
 
-tail-25 : rowOf 25 .tail ≡ claim
+tail-25 : rowOf K.REQ .tail ≡ claim
 unfolding rowOf
 tail-25 = refl
 
-tail-26 : rowOf 26 .tail ≡ branches
+tail-26 : rowOf K.TRY .tail ≡ branches
 unfolding rowOf
 tail-26 = refl
 
-tail-27 : rowOf 27 .tail ≡ claim
+tail-27 : rowOf K.WHILE .tail ≡ claim
 unfolding rowOf
 tail-27 = refl
 
@@ -58,16 +59,16 @@ module _ {k : ℕ} {bs : List ℕ} (g : Judged k bs) where
   pub head-at : {j h : ℕ} → rowOf j .head ≡ h → k ≡ j → h ≤ length bs
   head-at i e = omega (arith, sized-by (rowOf k) bs (g .body-judged) .head-there, i, ap (λ x. rowOf x .head) e)
 
-  pub class-head : k ≡ 5 → 2 ≤ length bs
+  pub class-head : k ≡ K.CLASS → 2 ≤ length bs
   class-head = head-at head-5
 
-  pub do-head : k ≡ 20 → 4 ≤ length bs
+  pub do-head : k ≡ K.DO → 4 ≤ length bs
   do-head = head-at head-20
 
-  pub while-head : k ≡ 27 → 2 ≤ length bs
+  pub while-head : k ≡ K.WHILE → 2 ≤ length bs
   while-head = head-at head-27
 
-  pub start-head : k ≡ 28 → 6 ≤ length bs
+  pub start-head : k ≡ K.START → 6 ≤ length bs
   start-head = head-at head-28
 
   tail-at : {j h : ℕ} {t : Tail} → rowOf j .head ≡ h → rowOf j .tail ≡ t → k ≡ j →
@@ -78,17 +79,17 @@ module _ {k : ℕ} {bs : List ℕ} (g : Judged k bs) where
       let y = ap (λ x. rowOf x .tail) e ∙ j in
       (rw (x, y) at (s .tail-sized), rw (x, y) at (s .tail-valid))
 
-  pub req-sized : k ≡ 25 → (listSized item bs ≡ true) × (listValid item bs ≡ true)
+  pub req-sized : k ≡ K.REQ → (listSized item bs ≡ true) × (listValid item bs ≡ true)
   req-sized = tail-at head-25 tail-25
 
-  pub try-sized : k ≡ 26 → (sized branches bs ≡ true) × (valid branches bs ≡ true)
+  pub try-sized : k ≡ K.TRY → (sized branches bs ≡ true) × (valid branches bs ≡ true)
   try-sized = tail-at head-26 tail-26
 
-  pub while-sized : k ≡ 27 → (listSized item (drop 2 bs) ≡ true) × (listValid item (drop 2 bs) ≡ true)
+  pub while-sized : k ≡ K.WHILE → (listSized item (drop 2 bs) ≡ true) × (listValid item (drop 2 bs) ≡ true)
   while-sized = tail-at head-27 tail-27
 
   -- the branches are counted, at most 4, and end with the body
-  pub try-fits : k ≡ 26 → (2 ≤ length bs) × ((u16 bs 0 ≤ 4) × (branchesFit (u16 bs 0) (drop 2 bs) ≡ true))
+  pub try-fits : k ≡ K.TRY → (2 ≤ length bs) × ((u16 bs 0 ≤ 4) × (branchesFit (u16 bs 0) (drop 2 bs) ≡ true))
   try-fits e =
       let s = try-sized e in
       let a = and-true (leb 2 (length bs)) _ (s .0) in
@@ -109,11 +110,11 @@ blocks-many bs = length-map (branchesFrom (u16 bs 0) (drop 2 bs)) _ ∙ branches
 pub goes-few : (start : Bool) (bodies : List ℕ) (k : ℕ) (bs : List ℕ) → Judged k bs → length (goesIn start bodies k bs) ≤ 4
 unfolding goesIn
 goes-few start bodies k bs g =
-    if-has (λ (l : List ℕ). length l ≤ 4) (eqb k 20) (λ e. omega arith)
-    (λ e. if-has (λ (l : List ℕ). length l ≤ 4) (eqb k 27) (λ f. omega arith)
-    (λ f. if-has (λ (l : List ℕ). length l ≤ 4) (eqb k 26)
-    (λ i. omega (arith, blocks-many bs, try-fits g (eqb-true k 26 i) .1 .0))
-    (λ i. if-has (λ (l : List ℕ). length l ≤ 4) (eqb k 28)
+    if-has (λ (l : List ℕ). length l ≤ 4) (eqb k K.DO) (λ e. omega arith)
+    (λ e. if-has (λ (l : List ℕ). length l ≤ 4) (eqb k K.WHILE) (λ f. omega arith)
+    (λ f. if-has (λ (l : List ℕ). length l ≤ 4) (eqb k K.TRY)
+    (λ i. omega (arith, blocks-many bs, try-fits g (eqb-true k K.TRY i) .1 .0))
+    (λ i. if-has (λ (l : List ℕ). length l ≤ 4) (eqb k K.START)
     (λ j. omega (arith, given-few start (getD bodies (u16 bs 0) 0))) (λ j. omega arith))))
 
 -- BRANCHES: at most 4.
@@ -130,56 +131,56 @@ try-many at bs =
 pub offered-few : (at k : ℕ) (bs : List ℕ) → Judged k bs → length (offeredIn at k bs) ≤ 4
 unfolding offeredIn
 offered-few at k bs g =
-    if-has (λ (l : List Offered). length l ≤ 4) (eqb k 25) (λ e. omega arith)
-    (λ e. if-has (λ (l : List Offered). length l ≤ 4) (eqb k 26)
-    (λ f. omega (arith, try-many at bs, try-fits g (eqb-true k 26 f) .1 .0))
-    (λ f. if-has (λ (l : List Offered). length l ≤ 4) (eqb k 27) (λ i. omega arith) (λ i. omega arith)))
+    if-has (λ (l : List Offered). length l ≤ 4) (eqb k K.REQ) (λ e. omega arith)
+    (λ e. if-has (λ (l : List Offered). length l ≤ 4) (eqb k K.TRY)
+    (λ f. omega (arith, try-many at bs, try-fits g (eqb-true k K.TRY f) .1 .0))
+    (λ f. if-has (λ (l : List Offered). length l ≤ 4) (eqb k K.WHILE) (λ i. omega arith) (λ i. omega arith)))
 
 -- NAMES, kind by kind.
 module _ (start : Bool) (bodies : List ℕ) (k : ℕ) (bs : List ℕ) where
-  pub goes-do : k ≡ 20 → goesIn start bodies k bs ≡ u16 bs 2 ∷ []
+  pub goes-do : k ≡ K.DO → goesIn start bodies k bs ≡ u16 bs 2 ∷ []
   unfolding goesIn
   goes-do e = rw e
 
-  pub goes-while : k ≡ 27 → goesIn start bodies k bs ≡ u16 bs 0 ∷ []
+  pub goes-while : k ≡ K.WHILE → goesIn start bodies k bs ≡ u16 bs 0 ∷ []
   unfolding goesIn
   goes-while e = rw e
 
-  pub goes-try : k ≡ 26 → goesIn start bodies k bs ≡ branchBlocks bs
+  pub goes-try : k ≡ K.TRY → goesIn start bodies k bs ≡ branchBlocks bs
   unfolding goesIn
   goes-try e = rw e
 
-  pub goes-start : k ≡ 28 → goesIn start bodies k bs ≡ given start (getD bodies (u16 bs 0) 0)
+  pub goes-start : k ≡ K.START → goesIn start bodies k bs ≡ given start (getD bodies (u16 bs 0) 0)
   unfolding goesIn
   goes-start e = rw e
 
-  pub goes-other : (k ≡ 20 → ⊥) → (k ≡ 27 → ⊥) → (k ≡ 26 → ⊥) → (k ≡ 28 → ⊥) → goesIn start bodies k bs ≡ []
+  pub goes-other : (k ≡ K.DO → ⊥) → (k ≡ K.WHILE → ⊥) → (k ≡ K.TRY → ⊥) → (k ≡ K.START → ⊥) → goesIn start bodies k bs ≡ []
   unfolding goesIn
-  goes-other e f g h = rw (ne-eqb k 20 e, ne-eqb k 27 f, ne-eqb k 26 g, ne-eqb k 28 h)
+  goes-other e f g h = rw (ne-eqb k K.DO e, ne-eqb k K.WHILE f, ne-eqb k K.TRY g, ne-eqb k K.START h)
 
   pub goes-none : acts k ≡ false → goesIn start bodies k bs ≡ []
   goes-none e =
-      let h = leb-false 16 k e in
+      let h = leb-false K.HOLD k e in
       goes-other (λ f. omega arith) (λ f. omega arith) (λ f. omega arith) (λ f. omega arith)
 
 -- BRANCHES, kind by kind.
 module _ (at k : ℕ) (bs : List ℕ) where
-  pub offered-req : k ≡ 25 → offeredIn at k bs ≡ offered at bs ∷ []
+  pub offered-req : k ≡ K.REQ → offeredIn at k bs ≡ offered at bs ∷ []
   unfolding offeredIn
   offered-req e = rw e
 
-  pub offered-try : k ≡ 26 → offeredIn at k bs ≡ offeredTry at bs
+  pub offered-try : k ≡ K.TRY → offeredIn at k bs ≡ offeredTry at bs
   unfolding offeredIn
   offered-try e = rw e
 
-  pub offered-while : k ≡ 27 → offeredIn at k bs ≡ offered (at + 2) (drop 2 bs) ∷ []
+  pub offered-while : k ≡ K.WHILE → offeredIn at k bs ≡ offered (at + 2) (drop 2 bs) ∷ []
   unfolding offeredIn
   offered-while e = rw e
 
-  pub offered-other : (k ≡ 25 → ⊥) → (k ≡ 26 → ⊥) → (k ≡ 27 → ⊥) → offeredIn at k bs ≡ []
+  pub offered-other : (k ≡ K.REQ → ⊥) → (k ≡ K.TRY → ⊥) → (k ≡ K.WHILE → ⊥) → offeredIn at k bs ≡ []
   unfolding offeredIn
-  offered-other e f g = rw (ne-eqb k 25 e, ne-eqb k 26 f, ne-eqb k 27 g)
+  offered-other e f g = rw (ne-eqb k K.REQ e, ne-eqb k K.TRY f, ne-eqb k K.WHILE g)
 
   pub offered-none : acts k ≡ false → offeredIn at k bs ≡ []
   offered-none e =
-      let h = leb-false 16 k e in offered-other (λ f. omega arith) (λ f. omega arith) (λ f. omega arith)
+      let h = leb-false K.HOLD k e in offered-other (λ f. omega arith) (λ f. omega arith) (λ f. omega arith)

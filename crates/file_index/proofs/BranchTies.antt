@@ -10,6 +10,7 @@ use Rattle.semantics.specs.Model.{Action, Model, block}
 use Rattle.semantics.specs.Bytes.{Raw, recordsFrom}
 use Rattle.semantics.specs.Claim.{Offer, offers}
 use Rattle.promises.specs.Laws.{all-at, some-in, over}
+use Rattle.base_numbers.specs.Limit as Limit
 use Rattle.file_index.specs.Index.{pad, Act, actsOf, indexOf}
 use Rattle.file_index.specs.Branches.{namedIn, Offered, offeredBy, branchesOf}
 use Rattle.file_index.specs.Ties.{BranchAt, BranchesAt}
@@ -40,8 +41,8 @@ module _ (bs : List ℕ) (m : Model) (e : Accepted bs m) where
 
   -- ONE BRANCH, the n-th of all.
   module _ (n : ℕ) (o : Offered) (q : getElem? offered n ≡ some o) where
-    row-at : (f : Offered → ℕ) → getD (pad 4_096 (map f offered)) n 0 ≡ f o
-    row-at f = pad-at 4_096 (map f offered) n ∙ some-at (map f offered) n (f o) 0 (some-map f offered n o q)
+    row-at : (f : Offered → ℕ) → getD (pad Limit.BRANCHES (map f offered)) n 0 ≡ f o
+    row-at f = pad-at Limit.BRANCHES (map f offered) n ∙ some-at (map f offered) n (f o) 0 (some-map f offered n o q)
 
     claim-at : getD (r .claim) n 0 ≡ o .place
     unfolding branchesOf
@@ -88,7 +89,7 @@ module _ (bs : List ℕ) (m : Model) (e : Accepted bs m) where
         let c = both-count (Claims bs) (offeredBy a) (offers x) alike in
         omega (arith, over-next length [] lists n (omega (arith, inside, acts-count bs m e)), ap length its-list)
 
-    few : over length (take (n + 1) lists) ≤ 4_096
+    few : over length (take (n + 1) lists) ≤ Limit.BRANCHES
     few =
         let c = ap length (collect-map offeredBy (actsOf rs)) in
         omega (arith, over-part length lists (n + 1), collect-length (λ l. l) lists, few-offered bs (e .readable))

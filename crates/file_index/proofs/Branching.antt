@@ -6,7 +6,9 @@ use native.Mathlib.Omega.{arith}
 use lib.ListN.{length, drop, set, length-drop}
 use lib.Seq.{length-take-le, sets}
 use Rattle.semantics.specs.Words.{collect}
+use Rattle.semantics.specs.Numbers as No
 use Rattle.semantics.specs.Bytes.{Raw, recordsFrom}
+use Rattle.base_numbers.specs.Limit as Limit
 use Rattle.file_index.specs.Index.{Act, Readable, pad, given, acts, actsOf, runs}
 use Rattle.file_index.specs.Branches.{namedIn, Offered, offeredIn, offeredBy, Rows, rows, Roomy, Noted, branchesOf}
 use Rattle.file_reader.specs.Reads.{recordAt}
@@ -29,49 +31,49 @@ abbrev allOffered : List Raw → List Offered
 allOffered rs = collect offeredBy (actsOf rs)
 
 abbrev emptyRows : Rows
-emptyRows = rows (zeros 4_096) (zeros 4_096) (zeros 4_096) (zeros 4_096)
+emptyRows = rows (zeros Limit.BRANCHES) (zeros Limit.BRANCHES) (zeros Limit.BRANCHES) (zeros Limit.BRANCHES)
 
 -- Each array has the front of its table; the tables of the rest are still to come.
 pub record Branching (s from : List ℕ) (out : Rows) (actions ends at : ℕ) : Type 0 where
-  pub short : length s ≤ 65_535
+  pub short : length s ≤ No.longestFile
   pub fine : Fine (onward s at)
-  pub froms : Fills (zeros 1_025) 0 (fromsOf 0 (recordsFrom 0 s)) from actions (fromsOf ends (onward s at))
+  pub froms : Fills (zeros (Limit.ACTIONS + 1)) 0 (fromsOf 0 (recordsFrom 0 s)) from actions (fromsOf ends (onward s at))
   pub branches : RowsFill emptyRows 0 (allOffered (recordsFrom 0 s)) out ends (allOffered (onward s at))
 
-pub branches-start : (s : List ℕ) → Readable s → Branching s (zeros 1_025) emptyRows 0 0 0
+pub branches-start : (s : List ℕ) → Readable s → Branching s (zeros (Limit.ACTIONS + 1)) emptyRows 0 0 0
 branches-start s r =
     let xs : List Act = actsOf (recordsFrom 0 s) in
     let few = few-acts s r in
-    let room : 0 + length (allOffered (recordsFrom 0 s)) ≤ length (zeros 4_096) =
-    omega (arith, few-offered s r, zeros-length 4_096) in
+    let room : 0 + length (allOffered (recordsFrom 0 s)) ≤ length (zeros Limit.BRANCHES) =
+    omega (arith, few-offered s r, zeros-length Limit.BRANCHES) in
     record {
       short = r .short;
       fine = fine-first s r;
       froms =
-          zeros-none 1_025 _ _ (omega (arith, runs-count (λ a. length (offeredBy a)) 0 xs)) refl;
+          zeros-none (Limit.ACTIONS + 1) _ _ (omega (arith, runs-count (λ a. length (offeredBy a)) 0 xs)) refl;
       branches =
           rows-none emptyRows 0 _ _ (record { claim = room; resources = room; bins = room; syncs = room })
           refl;
     }
 
 module _ {s from : List ℕ} {out : Rows} {actions ends at : ℕ} (x : Branching s from out actions ends at) where
-  pub from-long : 1_025 ≡ length from
-  from-long = sym (fills-length (x .froms) ∙ zeros-length 1_025)
+  pub from-long : Limit.ACTIONS + 1 ≡ length from
+  from-long = sym (fills-length (x .froms) ∙ zeros-length (Limit.ACTIONS + 1))
 
-  pub claim-long : 4_096 ≡ length (out .claim)
-  claim-long = sym (fills-length (x .branches .claim) ∙ zeros-length 4_096)
+  pub claim-long : Limit.BRANCHES ≡ length (out .claim)
+  claim-long = sym (fills-length (x .branches .claim) ∙ zeros-length Limit.BRANCHES)
 
-  pub resources-long : 4_096 ≡ length (out .resources)
-  resources-long = sym (fills-length (x .branches .resources) ∙ zeros-length 4_096)
+  pub resources-long : Limit.BRANCHES ≡ length (out .resources)
+  resources-long = sym (fills-length (x .branches .resources) ∙ zeros-length Limit.BRANCHES)
 
-  pub bins-long : 4_096 ≡ length (out .bins)
-  bins-long = sym (fills-length (x .branches .bins) ∙ zeros-length 4_096)
+  pub bins-long : Limit.BRANCHES ≡ length (out .bins)
+  bins-long = sym (fills-length (x .branches .bins) ∙ zeros-length Limit.BRANCHES)
 
-  pub syncs-long : 4_096 ≡ length (out .syncs)
-  syncs-long = sym (fills-length (x .branches .syncs) ∙ zeros-length 4_096)
+  pub syncs-long : Limit.BRANCHES ≡ length (out .syncs)
+  syncs-long = sym (fills-length (x .branches .syncs) ∙ zeros-length Limit.BRANCHES)
 
-  pub ends-few : ends ≤ 4_096
-  ends-few = omega (arith, x .branches .claim .count, x .branches .claim .fits, zeros-length 4_096)
+  pub ends-few : ends ≤ Limit.BRANCHES
+  ends-few = omega (arith, x .branches .claim .count, x .branches .claim .fits, zeros-length Limit.BRANCHES)
 
   -- The record y stands here, and the next one at n.
   module _ (h : at < length s) {y : Record} (e : y ≡ recordAt s at) {n : ℕ} (i : n ≡ recordAt s at .next) where
@@ -87,13 +89,13 @@ module _ {s from : List ℕ} {out : Rows} {actions ends at : ℕ} (x : Branching
     there : Step s at k n
     there = step-there s at h (x .fine) e i
 
-    pub body-in : at + 4 + length bs ≤ 65_535
+    pub body-in : at + 4 + length bs ≤ No.longestFile
     body-in =
         let w = there in
         let l = length-take-le (n - (at + 4)) (drop (at + 4) s) (omega (arith, length-drop (at + 4) s)) in
         omega (arith, x .short)
 
-    froms-on : Next (zeros 1_025) 0 (fromsOf 0 (recordsFrom 0 s)) from actions (given (acts k) ends)
+    froms-on : Next (zeros (Limit.ACTIONS + 1)) 0 (fromsOf 0 (recordsFrom 0 s)) from actions (given (acts k) ends)
         (fromsOf (ends + length (offeredIn (at + 4) k bs)) next)
     froms-on =
         record {
@@ -122,19 +124,19 @@ module _ {s from : List ℕ} {out : Rows} {actions ends at : ℕ} (x : Branching
 
   -- Nothing is left.
   module _ (h : length s ≤ at) where
-    froms-last : Next (zeros 1_025) 0 (fromsOf 0 (recordsFrom 0 s)) from actions (ends ∷ []) []
+    froms-last : Next (zeros (Limit.ACTIONS + 1)) 0 (fromsOf 0 (recordsFrom 0 s)) from actions (ends ∷ []) []
     unfolding runs actsOf
     froms-last = record { fills = rw (onward-ends s at h) at (x .froms) }
 
-    pub last-room : actions < 1_025
+    pub last-room : actions < Limit.ACTIONS + 1
     last-room = omega (arith, next-room froms-last, from-long)
 
     -- one of the rows
     row-filled : (f : Offered → ℕ) {row : List ℕ} →
-        Fills (zeros 4_096) 0 (map f (allOffered (recordsFrom 0 s))) row ends (map f (allOffered (onward s at))) →
-        row ≡ pad 4_096 (map f (allOffered (recordsFrom 0 s)))
+        Fills (zeros Limit.BRANCHES) 0 (map f (allOffered (recordsFrom 0 s))) row ends (map f (allOffered (onward s at))) →
+        row ≡ pad Limit.BRANCHES (map f (allOffered (recordsFrom 0 s)))
     unfolding actsOf
-    row-filled f y = zeros-filled 4_096 (ap (λ l. map f (allOffered l)) (onward-ends s at h)) y .1
+    row-filled f y = zeros-filled Limit.BRANCHES (ap (λ l. map f (allOffered l)) (onward-ends s at h)) y .1
 
     pub branches-end : record {
       from = set from actions ends;
@@ -147,7 +149,7 @@ module _ {s from : List ℕ} {out : Rows} {actions ends at : ℕ} (x : Branching
     unfolding branchesOf
     branches-end =
         let b = x .branches in
-        let f = zeros-filled 1_025 refl (next-filled froms-last) .1 in
+        let f = zeros-filled (Limit.ACTIONS + 1) refl (next-filled froms-last) .1 in
         let c = row-filled (λ o. o .place) (b .claim) in
         let r = row-filled (λ o. namedIn 0 (o .bytes)) (b .resources) in
         let n = row-filled (λ o. namedIn 1 (o .bytes)) (b .bins) in

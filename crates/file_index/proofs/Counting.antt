@@ -8,6 +8,7 @@ use mathlib.Core.Bool.{Bool, true, false}
 use lib.Dec.{eqb}
 use lib.ListN.{length}
 use Rattle.semantics.specs.Words.{if_then_else_}
+use Rattle.semantics.specs.Kinds as K
 use Rattle.semantics.specs.Model.{Model}
 use Rattle.semantics.specs.Bytes.{recordsFrom}
 use Rattle.semantics.specs.Record.{Row, table, rowOf}
@@ -41,10 +42,10 @@ variables g = length (g .model .vars)
 
 -- A record of kind k makes h of g.
 record Tallies (k : ℕ) (g h : Gathered) : Type 0 where
-  pub resources-are : resources h ≡ resources g + one (eqb k 1)
-  pub bins-are : bins h ≡ bins g + one (eqb k 2)
-  pub syncs-are : syncs h ≡ syncs g + one (eqb k 3)
-  pub variables-are : variables h ≡ variables g + one (eqb k 4)
+  pub resources-are : resources h ≡ resources g + one (eqb k K.RES)
+  pub bins-are : bins h ≡ bins g + one (eqb k K.BIN)
+  pub syncs-are : syncs h ≡ syncs g + one (eqb k K.SYNC)
+  pub variables-are : variables h ≡ variables g + one (eqb k K.VAR)
 
 abbrev RowTallies : List ℕ → Gathered → Row → Type 0
 RowTallies bs g r = Tallies (r .kind) g (adds g (r .says bs))
@@ -106,15 +107,15 @@ module _ {bs : List ℕ} {a b y v at : ℕ} (t : Counting bs a b y v at) where
         by true l = omega (arith, u .few, step-there bs at h (t .fine) e i)
         by false l = omega (arith, u .few, step-there bs at h (t .fine) e i)
 
-    pub count-turn : {a' b' y' v' : ℕ} → a' ≡ a + one (eqb k 1) → b' ≡ b + one (eqb k 2) → y' ≡ y + one (eqb k 3)
-        → v' ≡ v + one (eqb k 4) → Counting bs a' b' y' v' n
+    pub count-turn : {a' b' y' v' : ℕ} → a' ≡ a + one (eqb k K.RES) → b' ≡ b + one (eqb k K.BIN) → y' ≡ y + one (eqb k K.SYNC)
+        → v' ≡ v + one (eqb k K.VAR) → Counting bs a' b' y' v' n
     count-turn o p q r =
         record {
           fine = fine-there bs at h (t .fine) e i;
-          of-resources = tally-turn resources (eqb k 1) (added .resources-are) o (t .of-resources);
-          of-bins = tally-turn bins (eqb k 2) (added .bins-are) p (t .of-bins);
-          of-syncs = tally-turn syncs (eqb k 3) (added .syncs-are) q (t .of-syncs);
-          of-variables = tally-turn variables (eqb k 4) (added .variables-are) r (t .of-variables);
+          of-resources = tally-turn resources (eqb k K.RES) (added .resources-are) o (t .of-resources);
+          of-bins = tally-turn bins (eqb k K.BIN) (added .bins-are) p (t .of-bins);
+          of-syncs = tally-turn syncs (eqb k K.SYNC) (added .syncs-are) q (t .of-syncs);
+          of-variables = tally-turn variables (eqb k K.VAR) (added .variables-are) r (t .of-variables);
         }
 
   -- Nothing is left.

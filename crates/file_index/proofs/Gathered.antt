@@ -8,6 +8,7 @@ use lib.Dec.{eqb, leb, ltb, leb·suc-suc}
 use borrow.Author.Tests.{leb-false, ne-eqb}
 use lib.ListN.{length, getD, drop}
 use Rattle.semantics.specs.Words.{if_then_else_, more, collect, any}
+use Rattle.semantics.specs.Kinds as K
 use Rattle.semantics.specs.Model.{Action, Model, body}
 use Rattle.semantics.specs.Bytes.{Raw, raw, torn, u16}
 use Rattle.semantics.specs.Record.{branchesFrom, branchOf, branchesIn, Entry, RES, BIN, SYNC, VAR, CLASS, BLOCK, ENTITY}
@@ -54,7 +55,7 @@ classIn (ENTITY x) = []
 classIn (ACTION a) = []
 
 abbrev Shows : ℕ → List ℕ → Entry → Type 0
-Shows k bs e = (acts k ≡ isAct e) × ((eqb k 6 ≡ isBlock e) × (given (eqb k 5) (u16 bs 0) ≡ classIn e))
+Shows k bs e = (acts k ≡ isAct e) × ((eqb k K.BLOCK ≡ isBlock e) × (given (eqb k K.CLASS) (u16 bs 0) ≡ classIn e))
 
 abbrev RowShows : List ℕ → Row → Type 0
 RowShows bs r = Shows (r .kind) bs (r .says bs)
@@ -245,7 +246,7 @@ module _ (start : Bool) (m : Model) (bodies : List ℕ) (same : (c : ℕ) → ge
 
   loops-none : (own k : ℕ) (bs : List ℕ) → acts k ≡ false → loopsAt bodies own k bs ≡ false
   loops-none own k bs e =
-      let h = leb-false 16 k e in rw (ne-eqb k 27 (λ f. omega arith), ne-eqb k 28 (λ f. omega arith))
+      let h = leb-false K.HOLD k e in rw (ne-eqb k K.WHILE (λ f. omega arith), ne-eqb k K.START (λ f. omega arith))
 
   loops-show : (b k : ℕ) (bs : List ℕ) → Judged k bs → loopsAt bodies (suc b) k bs ≡ loopsE b (rowOf k .says bs)
   loops-show b k bs j = go (rowOf k .says bs) refl (shows k bs j .0)

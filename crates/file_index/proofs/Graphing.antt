@@ -8,6 +8,7 @@ use lib.ListN.{length, set, length-map}
 use lib.Seq.{sets}
 use Rattle.semantics.specs.Words.{if_then_else_, collect}
 use Rattle.semantics.specs.Bytes.{Raw, recordsFrom}
+use Rattle.base_numbers.specs.Limit as Limit
 use Rattle.file_index.specs.Index.{Act, Readable, given, acts, actsOf, ownIn, timesIn, goesIn, goesBy, runs, graphOf}
 use Rattle.file_reader.specs.Reads.{recordAt}
 use Rattle.file_reader.specs.Records.{bodyAt}
@@ -37,43 +38,44 @@ namesOf start bodies rs = collect (goesBy start bodies) (actsOf rs)
 pub record Graphing (s : List ℕ) (start : Bool) (bodies own times from goes : List ℕ) (actions ends at : ℕ)
     : Type 0 where
   pub fine : Fine (onward s at)
-  pub owns : Fills (zeros 1_024) 0 (ownsOf (recordsFrom 0 s)) own actions (ownsOf (onward s at))
-  pub timed : Fills (zeros 1_024) 0 (timesOf (recordsFrom 0 s)) times actions (timesOf (onward s at))
-  pub froms : Fills (zeros 1_025) 0 (fromsOf start bodies 0 (recordsFrom 0 s)) from actions
+  pub owns : Fills (zeros Limit.ACTIONS) 0 (ownsOf (recordsFrom 0 s)) own actions (ownsOf (onward s at))
+  pub timed : Fills (zeros Limit.ACTIONS) 0 (timesOf (recordsFrom 0 s)) times actions (timesOf (onward s at))
+  pub froms : Fills (zeros (Limit.ACTIONS + 1)) 0 (fromsOf start bodies 0 (recordsFrom 0 s)) from actions
       (fromsOf start bodies ends (onward s at))
-  pub names : Fills (zeros 4_096) 0 (namesOf start bodies (recordsFrom 0 s)) goes ends (namesOf start bodies (onward s at))
+  pub names : Fills (zeros Limit.BRANCHES) 0 (namesOf start bodies (recordsFrom 0 s)) goes ends
+      (namesOf start bodies (onward s at))
 
 pub graph-starts : (s : List ℕ) (start : Bool) (bodies : List ℕ) → Readable s →
-    Graphing s start bodies (zeros 1_024) (zeros 1_024) (zeros 1_025) (zeros 4_096) 0 0 0
+    Graphing s start bodies (zeros Limit.ACTIONS) (zeros Limit.ACTIONS) (zeros (Limit.ACTIONS + 1)) (zeros Limit.BRANCHES) 0 0 0
 graph-starts s start bodies r =
     let xs : List Act = actsOf (recordsFrom 0 s) in
     let few = few-acts s r in
     record {
       fine = fine-first s r;
-      owns = zeros-none 1_024 _ _ (omega (arith, length-map xs (λ a. ownIn (a .kind)))) refl;
-      timed = zeros-none 1_024 _ _ (omega (arith, length-map xs (λ a. timesIn (a .kind) (a .body)))) refl;
+      owns = zeros-none Limit.ACTIONS _ _ (omega (arith, length-map xs (λ a. ownIn (a .kind)))) refl;
+      timed = zeros-none Limit.ACTIONS _ _ (omega (arith, length-map xs (λ a. timesIn (a .kind) (a .body)))) refl;
       froms =
-          zeros-none 1_025 _ _ (omega (arith, runs-count (λ a. length (goesBy start bodies a)) 0 xs))
+          zeros-none (Limit.ACTIONS + 1) _ _ (omega (arith, runs-count (λ a. length (goesBy start bodies a)) 0 xs))
           refl;
-      names = zeros-none 4_096 _ _ (few-goes s r start bodies) refl;
+      names = zeros-none Limit.BRANCHES _ _ (few-goes s r start bodies) refl;
     }
 
 module _ {s : List ℕ} {start : Bool} {bodies own times from goes : List ℕ} {actions ends at : ℕ}
     (x : Graphing s start bodies own times from goes actions ends at) where
-  pub own-long : 1_024 ≡ length own
-  own-long = sym (fills-length (x .owns) ∙ zeros-length 1_024)
+  pub own-long : Limit.ACTIONS ≡ length own
+  own-long = sym (fills-length (x .owns) ∙ zeros-length Limit.ACTIONS)
 
-  pub times-long : 1_024 ≡ length times
-  times-long = sym (fills-length (x .timed) ∙ zeros-length 1_024)
+  pub times-long : Limit.ACTIONS ≡ length times
+  times-long = sym (fills-length (x .timed) ∙ zeros-length Limit.ACTIONS)
 
-  pub from-long : 1_025 ≡ length from
-  from-long = sym (fills-length (x .froms) ∙ zeros-length 1_025)
+  pub from-long : Limit.ACTIONS + 1 ≡ length from
+  from-long = sym (fills-length (x .froms) ∙ zeros-length (Limit.ACTIONS + 1))
 
-  pub goes-long : 4_096 ≡ length goes
-  goes-long = sym (fills-length (x .names) ∙ zeros-length 4_096)
+  pub goes-long : Limit.BRANCHES ≡ length goes
+  goes-long = sym (fills-length (x .names) ∙ zeros-length Limit.BRANCHES)
 
-  pub ends-few : ends ≤ 4_096
-  ends-few = omega (arith, x .names .count, x .names .fits, zeros-length 4_096)
+  pub ends-few : ends ≤ Limit.BRANCHES
+  ends-few = omega (arith, x .names .count, x .names .fits, zeros-length Limit.BRANCHES)
 
   -- The record y stands here, and the next one at n.
   module _ (h : at < length s) {y : Record} (e : y ≡ recordAt s at) {n : ℕ} (i : n ≡ recordAt s at .next) where
@@ -89,17 +91,18 @@ module _ {s : List ℕ} {start : Bool} {bodies own times from goes : List ℕ} {
     there : Step s at k n
     there = step-there s at h (x .fine) e i
 
-    owns-on : Next (zeros 1_024) 0 (ownsOf (recordsFrom 0 s)) own actions (given (acts k) (ownIn k)) (ownsOf next)
+    owns-on : Next (zeros Limit.ACTIONS) 0 (ownsOf (recordsFrom 0 s)) own actions (given (acts k) (ownIn k)) (ownsOf next)
     owns-on =
         record { fills = rw (there .here, acts-turn at k bs next (λ a. ownIn (a .kind))) at (x .owns) }
 
-    timed-on : Next (zeros 1_024) 0 (timesOf (recordsFrom 0 s)) times actions (given (acts k) (timesIn k bs)) (timesOf next)
+    timed-on : Next (zeros Limit.ACTIONS) 0 (timesOf (recordsFrom 0 s)) times actions (given (acts k) (timesIn k bs))
+        (timesOf next)
     timed-on =
         record {
           fills = rw (there .here, acts-turn at k bs next (λ a. timesIn (a .kind) (a .body))) at (x .timed);
         }
 
-    froms-on : Next (zeros 1_025) 0 (fromsOf start bodies 0 (recordsFrom 0 s)) from actions (given (acts k) ends)
+    froms-on : Next (zeros (Limit.ACTIONS + 1)) 0 (fromsOf start bodies 0 (recordsFrom 0 s)) from actions (given (acts k) ends)
         (fromsOf start bodies (ends + length (goesIn start bodies k bs)) next)
     froms-on =
         record {
@@ -109,7 +112,7 @@ module _ {s : List ℕ} {start : Bool} {bodies own times from goes : List ℕ} {
           ) at (x .froms);
         }
 
-    names-on : Next (zeros 4_096) 0 (namesOf start bodies (recordsFrom 0 s)) goes ends (goesIn start bodies k bs)
+    names-on : Next (zeros Limit.BRANCHES) 0 (namesOf start bodies (recordsFrom 0 s)) goes ends (goesIn start bodies k bs)
         (namesOf start bodies next)
     names-on =
         record {
@@ -155,19 +158,19 @@ module _ {s : List ℕ} {start : Bool} {bodies own times from goes : List ℕ} {
 
   -- Nothing is left.
   module _ (h : length s ≤ at) where
-    froms-last : Next (zeros 1_025) 0 (fromsOf start bodies 0 (recordsFrom 0 s)) from actions (ends ∷ []) []
+    froms-last : Next (zeros (Limit.ACTIONS + 1)) 0 (fromsOf start bodies 0 (recordsFrom 0 s)) from actions (ends ∷ []) []
     unfolding runs actsOf
     froms-last = record { fills = rw (onward-ends s at h) at (x .froms) }
 
-    pub last-room : actions < 1_025
+    pub last-room : actions < Limit.ACTIONS + 1
     last-room = omega (arith, next-room froms-last, from-long)
 
     pub graph-ends : record { own = own; times = times; from = set from actions ends; goes = goes }
         ≡ graphOf start bodies (recordsFrom 0 s)
     unfolding graphOf actsOf
     graph-ends =
-        let o = zeros-filled 1_024 (ap ownsOf (onward-ends s at h)) (x .owns) in
-        let t = zeros-filled 1_024 (ap timesOf (onward-ends s at h)) (x .timed) in
-        let f = zeros-filled 1_025 refl (next-filled froms-last) in
-        let n = zeros-filled 4_096 (ap (namesOf start bodies) (onward-ends s at h)) (x .names) in
+        let o = zeros-filled Limit.ACTIONS (ap ownsOf (onward-ends s at h)) (x .owns) in
+        let t = zeros-filled Limit.ACTIONS (ap timesOf (onward-ends s at h)) (x .timed) in
+        let f = zeros-filled (Limit.ACTIONS + 1) refl (next-filled froms-last) in
+        let n = zeros-filled Limit.BRANCHES (ap (namesOf start bodies) (onward-ends s at h)) (x .names) in
         rw (o .1, t .1, f .1, n .1)

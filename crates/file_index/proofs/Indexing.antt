@@ -7,7 +7,9 @@ use lib.Dec.{eqb}
 use lib.ListN.{length, set, length-map}
 use lib.Seq.{sets}
 use Rattle.semantics.specs.Words.{if_then_else_}
+use Rattle.semantics.specs.Kinds as K
 use Rattle.semantics.specs.Bytes.{Raw, recordsFrom, u16}
+use Rattle.base_numbers.specs.Limit as Limit
 use Rattle.file_index.specs.Index.{Readable, given, acts, actsOf, firstsOf, bodiesOf, indexOf}
 use Rattle.file_reader.specs.Reads.{recordAt}
 use Rattle.file_reader.specs.Records.{bodyAt}
@@ -22,38 +24,39 @@ use Rattle.file_index.proofs.Turns.{acts-turn}
 abbrev placesOf : List Raw → List ℕ
 placesOf rs = map (λ a. a .place) (actsOf rs)
 
-few-places : (s : List ℕ) → Readable s → length (placesOf (recordsFrom 0 s)) ≤ 1_024
+few-places : (s : List ℕ) → Readable s → length (placesOf (recordsFrom 0 s)) ≤ Limit.ACTIONS
 few-places s r = omega (arith, length-map (actsOf (recordsFrom 0 s)) (λ a. a .place), few-acts s r)
 
 -- Each array has the front of its table; the tables of the rest are still to come.
 pub record Indexing (s first place body : List ℕ) (blocks actions classes at : ℕ) : Type 0 where
   pub fine : Fine (onward s at)
-  pub firsts : Fills (zeros 257) 0 (firstsOf 0 (recordsFrom 0 s)) first blocks (firstsOf actions (onward s at))
-  pub places : Fills (zeros 1_024) 0 (placesOf (recordsFrom 0 s)) place actions (placesOf (onward s at))
-  pub bodies : Fills (zeros 64) 0 (bodiesOf (recordsFrom 0 s)) body classes (bodiesOf (onward s at))
+  pub firsts : Fills (zeros (Limit.BLOCKS + 1)) 0 (firstsOf 0 (recordsFrom 0 s)) first blocks (firstsOf actions (onward s at))
+  pub places : Fills (zeros Limit.ACTIONS) 0 (placesOf (recordsFrom 0 s)) place actions (placesOf (onward s at))
+  pub bodies : Fills (zeros Limit.CLASSES) 0 (bodiesOf (recordsFrom 0 s)) body classes (bodiesOf (onward s at))
 
-pub index-starts : (s : List ℕ) → Readable s → Indexing s (zeros 257) (zeros 1_024) (zeros 64) 0 0 0 0
+pub index-starts : (s : List ℕ) → Readable s
+    → Indexing s (zeros (Limit.BLOCKS + 1)) (zeros Limit.ACTIONS) (zeros Limit.CLASSES) 0 0 0 0
 index-starts s r =
     record {
       fine = fine-first s r;
-      firsts = zeros-none 257 _ _ (few-firsts s r) refl;
-      places = zeros-none 1_024 _ _ (few-places s r) refl;
-      bodies = zeros-none 64 _ _ (few-bodies s r) refl;
+      firsts = zeros-none (Limit.BLOCKS + 1) _ _ (few-firsts s r) refl;
+      places = zeros-none Limit.ACTIONS _ _ (few-places s r) refl;
+      bodies = zeros-none Limit.CLASSES _ _ (few-bodies s r) refl;
     }
 
 module _ {s first place body : List ℕ} {blocks actions classes at : ℕ}
     (x : Indexing s first place body blocks actions classes at) where
-  pub first-long : 257 ≡ length first
-  first-long = sym (fills-length (x .firsts) ∙ zeros-length 257)
+  pub first-long : Limit.BLOCKS + 1 ≡ length first
+  first-long = sym (fills-length (x .firsts) ∙ zeros-length (Limit.BLOCKS + 1))
 
-  pub place-long : 1_024 ≡ length place
-  place-long = sym (fills-length (x .places) ∙ zeros-length 1_024)
+  pub place-long : Limit.ACTIONS ≡ length place
+  place-long = sym (fills-length (x .places) ∙ zeros-length Limit.ACTIONS)
 
-  pub body-long : 64 ≡ length body
-  body-long = sym (fills-length (x .bodies) ∙ zeros-length 64)
+  pub body-long : Limit.CLASSES ≡ length body
+  body-long = sym (fills-length (x .bodies) ∙ zeros-length Limit.CLASSES)
 
-  pub actions-few : actions ≤ 1_024
-  actions-few = omega (arith, x .places .count, x .places .fits, zeros-length 1_024)
+  pub actions-few : actions ≤ Limit.ACTIONS
+  actions-few = omega (arith, x .places .count, x .places .fits, zeros-length Limit.ACTIONS)
 
   -- The record y stands here, and the next one at n.
   module _ (h : at < length s) {y : Record} (e : y ≡ recordAt s at) {n : ℕ} (i : n ≡ recordAt s at .next) where
@@ -69,35 +72,36 @@ module _ {s first place body : List ℕ} {blocks actions classes at : ℕ}
     there : Step s at k n
     there = step-there s at h (x .fine) e i
 
-    firsts-on : Next (zeros 257) 0 (firstsOf 0 (recordsFrom 0 s)) first blocks (given (eqb k 6) actions)
+    firsts-on : Next (zeros (Limit.BLOCKS + 1)) 0 (firstsOf 0 (recordsFrom 0 s)) first blocks (given (eqb k K.BLOCK) actions)
         (firstsOf (if acts k then actions + 1 else actions) next)
     unfolding firstsOf
     firsts-on = record { fills = rw (there .here) at (x .firsts) }
 
-    places-on : Next (zeros 1_024) 0 (placesOf (recordsFrom 0 s)) place actions (given (acts k) at) (placesOf next)
+    places-on : Next (zeros Limit.ACTIONS) 0 (placesOf (recordsFrom 0 s)) place actions (given (acts k) at) (placesOf next)
     places-on =
         record { fills = rw (there .here, acts-turn at k bs next (λ a. a .place)) at (x .places) }
 
-    bodies-on : Next (zeros 64) 0 (bodiesOf (recordsFrom 0 s)) body classes (given (eqb k 5) (u16 bs 0)) (bodiesOf next)
+    bodies-on : Next (zeros Limit.CLASSES) 0 (bodiesOf (recordsFrom 0 s)) body classes (given (eqb k K.CLASS) (u16 bs 0))
+        (bodiesOf next)
     unfolding bodiesOf
     bodies-on = record { fills = rw (there .here) at (x .bodies) }
 
-    pub first-room : blocks + length (given (eqb k 6) actions) ≤ length first
+    pub first-room : blocks + length (given (eqb k K.BLOCK) actions) ≤ length first
     first-room = next-room firsts-on
 
     pub place-room : actions + length (given (acts k) at) ≤ length place
     place-room = next-room places-on
 
-    module _ {v : ℕ} (j : v ≡ (if eqb k 5 then u16 bs 0 else 0)) where
-      same-body : given (eqb k 5) v ≡ given (eqb k 5) (u16 bs 0)
-      same-body = ap (given (eqb k 5)) j ∙ given-if (eqb k 5) (u16 bs 0) 0
+    module _ {v : ℕ} (j : v ≡ (if eqb k K.CLASS then u16 bs 0 else 0)) where
+      same-body : given (eqb k K.CLASS) v ≡ given (eqb k K.CLASS) (u16 bs 0)
+      same-body = ap (given (eqb k K.CLASS)) j ∙ given-if (eqb k K.CLASS) (u16 bs 0) 0
 
-      pub body-room : classes + length (given (eqb k 5) v) ≤ length body
+      pub body-room : classes + length (given (eqb k K.CLASS) v) ≤ length body
       body-room = rw same-body (next-room bodies-on)
 
-      pub index-turn : Indexing s (sets first blocks (given (eqb k 6) actions)) (sets place actions (given (acts k) at))
-          (sets body classes (given (eqb k 5) v)) (blocks + length (given (eqb k 6) actions))
-          (actions + length (given (acts k) at)) (classes + length (given (eqb k 5) v))
+      pub index-turn : Indexing s (sets first blocks (given (eqb k K.BLOCK) actions)) (sets place actions (given (acts k) at))
+          (sets body classes (given (eqb k K.CLASS) v)) (blocks + length (given (eqb k K.BLOCK) actions))
+          (actions + length (given (acts k) at)) (classes + length (given (eqb k K.CLASS) v))
           n
       index-turn =
           record {
@@ -109,11 +113,11 @@ module _ {s first place body : List ℕ} {blocks actions classes at : ℕ}
 
   -- Nothing is left.
   module _ (h : length s ≤ at) where
-    firsts-last : Next (zeros 257) 0 (firstsOf 0 (recordsFrom 0 s)) first blocks (actions ∷ []) []
+    firsts-last : Next (zeros (Limit.BLOCKS + 1)) 0 (firstsOf 0 (recordsFrom 0 s)) first blocks (actions ∷ []) []
     unfolding firstsOf
     firsts-last = record { fills = rw (onward-ends s at h) at (x .firsts) }
 
-    pub last-room : blocks < 257
+    pub last-room : blocks < Limit.BLOCKS + 1
     last-room = omega (arith, next-room firsts-last, first-long)
 
     pub index-ends : record {
@@ -127,9 +131,9 @@ module _ {s first place body : List ℕ} {blocks actions classes at : ℕ}
         ≡ indexOf (recordsFrom 0 s)
     unfolding indexOf actsOf bodiesOf
     index-ends =
-        let f = zeros-filled 257 refl (next-filled firsts-last) in
-        let p = zeros-filled 1_024 (ap placesOf (onward-ends s at h)) (x .places) in
-        let b = zeros-filled 64 (ap bodiesOf (onward-ends s at h)) (x .bodies) in
+        let f = zeros-filled (Limit.BLOCKS + 1) refl (next-filled firsts-last) in
+        let p = zeros-filled Limit.ACTIONS (ap placesOf (onward-ends s at h)) (x .places) in
+        let b = zeros-filled Limit.CLASSES (ap bodiesOf (onward-ends s at h)) (x .bodies) in
         let n : blocks ≡ length (firstsOf 0 (recordsFrom 0 s)) - 1 = omega (arith, f .0) in
         let a : actions ≡ length (actsOf (recordsFrom 0 s)) = p .0 ∙ length-map (actsOf (recordsFrom 0 s)) (λ a. a .place) in
         rw (f .1, p .1, b .1, n, a, b .0)

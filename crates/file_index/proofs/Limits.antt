@@ -7,12 +7,14 @@ use native.Mathlib.Omega.{arith}
 use lib.Dec.{eqb}
 use lib.ListN.{length, getD, length-set, length-append}
 use Rattle.semantics.specs.Words.{if_then_else_, more, collect}
+use Rattle.semantics.specs.Kinds as K
 use Rattle.semantics.specs.Bytes.{Raw, raw, torn, recordsFrom, u16}
 use Rattle.semantics.specs.Record.{Row, table, rowOf}
 use Rattle.semantics.specs.Decode.{accepted, saw, firstPass, noneSeen}
 use Rattle.promises.specs.Laws.{if-has, AllOf, once, once-self, once-same}
 use Rattle.promises.specs.Passes.{not-accepted, its-row}
 use Rattle.promises.specs.Counted.{limits}
+use Rattle.base_numbers.specs.Limit as Limit
 use Rattle.file_index.specs.Index.{Act, Readable, Judged, given, acts, actsOf, firstsOf, bodiesOf, goesBy, runs}
 use Rattle.file_index.specs.Branches.{offeredBy}
 use Rattle.file_index.proofs.Records.{Fine, fine-all, passed-on}
@@ -31,7 +33,7 @@ rows-limited : AllOf Limited table
 rows-limited = omega arith
 
 abbrev Countable : Row → Type 0
-Countable r = r .group < 17
+Countable r = r .group < K.groups
 
 rows-countable : AllOf Countable table
 rows-countable = omega arith
@@ -54,7 +56,7 @@ still seen g j (suc o) e l r =
     let b = ap (λ x. getD limits x 0) d in
     omega (arith, once-self j)
 
-limited : (g : ℕ) (seen : List ℕ) (rs : List Raw) (n : List ℕ) → length seen ≡ 17 → getD seen g 0 ≤ getD limits g 0 →
+limited : (g : ℕ) (seen : List ℕ) (rs : List Raw) (n : List ℕ) → length seen ≡ K.groups → getD seen g 0 ≤ getD limits g 0 →
     firstPass seen rs ≡ accepted n → getD seen g 0 + countIn g rs ≤ getD limits g 0
 unfolding firstPass countIn
 limited g seen [] n h l e = omega arith
@@ -73,13 +75,13 @@ limited g seen (raw at k bs ∷ rs) n h l e =
 abbrev Tells : ℕ → (ℕ → Bool) → Row → Type 0
 Tells g f r = length (given (f (r .kind)) 0) ≡ once g (r .group)
 
-rows-class : AllOf (Tells 5 (λ k. eqb k 5)) table
+rows-class : AllOf (Tells K.CLASS (λ k. eqb k K.CLASS)) table
 rows-class = omega arith
 
-rows-block : AllOf (Tells 6 (λ k. eqb k 6)) table
+rows-block : AllOf (Tells K.BLOCK (λ k. eqb k K.BLOCK)) table
 rows-block = omega arith
 
-rows-act : AllOf (Tells 16 acts) table
+rows-act : AllOf (Tells K.ACTION acts) table
 rows-act = omega arith
 
 tells : (g : ℕ) (f : ℕ → Bool) → AllOf (Tells g f) table → (k : ℕ) → 0 < rowOf k .group → (v : ℕ) →
@@ -92,34 +94,34 @@ tells g f h k l v =
     go true = refl
     go false = refl
 
-bodies-count : (rs : List Raw) → Fine rs → length (bodiesOf rs) ≡ countIn 5 rs
+bodies-count : (rs : List Raw) → Fine rs → length (bodiesOf rs) ≡ countIn K.CLASS rs
 unfolding bodiesOf countIn
 bodies-count [] f = refl
 bodies-count (torn at ∷ rs) f = absurd f
 bodies-count (raw at k bs ∷ rs) f =
     let v : ℕ = u16 bs 0 in
-    let t = tells 5 (λ k. eqb k 5) rows-class k (f .0 .grouped) v in
-    omega (arith, length-append (given (eqb k 5) v) (bodiesOf rs), bodies-count rs (f .1))
+    let t = tells K.CLASS (λ k. eqb k K.CLASS) rows-class k (f .0 .grouped) v in
+    omega (arith, length-append (given (eqb k K.CLASS) v) (bodiesOf rs), bodies-count rs (f .1))
 
-firsts-count : (n : ℕ) (rs : List Raw) → Fine rs → length (firstsOf n rs) ≡ countIn 6 rs + 1
+firsts-count : (n : ℕ) (rs : List Raw) → Fine rs → length (firstsOf n rs) ≡ countIn K.BLOCK rs + 1
 unfolding firstsOf countIn
 firsts-count n [] f = refl
 firsts-count n (torn at ∷ rs) f = absurd f
 firsts-count n (raw at k bs ∷ rs) f =
     let m : ℕ = if acts k then n + 1 else n in
-    let t = tells 6 (λ k. eqb k 6) rows-block k (f .0 .grouped) n in
-    omega (arith, length-append (given (eqb k 6) n) (firstsOf m rs), firsts-count m rs (f .1))
+    let t = tells K.BLOCK (λ k. eqb k K.BLOCK) rows-block k (f .0 .grouped) n in
+    omega (arith, length-append (given (eqb k K.BLOCK) n) (firstsOf m rs), firsts-count m rs (f .1))
 
 if-more : {A : Type 0} (b : Bool) (x : A) (xs : List A) → length (if b then x ∷ xs else xs) ≡ length (given b 0) + length xs
 if-more true x xs = omega arith
 if-more false x xs = omega arith
 
-acts-count : (rs : List Raw) → Fine rs → length (actsOf rs) ≡ countIn 16 rs
+acts-count : (rs : List Raw) → Fine rs → length (actsOf rs) ≡ countIn K.ACTION rs
 unfolding actsOf countIn
 acts-count [] f = refl
 acts-count (torn at ∷ rs) f = absurd f
 acts-count (raw at k bs ∷ rs) f =
-    let t = tells 16 acts rows-act k (f .0 .grouped) 0 in
+    let t = tells K.ACTION acts rows-act k (f .0 .grouped) 0 in
     omega (arith, if-more (acts k) (record { place = at; kind = k; body = bs }) (actsOf rs), acts-count rs (f .1))
 
 -- the lists that f gives of the actions, if none is longer than 4
@@ -148,23 +150,23 @@ module _ (s : List ℕ) (r : Readable s) where
   few : (g : ℕ) → getD noneSeen g 0 ≡ 0 → countIn g (recordsFrom 0 s) ≤ getD limits g 0
   few g e = let h = limited g noneSeen (recordsFrom 0 s) (r .accepts .0) refl (omega arith) (r .accepts .1) in omega arith
 
-  pub few-bodies : length (bodiesOf (recordsFrom 0 s)) ≤ 64
-  few-bodies = omega (arith, few 5 refl, bodies-count (recordsFrom 0 s) fine)
+  pub few-bodies : length (bodiesOf (recordsFrom 0 s)) ≤ Limit.CLASSES
+  few-bodies = omega (arith, few K.CLASS refl, bodies-count (recordsFrom 0 s) fine)
 
-  pub few-firsts : length (firstsOf 0 (recordsFrom 0 s)) ≤ 257
-  few-firsts = omega (arith, few 6 refl, firsts-count 0 (recordsFrom 0 s) fine)
+  pub few-firsts : length (firstsOf 0 (recordsFrom 0 s)) ≤ Limit.BLOCKS + 1
+  few-firsts = omega (arith, few K.BLOCK refl, firsts-count 0 (recordsFrom 0 s) fine)
 
-  pub few-acts : length (actsOf (recordsFrom 0 s)) ≤ 1_024
-  few-acts = omega (arith, few 16 refl, acts-count (recordsFrom 0 s) fine)
+  pub few-acts : length (actsOf (recordsFrom 0 s)) ≤ Limit.ACTIONS
+  few-acts = omega (arith, few K.ACTION refl, acts-count (recordsFrom 0 s) fine)
 
   few-lists : {B : Type 0} (f : Act → List B) →
       ((at k : ℕ) (bs : List ℕ) → Judged k bs → length (f (record { place = at; kind = k; body = bs })) ≤ 4) →
-      length (collect f (actsOf (recordsFrom 0 s))) ≤ 4_096
+      length (collect f (actsOf (recordsFrom 0 s))) ≤ Limit.BRANCHES
   few-lists f h = omega (arith, lists-count f h (recordsFrom 0 s) fine, few-acts)
 
   pub few-goes : (start : Bool) (bodies : List ℕ) →
-      length (collect (goesBy start bodies) (actsOf (recordsFrom 0 s))) ≤ 4_096
+      length (collect (goesBy start bodies) (actsOf (recordsFrom 0 s))) ≤ Limit.BRANCHES
   few-goes start bodies = few-lists (goesBy start bodies) (λ at k bs j. goes-few start bodies k bs j)
 
-  pub few-offered : length (collect offeredBy (actsOf (recordsFrom 0 s))) ≤ 4_096
+  pub few-offered : length (collect offeredBy (actsOf (recordsFrom 0 s))) ≤ Limit.BRANCHES
   few-offered = few-lists offeredBy (λ at k bs j. offered-few (at + 4) k bs j)

@@ -94,7 +94,7 @@ then-is (accepted a) f b e = (a, refl, e)
 
 pub accepted-by : (bs : List ℕ) (m : Model) → decode bs ≡ accepted m → Accepted bs m
 unfolding decode
-accepted-by bs m e = go (leb (length bs) 65_535) refl e
+accepted-by bs m e = go (leb (length bs) No.longestFile) refl e
   where
     rs : List Raw
     rs = recordsFrom 0 bs
@@ -108,7 +108,7 @@ accepted-by bs m e = go (leb (length bs) 65_535) refl e
     secondly : List ℕ → Checked Model
     secondly n = ifAccepted (secondPass n 0 rs) thirdly
 
-    go : (b : Bool) → leb (length bs) 65_535 ≡ b →
+    go : (b : Bool) → leb (length bs) No.longestFile ≡ b →
         _≡_ {A = Checked Model} (elim b [ false ↦ refused No.MANY 0 | true ↦ ifAccepted (firstPass noneSeen rs) secondly ])
         (accepted m) →
         Accepted bs m
@@ -118,6 +118,6 @@ accepted-by bs m e = go (leb (length bs) 65_535) refl e
         let b = then-is (secondPass (a .0) 0 rs) thirdly m (a .2) in
         let c = then-is (thirdPass x rs) (λ q. accepted x) m (b .2) in
         record {
-          readable = record { short = leb-true (length bs) 65_535 h; accepts = (a .0, a .1) };
+          readable = record { short = leb-true (length bs) No.longestFile h; accepts = (a .0, a .1) };
           is = cc (c .2);
         }

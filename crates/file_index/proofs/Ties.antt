@@ -18,6 +18,7 @@ use Rattle.semantics.specs.Record.{ACTION}
 use Rattle.semantics.specs.Decode.{noneSeen, inner, gather}
 use Rattle.semantics.specs.Bound.{ownWeight, loops}
 use Rattle.promises.specs.Laws.{AllOf, all-at, some-in, over}
+use Rattle.base_numbers.specs.Limit as Limit
 use Rattle.file_index.specs.Index.{Readable, pad, Act, actsOf, firstsOf, bodiesOf, indexOf, ownIn, timesIn, goesBy, runs}
 use Rattle.file_index.specs.Index.{graphOf, loopsIn}
 use Rattle.file_index.specs.Ties.{timesOf, goesOf, ActionAt, Ties, GraphTies}
@@ -117,18 +118,18 @@ module _ (bs : List ℕ) (m : Model) (e : Accepted bs m) where
 
   first-at : (b : ℕ) → getD (indexOf rs .first) b 0 ≡ getD (runs length 0 (m .blocks)) b 0
   unfolding indexOf
-  first-at b = pad-at 257 (firstsOf 0 rs) b ∙ ap (λ l. getD l b 0) first-runs
+  first-at b = pad-at (Limit.BLOCKS + 1) (firstsOf 0 rs) b ∙ ap (λ l. getD l b 0) first-runs
 
   first-over : (b : ℕ) → b ≤ length (m .blocks) → getD (indexOf rs .first) b 0 ≡ over length (take b (m .blocks))
   first-over b h = omega (arith, first-at b, runs-over length 0 (m .blocks) b h)
 
-  few : over length (m .blocks) ≤ 1_024
+  few : over length (m .blocks) ≤ Limit.ACTIONS
   few = omega (arith, acts-count, few-acts bs readable)
 
-  first-small : (b : ℕ) → getD (indexOf rs .first) b 0 ≤ 1_024
+  first-small : (b : ℕ) → getD (indexOf rs .first) b 0 ≤ Limit.ACTIONS
   first-small b = go (leb b (length (m .blocks))) refl
     where
-      go : (t : Bool) → leb b (length (m .blocks)) ≡ t → getD (indexOf rs .first) b 0 ≤ 1_024
+      go : (t : Bool) → leb b (length (m .blocks)) ≡ t → getD (indexOf rs .first) b 0 ≤ Limit.ACTIONS
       go true q = omega (arith, first-over b (leb-true b _ q), over-part length (m .blocks) b, few)
       go false q = omega (arith, first-at b, runs-past length 0 (m .blocks) b (leb-false b _ q))
 
@@ -159,14 +160,14 @@ module _ (bs : List ℕ) (m : Model) (e : Accepted bs m) where
   unfolding indexOf
   place-at n a q =
       let ps : List ℕ = map (λ a. a .place) (actsOf rs) in
-      pad-at 1_024 ps n ∙ some-at ps n (a .place) 0 (some-map (λ a. a .place) (actsOf rs) n a q)
+      pad-at Limit.ACTIONS ps n ∙ some-at ps n (a .place) 0 (some-map (λ a. a .place) (actsOf rs) n a q)
 
   same-classes : bodiesOf rs ≡ m .classes
   same-classes = bodies-are rs fine ∙ ap (λ x. x .classes) is
 
   same-body : (c : ℕ) → getD (indexOf rs .body) c 0 ≡ body m c
   unfolding indexOf
-  same-body c = pad-at 64 (bodiesOf rs) c ∙ ap (λ l. getD l c 0) same-classes
+  same-body c = pad-at Limit.CLASSES (bodiesOf rs) c ∙ ap (λ l. getD l c 0) same-classes
 
   blocks-count : indexOf rs .blocks ≡ length (m .blocks)
   unfolding indexOf
@@ -203,12 +204,13 @@ module _ (bs : List ℕ) (m : Model) (e : Accepted bs m) where
     lists-count = length-map (actsOf rs) f ∙ acts-count
 
     froms-at : (a : ℕ) →
-        getD (pad 1_025 (runs (λ x. length (f x)) 0 (actsOf rs))) a 0 ≡ getD (runs length 0 (map f (actsOf rs))) a 0
+        getD (pad (Limit.ACTIONS + 1) (runs (λ x. length (f x)) 0 (actsOf rs))) a 0 ≡ getD (runs length 0 (map f (actsOf rs))) a 0
     froms-at a =
-        pad-at 1_025 (runs (λ x. length (f x)) 0 (actsOf rs)) a ∙ ap (λ l. getD l a 0) (runs-map length f 0 (actsOf rs))
+        pad-at (Limit.ACTIONS + 1) (runs (λ x. length (f x)) 0 (actsOf rs)) a
+        ∙ ap (λ l. getD l a 0) (runs-map length f 0 (actsOf rs))
 
     pub froms-over : (a : ℕ) → a ≤ over length (m .blocks) →
-        getD (pad 1_025 (runs (λ x. length (f x)) 0 (actsOf rs))) a 0 ≡ over length (take a (map f (actsOf rs)))
+        getD (pad (Limit.ACTIONS + 1) (runs (λ x. length (f x)) 0 (actsOf rs))) a 0 ≡ over length (take a (map f (actsOf rs)))
     froms-over a h =
         omega (arith, froms-at a, runs-over length 0 (map f (actsOf rs)) a (omega (arith, lists-count)))
 
@@ -244,22 +246,22 @@ module _ (bs : List ℕ) (m : Model) (e : Accepted bs m) where
     same-goes : collect (goesBy start bodies) (actsOf rs) ≡ collect (λ l. l) names
     same-goes = collect-map (goesBy start bodies) (actsOf rs) ∙ ap (collect (λ l. l)) same-names
 
-    goes-are : graph .goes ≡ pad 4_096 (collect (λ l. l) names)
+    goes-are : graph .goes ≡ pad Limit.BRANCHES (collect (λ l. l) names)
     unfolding graphOf
-    goes-are = ap (pad 4_096) same-goes
+    goes-are = ap (pad Limit.BRANCHES) same-goes
 
     from-slice : (i j : ℕ) → i ≤ j → j ≤ over length (m .blocks) →
         slice (getD (graph .from) i 0) (getD (graph .from) j 0) (graph .goes) ≡ collect (λ l. l) (slice i j names)
     from-slice i j h k =
         rw (from-over i (omega arith), from-over j k, goes-are) (slice-collect (λ l. l) names _ i j h)
 
-    from-small : (a : ℕ) → getD (graph .from) a 0 ≤ 4_096
+    from-small : (a : ℕ) → getD (graph .from) a 0 ≤ Limit.BRANCHES
     from-small a = go (leb a (over length (m .blocks))) refl
       where
-        all : over length names ≤ 4_096
+        all : over length names ≤ Limit.BRANCHES
         all = omega (arith, collect-length (λ l. l) names, ap length same-goes, few-goes bs readable start bodies)
 
-        go : (t : Bool) → leb a (over length (m .blocks)) ≡ t → getD (graph .from) a 0 ≤ 4_096
+        go : (t : Bool) → leb a (over length (m .blocks)) ≡ t → getD (graph .from) a 0 ≤ Limit.BRANCHES
         go true q = omega (arith, from-over a (leb-true a _ q), over-part length names a, all)
         go false q =
             let h = leb-false a _ q in
@@ -284,14 +286,14 @@ module _ (bs : List ℕ) (m : Model) (e : Accepted bs m) where
         getD (graph .own) (getD (indexOf rs .first) b 0 + i) 0 ≡ ownWeight x
     unfolding graphOf
     own-of =
-        number-at 1_024 (λ a. ownIn (a .kind)) ownWeight
+        number-at Limit.ACTIONS (λ a. ownIn (a .kind)) ownWeight
         (λ a s x q. act-shows start m bodies same-body (a .kind) (a .body) (s .judged) x q .0)
 
     times-of : (b i : ℕ) (x : Action) → getElem? (block m b) i ≡ some x →
         getD (graph .times) (getD (indexOf rs .first) b 0 + i) 0 ≡ timesOf x
     unfolding graphOf
     times-of =
-        number-at 1_024 (λ a. timesIn (a .kind) (a .body)) timesOf
+        number-at Limit.ACTIONS (λ a. timesIn (a .kind) (a .body)) timesOf
         (λ a s x q. act-shows start m bodies same-body (a .kind) (a .body) (s .judged) x q .1 .0)
 
     goes-of : (b i : ℕ) (x : Action) → getElem? (block m b) i ≡ some x →

@@ -7,6 +7,7 @@ use native.Mathlib.Omega.{arith}
 use lib.Dec.{eqb}
 use lib.ListN.{length}
 use Rattle.semantics.specs.Words.{if_then_else_, collect}
+use Rattle.semantics.specs.Kinds as K
 use Rattle.semantics.specs.Bytes.{Raw, raw}
 use Rattle.semantics.specs.Decode.{opened}
 use Rattle.promises.specs.Laws.{if-has}
@@ -49,7 +50,7 @@ module _ (at k : ℕ) (bs : List ℕ) (rs : List Raw) where
 
 -- LOOPS.
 pub opened-next : (own k : ℕ) → opened own k ≤ own + 1
-opened-next own k = if-has (λ (n : ℕ). n ≤ own + 1) (eqb k 6) (λ e. omega arith) (λ e. omega arith)
+opened-next own k = if-has (λ (n : ℕ). n ≤ own + 1) (eqb k K.BLOCK) (λ e. omega arith) (λ e. omega arith)
 
 module _ (bodies : List ℕ) (own at k : ℕ) (bs : List ℕ) (rs : List Raw) where
   pub loops-turn : (l : List Raw) → l ≡ raw at k bs ∷ rs → (t r x : Bool) (own′ : ℕ) → r ≡ loopsAt bodies own k bs →

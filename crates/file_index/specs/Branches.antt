@@ -8,15 +8,19 @@ use lib.Bits.{bitOr}
 use lib.Dec.{eqb, ltb}
 use lib.ListN.{length, drop}
 use Rattle.semantics.specs.Words.{if_then_else_, collect}
+use Rattle.semantics.specs.Numbers as No
+use Rattle.semantics.specs.Kinds as K
 use Rattle.semantics.specs.Bytes.{u8, u16, Raw, parts}
 use Rattle.semantics.specs.Record.{item, partsOf, branchesFrom, branchesFit}
+use Rattle.base_numbers.specs.Limit as Limit
+use Rattle.base_numbers.specs.Item as Item
 use Rattle.file_index.specs.Index.{pad, Wrote, Act, actsOf, runs}
 use Rattle.file_index.specs.declared.Branches.{Branches}
 
--- WHAT A CLAIM NAMES of one kind, as bits. j is the kind of its items: 0 resources, 1 bins, 2 syncs. An item that names a number
--- of 32 or more has no bit: check 8 refuses it.
+-- WHAT A CLAIM NAMES of one kind, as bits. j is the kind of its items. An item that names a number of 32 or more has no bit:
+-- check 8 refuses it.
 abbrev pub bitOf : ℕ → List ℕ → ℕ
-bitOf j i = if eqb (u8 i 0) j && ltb (u16 i 2) 32 then 2 ^ u16 i 2 else 0
+bitOf j i = if eqb (u8 i 0) j && ltb (u16 i 2) Limit.THINGS then 2 ^ u16 i 2 else 0
 
 unfoldable pub bitsOf : ℕ → List (List ℕ) → ℕ
 bitsOf j [] = 0
@@ -52,9 +56,9 @@ offeredTry at bs = offeredAt (at + 2) (branchesFrom (u16 bs 0) (drop 2 bs))
 unfoldable pub offeredIn : ℕ → ℕ → List ℕ → List Offered
 unfolding offeredTry offeredAt
 offeredIn at k bs =
-    if eqb k 25 then offered at bs ∷ []
-    else if eqb k 26 then offeredTry at bs
-    else if eqb k 27 then offeredAt at (bs ∷ [])
+    if eqb k K.REQ then offered at bs ∷ []
+    else if eqb k K.TRY then offeredTry at bs
+    else if eqb k K.WHILE then offeredAt at (bs ∷ [])
     else []
 
 abbrev pub offeredBy : Act → List Offered
@@ -86,13 +90,13 @@ pub record Roomy (n : ℕ) (x : Rows) : Type 0 where
 -- After xs were written at n of the rows `before`: where the next is written, and what stands there.
 pub record Noted (n : ℕ) (xs : List Offered) (before : Rows) (next : ℕ) (after : Rows) : Type 0 where
   pub claim : Wrote n (placesOf xs) (before .claim) next (after .claim)
-  pub resources : Wrote n (namesOf 0 xs) (before .resources) next (after .resources)
-  pub bins : Wrote n (namesOf 1 xs) (before .bins) next (after .bins)
-  pub syncs : Wrote n (namesOf 2 xs) (before .syncs) next (after .syncs)
+  pub resources : Wrote n (namesOf Item.GET_R xs) (before .resources) next (after .resources)
+  pub bins : Wrote n (namesOf Item.GET_B xs) (before .bins) next (after .bins)
+  pub syncs : Wrote n (namesOf Item.GET_S xs) (before .syncs) next (after .syncs)
 
 -- The body of a TRY, which begins at byte place `at`: its branches end with it, and the rows have room for them from n on.
 pub record Tried (at : ℕ) (bs : List ℕ) (n : ℕ) (x : Rows) : Type 0 where
-  pub short : at + length bs ≤ 65_535
+  pub short : at + length bs ≤ No.longestFile
   pub counted : 2 ≤ length bs
   pub fits : branchesFit (u16 bs 0) (drop 2 bs) ≡ true
   pub room : Roomy (n + length (offeredTry at bs)) x
@@ -102,9 +106,9 @@ unfoldable pub branchesOf : List Raw → Branches
 unfolding actsOf runs offeredIn namedIn
 branchesOf rs =
     record {
-      from = pad 1_025 (runs (λ a. length (offeredBy a)) 0 (actsOf rs));
-      claim = pad 4_096 (placesOf (collect offeredBy (actsOf rs)));
-      resources = pad 4_096 (namesOf 0 (collect offeredBy (actsOf rs)));
-      bins = pad 4_096 (namesOf 1 (collect offeredBy (actsOf rs)));
-      syncs = pad 4_096 (namesOf 2 (collect offeredBy (actsOf rs)));
+      from = pad (Limit.ACTIONS + 1) (runs (λ a. length (offeredBy a)) 0 (actsOf rs));
+      claim = pad Limit.BRANCHES (placesOf (collect offeredBy (actsOf rs)));
+      resources = pad Limit.BRANCHES (namesOf Item.GET_R (collect offeredBy (actsOf rs)));
+      bins = pad Limit.BRANCHES (namesOf Item.GET_B (collect offeredBy (actsOf rs)));
+      syncs = pad Limit.BRANCHES (namesOf Item.GET_S (collect offeredBy (actsOf rs)));
     }

@@ -9,18 +9,21 @@ use lib.Dec.{eqb, leb, ltb}
 use lib.ListN.{length, getD, drop, replicate}
 use lib.Seq.{sets}
 use Rattle.semantics.specs.Words.{if_then_else_, ok, passed, collect}
+use Rattle.semantics.specs.Numbers as No
+use Rattle.semantics.specs.Kinds as K
 use Rattle.semantics.specs.Model.{Model}
 use Rattle.semantics.specs.Bytes.{u16, Raw, raw, torn, recordsFrom}
 use Rattle.semantics.specs.Record.{branchesFrom, branchesFit, rowOf, bodyJudged}
 use Rattle.semantics.specs.Decode.{accepted, firstPass, noneSeen, opened}
 use Rattle.semantics.specs.Bound.{ownWeights}
+use Rattle.base_numbers.specs.Limit as Limit
 use Rattle.file_index.specs.declared.Index.{Index}
 use Rattle.file_index.specs.declared.Graph.{Graph}
 use Rattle.file_index.specs.declared.Counts.{Counts}
 
 -- The bytes of a file that the first pass accepts.
 pub record Readable (bs : List ℕ) : Type 0 where
-  pub short : length bs ≤ 65_535
+  pub short : length bs ≤ No.longestFile
   pub accepts : (n : List ℕ) × (firstPass noneSeen (recordsFrom 0 bs) ≡ accepted n)
 
 -- A record's body that checks 2, 5, 6 and 7 have passed.
@@ -50,7 +53,7 @@ pub record Act : Type 0 where
 
 -- Whether a record of kind k is an action's.
 abbrev pub acts : ℕ → Bool
-acts k = leb 16 k
+acts k = leb K.HOLD k
 
 unfoldable pub actsOf : List Raw → List Act
 actsOf [] = []
@@ -61,13 +64,13 @@ actsOf (raw at k bs ∷ rs) = if acts k then record { place = at; kind = k; body
 unfoldable pub firstsOf : ℕ → List Raw → List ℕ
 firstsOf n [] = n ∷ []
 firstsOf n (torn at ∷ rs) = n ∷ []
-firstsOf n (raw at k bs ∷ rs) = given (eqb k 6) n ++ firstsOf (if acts k then n + 1 else n) rs
+firstsOf n (raw at k bs ∷ rs) = given (eqb k K.BLOCK) n ++ firstsOf (if acts k then n + 1 else n) rs
 
 -- The body blocks of the CLASSes.
 unfoldable pub bodiesOf : List Raw → List ℕ
 bodiesOf [] = []
 bodiesOf (torn at ∷ rs) = []
-bodiesOf (raw at k bs ∷ rs) = given (eqb k 5) (u16 bs 0) ++ bodiesOf rs
+bodiesOf (raw at k bs ∷ rs) = given (eqb k K.CLASS) (u16 bs 0) ++ bodiesOf rs
 
 unfoldable pub indexOf : List Raw → Index
 unfolding actsOf firstsOf bodiesOf
@@ -76,18 +79,18 @@ indexOf rs =
       blocks = length (firstsOf 0 rs) - 1;
       actions = length (actsOf rs);
       classes = length (bodiesOf rs);
-      first = pad 257 (firstsOf 0 rs);
-      place = pad 1_024 (map (λ a. a .place) (actsOf rs));
-      body = pad 64 (bodiesOf rs);
+      first = pad (Limit.BLOCKS + 1) (firstsOf 0 rs);
+      place = pad Limit.ACTIONS (map (λ a. a .place) (actsOf rs));
+      body = pad Limit.CLASSES (bodiesOf rs);
     }
 
 -- THE GRAPH. By an action's kind and body: its own weight; how many times it weighs what it names; the blocks that it names.
 -- The block of a START's class, by the classes' bodies, counts only if `start`.
 abbrev pub ownIn : ℕ → ℕ
-ownIn k = getD ownWeights (k - 16) 0
+ownIn k = getD ownWeights (k - K.HOLD) 0
 
 abbrev pub timesIn : ℕ → List ℕ → ℕ
-timesIn k bs = if eqb k 20 then u16 bs 0 else if eqb k 26 || eqb k 28 then 1 else 0
+timesIn k bs = if eqb k K.DO then u16 bs 0 else if eqb k K.TRY || eqb k K.START then 1 else 0
 
 unfoldable pub branchBlocks : List ℕ → List ℕ
 unfolding branchesFrom
@@ -102,10 +105,10 @@ pub record Branched (bs : List ℕ) (n : ℕ) (out : List ℕ) : Type 0 where
 unfoldable pub goesIn : Bool → List ℕ → ℕ → List ℕ → List ℕ
 unfolding branchBlocks
 goesIn start bodies k bs =
-    if eqb k 20 then u16 bs 2 ∷ []
-    else if eqb k 27 then u16 bs 0 ∷ []
-    else if eqb k 26 then branchBlocks bs
-    else if eqb k 28 then given start (getD bodies (u16 bs 0) 0)
+    if eqb k K.DO then u16 bs 2 ∷ []
+    else if eqb k K.WHILE then u16 bs 0 ∷ []
+    else if eqb k K.TRY then branchBlocks bs
+    else if eqb k K.START then given start (getD bodies (u16 bs 0) 0)
     else []
 
 abbrev pub goesBy : Bool → List ℕ → Act → List ℕ
@@ -120,16 +123,16 @@ unfoldable pub graphOf : Bool → List ℕ → List Raw → Graph
 unfolding actsOf runs goesIn
 graphOf start bodies rs =
     record {
-      own = pad 1_024 (map (λ a. ownIn (a .kind)) (actsOf rs));
-      times = pad 1_024 (map (λ a. timesIn (a .kind) (a .body)) (actsOf rs));
-      from = pad 1_025 (runs (λ a. length (goesBy start bodies a)) 0 (actsOf rs));
-      goes = pad 4_096 (collect (goesBy start bodies) (actsOf rs));
+      own = pad Limit.ACTIONS (map (λ a. ownIn (a .kind)) (actsOf rs));
+      times = pad Limit.ACTIONS (map (λ a. timesIn (a .kind) (a .body)) (actsOf rs));
+      from = pad (Limit.ACTIONS + 1) (runs (λ a. length (goesBy start bodies a)) 0 (actsOf rs));
+      goes = pad Limit.BRANCHES (collect (goesBy start bodies) (actsOf rs));
     }
 
 -- LOOPS: a WHILE, or a START whose class's body block isn't greater than the START's own block. `own` BLOCKs stand before, so
 -- an action's own block is own - 1.
 abbrev pub loopsAt : List ℕ → ℕ → ℕ → List ℕ → Bool
-loopsAt bodies own k bs = eqb k 27 || (eqb k 28 && ltb (getD bodies (u16 bs 0) 0) own)
+loopsAt bodies own k bs = eqb k K.WHILE || (eqb k K.START && ltb (getD bodies (u16 bs 0) 0) own)
 
 unfoldable pub loopsFrom : List ℕ → ℕ → List Raw → Bool
 loopsFrom bodies own [] = false

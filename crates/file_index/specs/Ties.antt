@@ -15,6 +15,8 @@ use Rattle.semantics.specs.Record.{item, partValid, partsOf, claimIn, ACTION, r
 use Rattle.semantics.specs.Claim.{enterBlock, Offer}
 use Rattle.semantics.specs.Bound.{ownWeight}
 use Rattle.promises.specs.Laws.{over}
+use Rattle.base_numbers.specs.Limit as Limit
+use Rattle.base_numbers.specs.Item as Item
 use Rattle.file_index.specs.Index.{Judged, given}
 use Rattle.file_index.specs.Branches.{namedIn}
 use Rattle.file_index.specs.declared.Index.{Index}
@@ -82,7 +84,7 @@ pub record Ties (bs : List ℕ) (m : Model) (i : Index) : Type 0 where
   pub first-none : getD (i .first) 0 0 ≡ 0
   pub first-next : (b : ℕ) → b < length (m .blocks) → getD (i .first) (b + 1) 0 ≡ getD (i .first) b 0 + length (block m b)
   pub first-last : getD (i .first) (length (m .blocks)) 0 ≡ over length (m .blocks)
-  pub first-few : (b : ℕ) → getD (i .first) b 0 ≤ 1_024
+  pub first-few : (b : ℕ) → getD (i .first) b 0 ≤ Limit.ACTIONS
   pub acts-at : (b j : ℕ) (x : Action) → getElem? (block m b) j ≡ some x →
       ActionAt bs (getD (i .place) (getD (i .first) b 0 + j) 0) x
 
@@ -96,7 +98,7 @@ pub record GraphTies (m : Model) (start : Bool) (first : List ℕ) (g : Graph) :
       slice (getD (g .from) (getD first b 0) 0) (getD (g .from) (getD first (b + 1) 0) 0) (g .goes)
       ≡ collect (goesOf start m) (block m b)
   pub rising : (a : ℕ) → a < over length (m .blocks) → getD (g .from) a 0 ≤ getD (g .from) (a + 1) 0
-  pub from-few : (a : ℕ) → getD (g .from) a 0 ≤ 4_096
+  pub from-few : (a : ℕ) → getD (g .from) a 0 ≤ Limit.BRANCHES
 
 -- At byte p stands the claim of the offer o, whole and valid, with the block that it enters, if it enters one, right before it.
 pub record ClaimAt (bs : List ℕ) (p : ℕ) (o : Offer) : Type 0 where
@@ -110,12 +112,12 @@ pub record ClaimAt (bs : List ℕ) (p : ℕ) (o : Offer) : Type 0 where
 -- The n-th of the branches r is the offer o.
 pub record BranchAt (bs : List ℕ) (r : Branches) (n : ℕ) (o : Offer) : Type 0 where
   pub claim-at : ClaimAt bs (getD (r .claim) n 0) o
-  pub resources-are : getD (r .resources) n 0 ≡ namedIn 0 (drop (getD (r .claim) n 0) bs)
-  pub bins-are : getD (r .bins) n 0 ≡ namedIn 1 (drop (getD (r .claim) n 0) bs)
-  pub syncs-are : getD (r .syncs) n 0 ≡ namedIn 2 (drop (getD (r .claim) n 0) bs)
+  pub resources-are : getD (r .resources) n 0 ≡ namedIn Item.GET_R (drop (getD (r .claim) n 0) bs)
+  pub bins-are : getD (r .bins) n 0 ≡ namedIn Item.GET_B (drop (getD (r .claim) n 0) bs)
+  pub syncs-are : getD (r .syncs) n 0 ≡ namedIn Item.GET_S (drop (getD (r .claim) n 0) bs)
 
 -- The branches of action a are the offers os.
 pub record BranchesAt (bs : List ℕ) (r : Branches) (a : ℕ) (os : List Offer) : Type 0 where
-  pub from-few : getD (r .from) a 0 + length os ≤ 4_096
+  pub from-few : getD (r .from) a 0 + length os ≤ Limit.BRANCHES
   pub to-is : getD (r .from) (a + 1) 0 ≡ getD (r .from) a 0 + length os
   pub each : (k : ℕ) (o : Offer) → getElem? os k ≡ some o → BranchAt bs r (getD (r .from) a 0 + k) o

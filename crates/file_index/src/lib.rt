@@ -8,8 +8,11 @@ ghost use Prim.Native.Nat.{_+_, _≤_, _<_};
 ghost use lib.Dec.{leb, eqb};
 ghost use lib.ListN.{length, getD};
 ghost use Rattle.semantics.specs.Words.{if_then_else_};
+ghost use Rattle.semantics.specs.Numbers as No;
+ghost use Rattle.semantics.specs.Kinds as K;
 ghost use Rattle.semantics.specs.Bytes.{u16, recordsFrom};
 ghost use Rattle.semantics.specs.Decode.{opened, gather};
+ghost use Rattle.base_numbers.specs.Byte as Byte;
 ghost use Rattle.file_index.specs.Index.{Readable, Judged, given, Wrote, indexOf, ownIn, timesIn, branchBlocks, Branched};
 ghost use Rattle.file_index.specs.Index.{goesIn, graphOf, loopsAt, loopsIn, countsIn};
 ghost use Rattle.file_index.specs.Branches.{bitOf, namedIn, Claimed, offered, offeredTry, offeredIn, rows, Roomy, Noted};
@@ -145,7 +148,7 @@ pub fn index_of(s: &[u8]) -> Index
 
 // The own weight of an action's kind; 0 of any other.
 fn own_weight(kind: u32) -> u16
-    ensures { λ r. ⌜ r ≡ (if leb 16 kind then ownIn kind else 0) ⌝ }
+    ensures { λ r. ⌜ r ≡ (if leb K.HOLD kind then ownIn kind else 0) ⌝ }
 {
     if kind::HOLD <= kind {
         let k = (kind - kind::HOLD) as usize;
@@ -158,7 +161,7 @@ fn own_weight(kind: u32) -> u16
 
 // How many times an action weighs what it names.
 fn times_of(kind: u32, bs: &[u8]) -> u16
-    requires { ⌜ (kind ≡ 20 → 4 ≤ length (now bs)) ⌝ }
+    requires { ⌜ (kind ≡ K.DO → 4 ≤ length (now bs)) ⌝ }
     ensures { λ r. ⌜ r ≡ timesIn kind (now (bs .entry)) ⌝ }
 {
     match kind {
@@ -335,7 +338,7 @@ fn branches_noted(
     syncs: &mut [u32],
 ) -> usize
     requires { ⌜ Judged kind (now bs) ⌝ }
-    requires { ⌜ at + length (now bs) ≤ 65535 ⌝ }
+    requires { ⌜ at + length (now bs) ≤ No.longestFile ⌝ }
     requires { ⌜ Roomy (n + length (offeredIn at kind (now bs))) (rows (now claim) (now resources) (now bins) (now syncs)) ⌝ }
     ensures { λ r. ⌜ Noted n (offeredIn at kind (now (bs .entry)))
         (rows (now (claim .entry)) (now (resources .entry)) (now (bins .entry)) (now (syncs .entry))) r
@@ -395,7 +398,7 @@ pub fn branches_of(s: &[u8]) -> Branches
 
 // Whether an action may loop, where `own` BLOCKs stand before it.
 fn may_loop(body: [u16; limit::CLASSES], own: u32, kind: u32, bs: &[u8]) -> bool
-    requires { ⌜ (kind ≡ 28 → 2 ≤ length (now bs)) ⌝ }
+    requires { ⌜ (kind ≡ K.START → 2 ≤ length (now bs)) ⌝ }
     ensures { λ r. ⌜ r ≡ loopsAt body own kind (now (bs .entry)) ⌝ }
 {
     match kind {
@@ -407,7 +410,7 @@ fn may_loop(body: [u16; limit::CLASSES], own: u32, kind: u32, bs: &[u8]) -> bool
 
 // How many BLOCKs stand before the next record.
 fn opened(own: u32, kind: u32) -> u32
-    requires { ⌜ own < 65536 ⌝ }
+    requires { ⌜ own < Byte.TWO ⌝ }
     ensures { λ r. ⌜ r ≡ opened own kind ⌝ }
 {
     if kind == kind::BLOCK { own + 1 } else { own }
@@ -436,7 +439,7 @@ pub fn loops(s: &[u8], body: [u16; limit::CLASSES]) -> bool
 
 // One more than n, if `on`.
 fn tally(n: usize, on: bool) -> usize
-    requires { ⌜ n ≤ 65535 ⌝ }
+    requires { ⌜ n ≤ No.longestFile ⌝ }
     ensures { λ r. ⌜ r ≡ n + (if on then 1 else 0) ⌝ }
 {
     if on { n + 1 } else { n }

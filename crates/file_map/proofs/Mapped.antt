@@ -12,6 +12,8 @@ use Rattle.semantics.specs.Decode.{accepted, decode}
 use Rattle.promises.specs.Laws.{all-at, some-in}
 use Rattle.promises.specs.Fit.{ActFit, Fit}
 use Rattle.promises.specs.Accepted.{accepted-fit}
+use Rattle.base_numbers.specs.Map as Map
+use Rattle.base_numbers.specs.Limit as Limit
 use Rattle.file_index.specs.Index.{indexOf}
 use Rattle.file_index.specs.Branches.{namedIn, branchesOf}
 use Rattle.file_index.specs.Ties.{ActionAt, Ties, ClaimAt, BranchAt}
@@ -52,32 +54,32 @@ module _ (bs : List ℕ) (m : Model) (e : decode bs ≡ accepted m) where
   sized = rows-sized bs (reads .readable)
 
   -- THE ROWS in the map.
-  first-at : (b : ℕ) → b ≤ 256 → getD words b 0 ≡ getD (i .first) b 0
+  first-at : (b : ℕ) → b ≤ Limit.BLOCKS → getD words b 0 ≡ getD (i .first) b 0
   first-at b h =
       let z : 0 + b ≡ b = omega arith in rw z at (map-at bs 0 0 b refl (omega (arith, sized .first)))
 
-  place-at : (a : ℕ) → a < 1_024 → getD words (257 + a) 0 ≡ getD (i .place) a 0
-  place-at a h = let s = sized in map-at bs 1 257 a (omega arith) (omega arith)
+  place-at : (a : ℕ) → a < Limit.ACTIONS → getD words (Map.PLACE + a) 0 ≡ getD (i .place) a 0
+  place-at a h = let s = sized in map-at bs 1 Map.PLACE a (omega arith) (omega arith)
 
-  body-at : (c : ℕ) → c < 64 → getD words (1_281 + c) 0 ≡ getD (i .body) c 0
-  body-at c h = let s = sized in map-at bs 2 1_281 c (omega arith) (omega arith)
+  body-at : (c : ℕ) → c < Limit.CLASSES → getD words (Map.BODY + c) 0 ≡ getD (i .body) c 0
+  body-at c h = let s = sized in map-at bs 2 Map.BODY c (omega arith) (omega arith)
 
-  from-at : (a : ℕ) → a ≤ 1_024 → getD words (1_345 + a) 0 ≡ getD (r .from) a 0
-  from-at a h = let s = sized in map-at bs 3 1_345 a (omega arith) (omega arith)
+  from-at : (a : ℕ) → a ≤ Limit.ACTIONS → getD words (Map.FROM + a) 0 ≡ getD (r .from) a 0
+  from-at a h = let s = sized in map-at bs 3 Map.FROM a (omega arith) (omega arith)
 
   -- ONE BRANCH, the n-th.
-  module _ (n : ℕ) (few : n < 4_096) where
+  module _ (n : ℕ) (few : n < Limit.BRANCHES) where
     claim-at : claimAt words n ≡ getD (r .claim) n 0
-    claim-at = let s = sized in map-at bs 4 2_370 n (omega arith) (omega arith)
+    claim-at = let s = sized in map-at bs 4 Map.CLAIM n (omega arith) (omega arith)
 
-    resources-at : getD words (6_466 + n) 0 ≡ getD (r .resources) n 0
-    resources-at = let s = sized in map-at bs 5 6_466 n (omega arith) (omega arith)
+    resources-at : getD words (Map.RESOURCES + n) 0 ≡ getD (r .resources) n 0
+    resources-at = let s = sized in map-at bs 5 Map.RESOURCES n (omega arith) (omega arith)
 
-    bins-at : getD words (10_562 + n) 0 ≡ getD (r .bins) n 0
-    bins-at = let s = sized in map-at bs 6 10_562 n (omega arith) (omega arith)
+    bins-at : getD words (Map.BINS + n) 0 ≡ getD (r .bins) n 0
+    bins-at = let s = sized in map-at bs 6 Map.BINS n (omega arith) (omega arith)
 
-    syncs-at : getD words (14_658 + n) 0 ≡ getD (r .syncs) n 0
-    syncs-at = let s = sized in map-at bs 7 14_658 n (omega arith) (omega arith)
+    syncs-at : getD words (Map.SYNCS + n) 0 ≡ getD (r .syncs) n 0
+    syncs-at = let s = sized in map-at bs 7 Map.SYNCS n (omega arith) (omega arith)
 
     module _ (o : Offer) (f : OfferFit m o) (b : BranchAt bs r n o) where
       named-are : (k : Kind) → namedIn (codeOf k) (drop (getD (r .claim) n 0) bs) ≡ maskOf k (o .claim)
@@ -109,7 +111,7 @@ module _ (bs : List ℕ) (m : Model) (e : decode bs ≡ accepted m) where
     block-in : b < length (m .blocks)
     block-in = some-in-some (m .blocks) b j x q
 
-    act-in : a < 1_024
+    act-in : a < Limit.ACTIONS
     act-in =
         omega (arith, some-in (block m b) j x q, ties .first-next b block-in, ties .first-few (b + 1))
 
@@ -119,7 +121,7 @@ module _ (bs : List ℕ) (m : Model) (e : decode bs ≡ accepted m) where
     act-fit : ActFit m x
     act-fit = all-at (ActFit m) (block m b) j x (fit .acts b) q
 
-    act-there : ActionAt bs (getD words (257 + (getD words b 0 + j)) 0) x
+    act-there : ActionAt bs (getD words (Map.PLACE + (getD words b 0 + j)) 0) x
     act-there = rw (same-first, place-at a act-in) (ties .acts-at b j x q)
 
     offers-there : OffersAt bs words a (offers x)
@@ -133,11 +135,11 @@ module _ (bs : List ℕ) (m : Model) (e : decode bs ≡ accepted m) where
           to-is = omega (arith, t .to-is);
           each = λ k o p.
               let n : ℕ = getD (r .from) a 0 + k in
-              let few : n < 4_096 = omega (arith, t .from-few, some-in (offers x) k o p) in
+              let few : n < Limit.BRANCHES = omega (arith, t .from-few, some-in (offers x) k o p) in
               rw f (offer-at n few o (all-at (OfferFit m) (offers x) k o (offers-fit m x act-fit) p) (t .each k o p));
         }
 
-  words-long : length words ≡ 18_754
+  words-long : length words ≡ Map.WORDS
   unfolding mapOf
   words-long = let s = sized in omega (arith, collect-length (λ row. row) (rowsOf i r))
 

@@ -18,6 +18,7 @@ use Rattle.semantics.specs.Record.{relationOf, itemOf, item, partsOf, claimIn}
 use Rattle.semantics.specs.Claim.{Offer, offers, sameKind}
 use Rattle.promises.specs.Laws.{AllOf, all-map, all-mapped}
 use Rattle.promises.specs.Fit.{declared, ItemFit, ClaimFit, BranchFit, ActFit, Fit}
+use Rattle.base_numbers.specs.Limit as Limit
 use Rattle.file_index.specs.Branches.{bitsOf, namedIn}
 use Rattle.file_map.specs.Map.{maskOf}
 
@@ -45,15 +46,15 @@ code-small sync = omega arith
 
 -- What an item names is numbered below 32.
 abbrev Small : Item → Type 0
-Small (get k i n) = i < 32
+Small (get k i n) = i < Limit.THINGS
 Small (condition i r v) = Unit {0}
 
 -- ONE ITEM, which names number v; those behind it make the bits x.
 module _ (k : Kind) (v x : ℕ) (is : Claim) (e : x ≡ maskOf k is) where
-  thing-bits : (l : Kind) (n : ℕ) → v < 32 →
-      bitOr (if eqb (codeOf l) (codeOf k) && ltb v 32 then 2 ^ v else 0) x ≡ maskOf k (get l v n ∷ is)
+  thing-bits : (l : Kind) (n : ℕ) → v < Limit.THINGS →
+      bitOr (if eqb (codeOf l) (codeOf k) && ltb v Limit.THINGS then 2 ^ v else 0) x ≡ maskOf k (get l v n ∷ is)
   unfolding maskOf
-  thing-bits l n h = rw (same-code k l, lt-ltb v 32 h, e) (go (sameKind k l))
+  thing-bits l n h = rw (same-code k l, lt-ltb v Limit.THINGS h, e) (go (sameKind k l))
     where
       go : (b : Bool) → bitOr (if b && true then 2 ^ v else 0) (maskOf k is) ≡ bitOr (if b then 2 ^ v else 0) (maskOf k is)
       go true = refl
@@ -62,7 +63,7 @@ module _ (k : Kind) (v x : ℕ) (is : Claim) (e : x ≡ maskOf k is) where
   -- t is the number of its kind
   item-bits : (t n : ℕ) (r : Relation) (y : ℤ) →
       Small (getD (get resource v n ∷ get bin v n ∷ get sync v n ∷ []) t (condition v r y)) →
-      bitOr (if eqb t (codeOf k) && ltb v 32 then 2 ^ v else 0) x
+      bitOr (if eqb t (codeOf k) && ltb v Limit.THINGS then 2 ^ v else 0) x
       ≡ maskOf k (getD (get resource v n ∷ get bin v n ∷ get sync v n ∷ []) t (condition v r y) ∷ is)
   unfolding maskOf
   item-bits zero n r y h = thing-bits resource n h
@@ -86,7 +87,7 @@ names-mask k bs h = bits-mask k (partsOf item bs) h
 -- A MODEL THAT FITS.
 module _ (m : Model) where
   module _ (f : Fit m) where
-    few-things : (k : Kind) → declared m k ≤ 32
+    few-things : (k : Kind) → declared m k ≤ Limit.THINGS
     few-things resource = f .few-totals
     few-things bin = f .few-amounts
     few-things sync = f .few-syncs

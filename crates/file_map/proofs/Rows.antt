@@ -8,6 +8,8 @@ use lib.Seq.{getD-append-add, sets}
 use Rattle.semantics.specs.Words.{collect}
 use Rattle.semantics.specs.Bytes.{recordsFrom}
 use Rattle.promises.specs.Laws.{over}
+use Rattle.base_numbers.specs.Map as Map
+use Rattle.base_numbers.specs.Limit as Limit
 use Rattle.file_index.specs.Index.{Readable, pad, Act, actsOf, firstsOf, bodiesOf, indexOf, runs}
 use Rattle.file_index.specs.Branches.{Offered, namedIn, offeredBy, branchesOf}
 use Rattle.file_index.specs.declared.Index.{Index}
@@ -19,14 +21,14 @@ use Rattle.file_map.specs.MapOf.{rowsOf, mapOf}
 
 -- HOW LONG each row is.
 pub record Sized (i : Index) (r : Branches) : Type 0 where
-  pub first : length (i .first) ≡ 257
-  pub place : length (i .place) ≡ 1_024
-  pub body : length (i .body) ≡ 64
-  pub from : length (r .from) ≡ 1_025
-  pub claim : length (r .claim) ≡ 4_096
-  pub resources : length (r .resources) ≡ 4_096
-  pub bins : length (r .bins) ≡ 4_096
-  pub syncs : length (r .syncs) ≡ 4_096
+  pub first : length (i .first) ≡ Limit.BLOCKS + 1
+  pub place : length (i .place) ≡ Limit.ACTIONS
+  pub body : length (i .body) ≡ Limit.CLASSES
+  pub from : length (r .from) ≡ Limit.ACTIONS + 1
+  pub claim : length (r .claim) ≡ Limit.BRANCHES
+  pub resources : length (r .resources) ≡ Limit.BRANCHES
+  pub bins : length (r .bins) ≡ Limit.BRANCHES
+  pub syncs : length (r .syncs) ≡ Limit.BRANCHES
 
 pad-long : (n : ℕ) (xs : List ℕ) → length xs ≤ n → length (pad n xs) ≡ n
 pad-long n xs h =
@@ -38,11 +40,11 @@ rows-sized bs e =
     let xs : List Act = actsOf (recordsFrom 0 bs) in
     let few = few-acts bs e in
     record {
-      first = pad-long 257 (firstsOf 0 (recordsFrom 0 bs)) (few-firsts bs e);
-      place = pad-long 1_024 (map (λ a. a .place) xs) (omega (arith, length-map xs (λ a. a .place)));
-      body = pad-long 64 (bodiesOf (recordsFrom 0 bs)) (few-bodies bs e);
+      first = pad-long (Limit.BLOCKS + 1) (firstsOf 0 (recordsFrom 0 bs)) (few-firsts bs e);
+      place = pad-long Limit.ACTIONS (map (λ a. a .place) xs) (omega (arith, length-map xs (λ a. a .place)));
+      body = pad-long Limit.CLASSES (bodiesOf (recordsFrom 0 bs)) (few-bodies bs e);
       from =
-          pad-long 1_025 (runs (λ a. length (offeredBy a)) 0 xs)
+          pad-long (Limit.ACTIONS + 1) (runs (λ a. length (offeredBy a)) 0 xs)
           (omega (arith, runs-count (λ a. length (offeredBy a)) 0 xs));
       claim = row (λ o. o .place);
       resources = row (λ o. namedIn 0 (o .bytes));
@@ -50,10 +52,10 @@ rows-sized bs e =
       syncs = row (λ o. namedIn 2 (o .bytes));
     }
   where
-    row : (f : Offered → ℕ) → length (pad 4_096 (map f (collect offeredBy (actsOf (recordsFrom 0 bs))))) ≡ 4_096
+    row : (f : Offered → ℕ) → length (pad Limit.BRANCHES (map f (collect offeredBy (actsOf (recordsFrom 0 bs))))) ≡ Limit.BRANCHES
     row f =
         let xs : List Offered = collect offeredBy (actsOf (recordsFrom 0 bs)) in
-        pad-long 4_096 (map f xs) (omega (arith, length-map xs f, few-offered bs e))
+        pad-long Limit.BRANCHES (map f xs) (omega (arith, length-map xs f, few-offered bs e))
 
 -- WHERE EACH BEGINS: behind all before it.
 row-at : (rows : List (List ℕ)) (k i : ℕ) → i < length (getD rows k []) →
@@ -82,21 +84,22 @@ lay-next : {base all out : List ℕ} {n : ℕ} (xs left : List ℕ) → Fills ba
 lay-next {base} {all} {out} {n} xs left f e k j =
     let x : Next base 0 all out n xs left = record { fills = f } in rw (e, ← j) (next-filled x)
 
-pub rows-laid : {i : Index} {r : Branches} → Sized i r → {a b c d e f g h : List ℕ} → a ≡ sets (zeros 18_754) 0 (i .first) →
-    b ≡ sets a 257 (i .place) → c ≡ sets b 1_281 (i .body) → d ≡ sets c 1_345 (r .from) → e ≡ sets d 2_370 (r .claim) →
-    f ≡ sets e 6_466 (r .resources) → g ≡ sets f 10_562 (r .bins) → h ≡ sets g 14_658 (r .syncs) →
+pub rows-laid : {i : Index} {r : Branches} → Sized i r → {a b c d e f g h : List ℕ} → a ≡ sets (zeros Map.WORDS) 0 (i .first) →
+    b ≡ sets a Map.PLACE (i .place) → c ≡ sets b Map.BODY (i .body) → d ≡ sets c Map.FROM (r .from)
+    → e ≡ sets d Map.CLAIM (r .claim) →
+    f ≡ sets e Map.RESOURCES (r .resources) → g ≡ sets f Map.BINS (r .bins) → h ≡ sets g Map.SYNCS (r .syncs) →
     h ≡ collect (λ row. row) (rowsOf i r)
 rows-laid {i} {r} s p₁ p₂ p₃ p₄ p₅ p₆ p₇ p₈ =
     let all : List ℕ = collect (λ row. row) (rowsOf i r) in
-    let l : length all ≡ 18_754 = omega (arith, collect-length (λ row. row) (rowsOf i r)) in
-    let f₀ = zeros-none 18_754 all all (omega arith) refl in
-    let f₁ = lay-next (i .first) _ f₀ p₁ 257 (omega (arith, s .first)) in
-    let f₂ = lay-next (i .place) _ f₁ p₂ 1_281 (omega (arith, s .place)) in
-    let f₃ = lay-next (i .body) _ f₂ p₃ 1_345 (omega (arith, s .body)) in
-    let f₄ = lay-next (r .from) _ f₃ p₄ 2_370 (omega (arith, s .from)) in
-    let f₅ = lay-next (r .claim) _ f₄ p₅ 6_466 (omega (arith, s .claim)) in
-    let f₆ = lay-next (r .resources) _ f₅ p₆ 10_562 (omega (arith, s .resources)) in
-    let f₇ = lay-next (r .bins) _ f₆ p₇ 14_658 (omega (arith, s .bins)) in
-    let f₈ = lay-next (r .syncs) [] f₇ p₈ 18_754 (omega (arith, s .syncs)) in
-    let z : 18_754 - length all ≡ 0 = omega arith in
-    zeros-filled 18_754 refl f₈ .1 ∙ ap (λ n. all ++ zeros n) z ∙ append-nil all
+    let l : length all ≡ Map.WORDS = omega (arith, collect-length (λ row. row) (rowsOf i r)) in
+    let f₀ = zeros-none Map.WORDS all all (omega arith) refl in
+    let f₁ = lay-next (i .first) _ f₀ p₁ Map.PLACE (omega (arith, s .first)) in
+    let f₂ = lay-next (i .place) _ f₁ p₂ Map.BODY (omega (arith, s .place)) in
+    let f₃ = lay-next (i .body) _ f₂ p₃ Map.FROM (omega (arith, s .body)) in
+    let f₄ = lay-next (r .from) _ f₃ p₄ Map.CLAIM (omega (arith, s .from)) in
+    let f₅ = lay-next (r .claim) _ f₄ p₅ Map.RESOURCES (omega (arith, s .claim)) in
+    let f₆ = lay-next (r .resources) _ f₅ p₆ Map.BINS (omega (arith, s .resources)) in
+    let f₇ = lay-next (r .bins) _ f₆ p₇ Map.SYNCS (omega (arith, s .bins)) in
+    let f₈ = lay-next (r .syncs) [] f₇ p₈ Map.WORDS (omega (arith, s .syncs)) in
+    let z : Map.WORDS - length all ≡ 0 = omega arith in
+    zeros-filled Map.WORDS refl f₈ .1 ∙ ap (λ n. all ++ zeros n) z ∙ append-nil all

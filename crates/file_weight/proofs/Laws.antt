@@ -12,6 +12,7 @@ use lib.ListN.{getD}
 use lib.Seq.{slice}
 use Rattle.semantics.specs.Words.{largest, sum}
 use Rattle.promises.specs.Laws.{AllOf, all-map}
+use Rattle.base_numbers.specs.Limit as Limit
 use Rattle.file_depth.specs.Deep.{Later, Graph, measuredAll}
 use Rattle.file_depth.proofs.Fuel.{at-distance}
 use Rattle.file_depth.proofs.Laws.{map-same, agree-later, all-slice, from-rises, named-later}
@@ -86,21 +87,21 @@ module _ (first from goes : List ℕ) (n : ℕ) (g : Graph first from goes n) wh
       (action-later (record { block = l; low = p; high = r }))
 
 -- THE CAP.
-product : (o r x : ℕ) (t : Bool) → leb x 4_294_967_297 ≡ t → cap (o + r * min x 4_294_967_297) ≡ cap (o + r * x)
-product o r x true h = let e : min x 4_294_967_297 ≡ x = omega (arith, leb-true x 4_294_967_297 h) in rw e
+product : (o r x : ℕ) (t : Bool) → leb x (Limit.OVER + 1) ≡ t → cap (o + r * min x (Limit.OVER + 1)) ≡ cap (o + r * x)
+product o r x true h = let e : min x (Limit.OVER + 1) ≡ x = omega (arith, leb-true x (Limit.OVER + 1) h) in rw e
 product o zero x false h = omega arith
 product o (suc r) x false h =
-    let more : 4_294_967_297 < x = leb-false x 4_294_967_297 h in
-    let e : min x 4_294_967_297 ≡ 4_294_967_297 = omega arith in rw e (omega arith)
+    let more : Limit.OVER + 1 < x = leb-false x (Limit.OVER + 1) h in
+    let e : min x (Limit.OVER + 1) ≡ Limit.OVER + 1 = omega arith in rw e (omega arith)
 
 tops : (w : ℕ → ℕ) (xs : List ℕ) →
-    largest (map (λ x. cap (w x) + 1) xs) ≡ min (largest (map (λ x. w x + 1) xs)) 4_294_967_297
+    largest (map (λ x. cap (w x) + 1) xs) ≡ min (largest (map (λ x. w x + 1) xs)) (Limit.OVER + 1)
 tops w [] = refl
 tops w (x ∷ xs) = omega (arith, tops w xs)
 
 -- What an action weighs, from what is told of the blocks that it goes to.
 module _ (s : Acts) (n a t : ℕ) (e : t ≡ largest (map (told s n) (s .goes a))) where
-  pub told-small : t ≤ 4_294_967_297
+  pub told-small : t ≤ Limit.OVER + 1
   told-small = omega (arith, tops (weightOf s n) (s .goes a))
 
   pub told-action : cap (s .own a + s .times a * t) ≡ cap (actionWeightOf s n a)

@@ -6,6 +6,7 @@ use mathlib.Core.List.{List, map}
 use native.Mathlib.Omega.{arith}
 use lib.ListN.{getD, set}
 use Rattle.semantics.specs.Words.{collect, sum}
+use Rattle.base_numbers.specs.Limit as Limit
 use Rattle.file_depth.specs.Deep.{Graph, Known, measuredAll}
 use Rattle.file_depth.proofs.Laws.{measured-step}
 use Rattle.file_depth.proofs.Loop.{Turn, ended}
@@ -22,7 +23,7 @@ pub record Sum (s : Acts) (n b end : ℕ) (old memo : List ℕ) (w a : ℕ) : Ty
   pub low : s .first b ≤ a
   pub high : a ≤ end
   pub last : end ≡ s .first (b + 1)
-  pub small : w ≤ 4_294_967_296
+  pub small : w ≤ Limit.OVER
   pub found : cap (w + sum (map (actionWeightOf s n) (run (end - a) a))) ≡ cap (sum (map (actionWeightOf s n) (actions s b)))
 
 module _ {s : Acts} {n b end : ℕ} {old : List ℕ} where
@@ -77,7 +78,7 @@ module _ {first from goes : List ℕ} {n b a : ℕ} (g : Graph first from goes n
   pub goes-rise : getD from a 0 ≤ getD from (a + 1) 0
   goes-rise = g .laid .climbs a numbered
 
-  pub goes-stop : getD from (a + 1) 0 ≤ 4096
+  pub goes-stop : getD from (a + 1) 0 ≤ Limit.BRANCHES
   goes-stop = g .laid .stops (a + 1) (omega (arith, numbered))
 
   module _ (own times : List ℕ) {end : ℕ} {old memo : List ℕ} {top k : ℕ}
@@ -86,7 +87,7 @@ module _ {first from goes : List ℕ} {n b a : ℕ} (g : Graph first from goes n
     action-next h = action-later first from goes n g s k (w .low) (omega (arith, w .last))
 
     module _ (h : end ≤ k) where
-      pub top-small : top ≤ 4_294_967_297
+      pub top-small : top ≤ Limit.OVER + 1
       top-small = told-small (actsIn first from goes own times) n a top (ended w h)
 
       pub action-ended : cap (getD own a 0 + getD times a 0 * top)

@@ -5,6 +5,7 @@ use mathlib.Core.List.{List, [], _∷_, map}
 use lib.ListN.{getD}
 use lib.Seq.{slice}
 use Rattle.semantics.specs.Words.{collect, largest, sum}
+use Rattle.base_numbers.specs.Limit as Limit
 use Rattle.file_depth.specs.Deep.{measuredAll, measured}
 
 -- k, k + 1, .. : j numbers.
@@ -40,7 +41,7 @@ actionWeightOf s n = actionWeight s (weightOf s n)
 
 -- The code knows a weight up to the least number that is OVER.
 abbrev pub cap : ℕ → ℕ
-cap x = min x 4_294_967_296
+cap x = min x Limit.OVER
 
 -- What it says of block b, and keeps in the memo, where 0 is "not yet": the weight and one.
 abbrev pub told : Acts → ℕ → ℕ → ℕ

@@ -4,13 +4,15 @@ ghost use mathlib.Core.Path.{_≡_};
 ghost use Prim.Native.Nat.{_+_, _≤_, _<_, max};
 ghost use lib.Dec.{eqb};
 ghost use lib.ListN.{getD};
+ghost use Rattle.base_numbers.specs.Limit as Limit;
+ghost use Rattle.base_numbers.specs.Byte as Byte;
 ghost use Rattle.file_depth.specs.Deep.{Graph, Known};
 ghost use Rattle.file_weight.specs.Weigh.{actionWeightOf, weightOf, cap, told, weighed, actionWeighed};
 ghost use Rattle.file_weight.specs.Weigh.{actsIn, Stands};
 use base_numbers::limit;
 
 fn long(x: u16) -> u64
-    ensures { λ r. ⌜ (r ≡ x) × (r ≤ 65535) ⌝ }
+    ensures { λ r. ⌜ (r ≡ x) × (r < Byte.TWO) ⌝ }
 {
     x as u64
 }
@@ -29,7 +31,7 @@ fn capped(x: u64) -> u64
 
 // Whether action a goes nowhere by `plain`, which is `from` without the STARTs.
 fn starts(plain: &[u16; limit::ACTIONS + 1], a: usize) -> bool
-    requires { ⌜ a < 1024 ⌝ }
+    requires { ⌜ a < Limit.ACTIONS ⌝ }
     ensures { λ r. ⌜ r ≡ eqb (getD (now (plain .entry)) a 0) (getD (now (plain .entry)) (a + 1) 0) ⌝ }
 {
     base_wide::short_index(plain[a]) == base_wide::short_index(plain[a + 1])

@@ -5,6 +5,7 @@ use mathlib.Core.Path.{_≡_, sym, _∙_, ap}
 use mathlib.Core.List.{List, [], map}
 use lib.ListN.{length, getD, set}
 use Rattle.semantics.specs.State.{State, process, freePlace, with-last, wake}
+use Rattle.base_numbers.specs.Row as Row
 use Rattle.row_work.specs.Work.{workOf, Sized, Doing, Done}
 use Rattle.row_work.specs.Shown.{work-long}
 use Rattle.row_work.specs.Places.{last-at, last-set}
@@ -16,7 +17,7 @@ module _ (b t : ℕ) {w : List ℕ} (d : Doing w Roomy (λ s. begins b t s)) whe
   abbrev s : State
   s = d .is
 
-  pub is-long : length w ≡ 10_696
+  pub is-long : length w ≡ Row.WORDS
   is-long = ap length (d .shows) ∙ work-long s (d .before)
 
   pub last-is : getD w 2 0 ≡ s .last

@@ -5,8 +5,13 @@ use mathlib.Core.Path.{_≡_, refl, sym, _∙_, ap}
 use mathlib.Core.List.{List, [], _∷_, _++_, map}
 use lib.ListN.{length, set, take, drop, replicate, length-map, length-take, length-drop, length-set}
 use lib.Seq.{drop-at}
+use Rattle.semantics.specs.Numbers as No
 use Rattle.semantics.specs.State.{Process, nobody}
 use Rattle.promises.specs.Laws.{AllOf}
+use Rattle.base_numbers.specs.Process as Process
+use Rattle.base_numbers.specs.Limit as Limit
+use Rattle.base_numbers.specs.Word as Word
+use Rattle.base_numbers.specs.Code as Code
 use Rattle.base_i32.specs.Code.{code}
 use Rattle.base_ordered.specs.Lines.{pad}
 use Rattle.row_work.specs.Laid.{laid}
@@ -35,36 +40,43 @@ part-filled xs o n v ys l e =
 
 -- ONE LEAVES: number, priority, block and locals go, and nothing else is there.
 module _ (q : Process) (h : ProcessSized q) (l : Leaves q) where
-  behind-locals : drop 12 (processRow q) ≡ replicate 32 0 ++ (frameWord (l .in-body) ∷ replicate 83 0)
+  behind-locals : drop Process.HELD (processRow q)
+      ≡ replicate Limit.THINGS 0 ++ (frameWord (l .in-body) ∷ replicate (Limit.DEPTH - 1 + Process.OWNED_MOST) 0)
   unfolding processRow laid stacked
   behind-locals =
-      drop-at (pad 8 (map code (q .locals))) _ 8 (row-length 8 code (q .locals) (h .locals-few))
-      ∙ ap (λ r. r ++ (pad 8 (stacked (q .frames)) ++ (pad 76 (map slaveWord (q .slaves)) ++ [])))
-      (zeros-padded 32 (q .held) (l .held-none) (h .held-few))
-      ∙ ap (λ f. replicate 32 0 ++ (pad 8 (stacked f) ++ (pad 76 (map slaveWord (q .slaves)) ++ []))) (l .frames-are)
-      ∙ ap (λ x. replicate 32 0 ++ (frameWord (l .in-body) ∷ (replicate 7 0 ++ (pad 76 (map slaveWord x) ++ []))))
+      drop-at (pad No.locals (map code (q .locals))) _ No.locals (row-length No.locals code (q .locals) (h .locals-few))
+      ∙ ap (λ r. r ++ (pad Limit.DEPTH (stacked (q .frames)) ++ (pad Process.OWNED_MOST (map slaveWord (q .slaves)) ++ [])))
+      (zeros-padded Limit.THINGS (q .held) (l .held-none) (h .held-few))
+      ∙ ap (λ f. replicate Limit.THINGS 0 ++
+      (pad Limit.DEPTH (stacked f) ++ (pad Process.OWNED_MOST (map slaveWord (q .slaves)) ++ []))) (l .frames-are)
+      ∙ ap (λ x. replicate Limit.THINGS 0 ++
+      (frameWord (l .in-body) ∷ (replicate (Limit.DEPTH - 1) 0 ++ (pad Process.OWNED_MOST (map slaveWord x) ++ []))))
       (l .slaves-none)
 
-  left-empty : set (set (replaced (processRow q) 0 12 (replicate 12 0)) 1 2_147_483_648) 44 0 ≡ processRow nobody
+  left-empty : set (set (replaced (processRow q) Process.NUMBER Process.HELD
+      (replicate Process.HELD 0)) Process.PRIORITY Code.ZERO) Process.BLOCKS 0 ≡ processRow nobody
   unfolding processRow laid stacked code
-  left-empty = ap (λ r. set (set (replicate 12 0 ++ r) 1 2_147_483_648) 44 0) behind-locals
+  left-empty = ap (λ r. set (set (replicate Process.HELD 0 ++ r) Process.PRIORITY Code.ZERO) Process.BLOCKS 0) behind-locals
 
-pub leaving-long : {row : List ℕ} → Leaving row → length row ≡ 128
+pub leaving-long : {row : List ℕ} → Leaving row → length row ≡ Process.WORDS
 leaving-long d = ap length (d .shows) ∙ process-long (d .who) (d .sized)
 
-module _ {row : List ℕ} (d : Leaving row) {ys : List ℕ} (e : ys ≡ replicate (length (take 12 (drop 0 row))) 0) where
-  cleared : ys ≡ replicate 12 0
-  cleared = let a = leaving-long d in part-filled row 0 12 0 ys (omega arith) e
+module _ {row : List ℕ} (d : Leaving row) {ys : List ℕ}
+    (e : ys ≡ replicate (length (take Process.HELD (drop Process.NUMBER row))) 0) where
+  cleared : ys ≡ replicate Process.HELD 0
+  cleared = let a = leaving-long d in part-filled row Process.NUMBER Process.HELD 0 ys (omega arith) e
 
-  pub vacated-long : length (replaced row 0 12 ys) ≡ 128
+  pub vacated-long : length (replaced row Process.NUMBER Process.HELD ys) ≡ Process.WORDS
   vacated-long =
       let a = leaving-long d in
-      whole-long row 0 12 ys (omega arith) (ap length cleared) ∙ a
+      whole-long row Process.NUMBER Process.HELD ys (omega arith) (ap length cleared) ∙ a
 
-  pub vacated : set (set (replaced row 0 12 ys) 1 2_147_483_648) 44 0 ≡ processRow nobody
+  pub vacated : set (set (replaced row Process.NUMBER Process.HELD ys) Process.PRIORITY Code.ZERO) Process.BLOCKS 0
+      ≡ processRow nobody
   vacated =
-      ap (λ l. set (set (replaced row 0 12 l) 1 2_147_483_648) 44 0) cleared
-      ∙ ap (λ r. set (set (replaced r 0 12 (replicate 12 0)) 1 2_147_483_648) 44 0) (d .shows)
+      ap (λ l. set (set (replaced row Process.NUMBER Process.HELD l) Process.PRIORITY Code.ZERO) Process.BLOCKS 0) cleared
+      ∙ ap (λ r. set (set (replaced r Process.NUMBER Process.HELD
+      (replicate Process.HELD 0)) Process.PRIORITY Code.ZERO) Process.BLOCKS 0) (d .shows)
       ∙ left-empty (d .who) (d .sized) (d .leaves)
 
 -- ONE COMES: whatever resources there are, it holds nothing.
@@ -72,41 +84,44 @@ abbrev pub named : List ℕ → ℕ → List ℕ
 named row n = set (set row 0 n) 2 1
 
 standing : (n b : ℕ)
-    → set (replaced (named (processRow nobody) n) 4 8 (replicate 8 2_147_483_648)) 44 (b + 4_294_967_296)
+    → set (replaced (named (processRow nobody) n) Process.LOCALS No.locals (replicate No.locals Code.ZERO)) Process.BLOCKS
+    (b + Word.ROUND)
     ≡ processRow (newcomerIn n b [])
 unfolding processRow laid stacked code
 standing n b = refl
 
 module _ {row : List ℕ} {b : ℕ} (d : Vacant row b) (n : ℕ) where
-  pub vacant-long : length row ≡ 128
+  pub vacant-long : length row ≡ Process.WORDS
   unfolding processRow laid stacked
   vacant-long = ap length (d .shows)
 
-  pub named-long : length (named row n) ≡ 128
+  pub named-long : length (named row n) ≡ Process.WORDS
   named-long = length-set (set row 0 n) 2 1 ∙ length-set row 0 n ∙ vacant-long
 
-  module _ {ys : List ℕ} (e : ys ≡ replicate (length (take 8 (drop 4 (named row n)))) 2_147_483_648) where
-    free-locals : ys ≡ replicate 8 2_147_483_648
-    free-locals = let a = named-long in part-filled (named row n) 4 8 2_147_483_648 ys (omega arith) e
+  module _ {ys : List ℕ} (e : ys ≡ replicate (length (take No.locals (drop Process.LOCALS (named row n)))) Code.ZERO) where
+    free-locals : ys ≡ replicate No.locals Code.ZERO
+    free-locals = let a = named-long in part-filled (named row n) Process.LOCALS No.locals Code.ZERO ys (omega arith) e
 
-    pub furnished-long : length (replaced (named row n) 4 8 ys) ≡ 128
+    pub furnished-long : length (replaced (named row n) Process.LOCALS No.locals ys) ≡ Process.WORDS
     furnished-long =
         let a = named-long in
-        whole-long (named row n) 4 8 ys (omega arith) (ap length free-locals) ∙ a
+        whole-long (named row n) Process.LOCALS No.locals ys (omega arith) (ap length free-locals) ∙ a
 
-    pub furnished : set (replaced (named row n) 4 8 ys) 44 (b + 4_294_967_296) ≡ processRow (newcomerIn n b [])
+    pub furnished : set (replaced (named row n) Process.LOCALS No.locals ys) Process.BLOCKS (b + Word.ROUND)
+        ≡ processRow (newcomerIn n b [])
     furnished =
-        ap (λ l. set (replaced (named row n) 4 8 l) 44 (b + 4_294_967_296)) free-locals
-        ∙ ap (λ r. set (replaced (named r n) 4 8 (replicate 8 2_147_483_648)) 44 (b + 4_294_967_296)) (d .shows)
+        ap (λ l. set (replaced (named row n) Process.LOCALS No.locals l) Process.BLOCKS (b + Word.ROUND)) free-locals
+        ∙ ap (λ r. set (replaced (named r n) Process.LOCALS No.locals (replicate No.locals Code.ZERO)) Process.BLOCKS
+        (b + Word.ROUND)) (d .shows)
         ∙ standing n b
 
-pub holds-nothing : (n b : ℕ) (xs : List ℕ) → length xs ≤ 32
+pub holds-nothing : (n b : ℕ) (xs : List ℕ) → length xs ≤ Limit.THINGS
     → processRow (newcomerIn n b []) ≡ processRow (newcomerIn n b (map (λ x. 0) xs))
 unfolding processRow
 holds-nothing n b xs l =
     let ns : List ℕ = map (λ x. 0) xs in
     let k : length ns ≡ length xs = length-map xs (λ x. 0) in
-    sym (ap (λ r. laid (set (processParts (newcomerIn n b [])) 2 r)) (zeros-padded 32 ns (zeros xs) (omega arith)))
+    sym (ap (λ r. laid (set (processParts (newcomerIn n b [])) 2 r)) (zeros-padded Limit.THINGS ns (zeros xs) (omega arith)))
   where
     zeros : (ys : List ℕ) → AllOf {A = ℕ} (λ x. x ≡ 0) (map (λ x. 0) ys)
     zeros [] = tt

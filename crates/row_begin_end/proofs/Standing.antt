@@ -7,8 +7,11 @@ use mathlib.Core.Bool.{true, false}
 use lib.ListN.{length, getD, set, take, drop}
 use lib.Seq.{getD-set-same}
 use Rattle.semantics.specs.Words.{firstAt}
+use Rattle.semantics.specs.Numbers as No
 use Rattle.semantics.specs.State.{State, Process, nobody, process, put, freePlace, isFree}
 use Rattle.promises.specs.Laws.{all-get}
+use Rattle.base_numbers.specs.Row as Row
+use Rattle.base_numbers.specs.Process as Process
 use Rattle.base_places.specs.Places.{livingOf, Shows}
 use Rattle.row_work.specs.Laid.{laid}
 use Rattle.row_work.specs.Work.{processRow, workOf, ProcessSized, Sized, Doing}
@@ -20,16 +23,16 @@ use Rattle.row_begin_end.proofs.Rows.{holds-nothing}
 
 -- Where the row of place p stands, and how long it is, as the code computes it.
 abbrev from : ℕ → ℕ
-from p = 2_504 + 128 * p
+from p = Row.PROCESSES + Process.WORDS * p
 
 abbrev wide : ℕ → ℕ
-wide p = from p + 128 - from p
+wide p = from p + Process.WORDS - from p
 
-row-wide : (p : ℕ) → wide p ≡ 128
+row-wide : (p : ℕ) → wide p ≡ Process.WORDS
 row-wide p = omega arith
 
 module _ (w : List ℕ) (s : State) (shows : w ≡ workOf s) (h : Sized s) where
-  long : length w ≡ 10_696
+  long : length w ≡ Row.WORDS
   long = ap length shows ∙ work-long s h
 
   living-shown : Shows (getD w 4 0) (s .processes)
@@ -37,29 +40,29 @@ module _ (w : List ℕ) (s : State) (shows : w ≡ workOf s) (h : Sized s) where
   living-shown = record { places = h .places-64; digits = ap (λ l. getD l 4 0) shows }
 
   -- ANOTHER PROCESS in place p.
-  module _ (p : ℕ) (in-places : p < 64) where
+  module _ (p : ℕ) (in-places : p < No.places) where
     sized : ProcessSized (process s p)
     sized = all-get ProcessSized (s .processes) p nobody (h .processes-ok) (let a = h .places-64 in omega arith)
 
     row-is : take (wide p) (drop (from p) w) ≡ processRow (process s p)
     row-is =
         ap (λ k. take k (drop (from p) w)) (row-wide p)
-        ∙ ap (λ l. take 128 (drop (from p) l)) shows
+        ∙ ap (λ l. take Process.WORDS (drop (from p) l)) shows
         ∙ place-part s h p in-places
 
     module _ (q : Process) (ys : List ℕ) (e : ys ≡ processRow q) where
-      changed-long : length (processRow q) ≡ 128 → length (replaced w (from p) (wide p) ys) ≡ 10_696
+      changed-long : length (processRow q) ≡ Process.WORDS → length (replaced w (from p) (wide p) ys) ≡ Row.WORDS
       changed-long l =
           let a = long in
-          let b : length ys ≡ 128 = ap length e ∙ l in
-          ap (λ k. length (replaced w (from p) k ys)) (row-wide p) ∙ whole-long w (from p) 128 ys (omega arith) b ∙ a
+          let b : length ys ≡ Process.WORDS = ap length e ∙ l in
+          ap (λ k. length (replaced w (from p) k ys)) (row-wide p) ∙ whole-long w (from p) Process.WORDS ys (omega arith) b ∙ a
 
       changed : (n : ℕ) → n ≡ livingOf (set (s .processes) p q)
           → set (replaced w (from p) (wide p) ys) 4 n ≡ workOf (put p q s)
       changed n l =
           ap (λ k. set (replaced w (from p) k ys) 4 n) (row-wide p)
-          ∙ ap (λ r. set (replaced w (from p) 128 r) 4 n) e
-          ∙ ap (λ r. set (replaced r (from p) 128 (processRow q)) 4 n) shows
+          ∙ ap (λ r. set (replaced w (from p) Process.WORDS r) Row.LIVING n) e
+          ∙ ap (λ r. set (replaced r (from p) Process.WORDS (processRow q)) Row.LIVING n) shows
           ∙ place-replaced s h p in-places q n l
 
 -- ONE ENDS in place p.
@@ -67,7 +70,7 @@ module _ {p : ℕ} {w : List ℕ} (d : Doing w (Ending p) (λ s. put p nobody s)
   abbrev ending : Process
   ending = process (d .is) p
 
-  pub end-long : length w ≡ 10_696
+  pub end-long : length w ≡ Row.WORDS
   end-long = long w (d .is) (d .shows) (d .before)
 
   pub leaving : Leaving (take (wide p) (drop (from p) w))
@@ -80,7 +83,7 @@ module _ {p : ℕ} {w : List ℕ} (d : Doing w (Ending p) (λ s. put p nobody s)
       }
 
   module _ {ys : List ℕ} (e : ys ≡ processRow nobody) where
-    pub ended-long : length (replaced w (from p) (wide p) ys) ≡ 10_696
+    pub ended-long : length (replaced w (from p) (wide p) ys) ≡ Row.WORDS
     ended-long =
         changed-long w (d .is) (d .shows) (d .before) p (d .given .in-places) nobody ys e
         (process-long nobody (omega arith))
@@ -100,14 +103,14 @@ module _ (n b : ℕ) {w : List ℕ} (d : Doing w Roomy (λ s. comes n b s)) wher
   abbrev new : Process
   new = newcomerIn n b (map (λ x. 0) (s .free))
 
-  pub come-long : length w ≡ 10_696
+  pub come-long : length w ≡ Row.WORDS
   come-long = long w s (d .shows) (d .before)
 
   module _ {p : ℕ} (first : (ps : List Process) → Shows (getD w 4 0) ps → p ≡ firstAt isFree ps) where
     pub lowest-free : p ≡ freePlace s
     lowest-free = first (s .processes) (living-shown w s (d .shows) (d .before))
 
-    pub in-places : p < 64
+    pub in-places : p < No.places
     in-places = let a = d .given .in-places in omega (arith, lowest-free)
 
     new-sized : ProcessSized new
@@ -131,7 +134,7 @@ module _ (n b : ℕ) {w : List ℕ} (d : Doing w Roomy (λ s. comes n b s)) wher
       holding : ys ≡ processRow new
       holding = e ∙ holds-nothing n b (s .free) (d .before .free-few)
 
-      pub came-long : length (replaced w (from p) (wide p) ys) ≡ 10_696
+      pub came-long : length (replaced w (from p) (wide p) ys) ≡ Row.WORDS
       came-long = changed-long w s (d .shows) (d .before) p in-places new ys holding (process-long new new-sized)
 
       pub came : {m : ℕ}

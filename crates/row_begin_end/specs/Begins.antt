@@ -7,6 +7,7 @@ use lib.IntN.{pos}
 use Rattle.semantics.specs.Numbers as No
 use Rattle.semantics.specs.State.{State, Process, Frame, nobody, process, put, freePlace, with-last, wake}
 use Rattle.promises.specs.Laws.{AllOf}
+use Rattle.base_numbers.specs.Limit as Limit
 use Rattle.row_work.specs.Work.{processRow, ProcessSized, Doing}
 
 -- AN END. It is in its class body alone, holds nothing and has no slaves.
@@ -17,7 +18,7 @@ pub record Leaves (q : Process) : Type 0 where
   pub slaves-none : q .slaves ≡ []
 
 pub record Ending (p : ℕ) (s : State) : Type 0 where
-  pub in-places : p < 64
+  pub in-places : p < No.places
   pub leaves : Leaves (process s p)
 
 -- The row of one who leaves.
@@ -41,7 +42,7 @@ newcomerIn n b h =
 
 -- There is a free place, and it is empty.
 pub record Roomy (s : State) : Type 0 where
-  pub in-places : freePlace s < 64
+  pub in-places : freePlace s < No.places
   pub vacant : process s (freePlace s) ≡ nobody
 
 abbrev pub comes : ℕ → ℕ → State → State
@@ -50,7 +51,7 @@ comes n b s = put (freePlace s) (newcomerIn n b (map (λ x. 0) (s .free))) s
 -- The row of a free place, for one who stands in block b.
 pub record Vacant (row : List ℕ) (b : ℕ) : Type 0 where
   pub shows : row ≡ processRow nobody
-  pub block-low : b < 256
+  pub block-low : b < Limit.BLOCKS
 
 -- ONE MORE is numbered one above the last given, comes, and enters at time t.
 abbrev pub numbered : ℕ → State → State

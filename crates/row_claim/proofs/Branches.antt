@@ -10,6 +10,8 @@ use lib.ListN.{length, getD, drop, getElem?}
 use Rattle.semantics.specs.State.{State}
 use Rattle.semantics.specs.Claim.{Offer, goes, met, firstMet}
 use Rattle.promises.specs.Laws.{all-at, drop-some, drop-none}
+use Rattle.base_numbers.specs.Map as Map
+use Rattle.base_numbers.specs.Limit as Limit
 use Rattle.row_claim.specs.Asking.{ClaimAt, Meeting, Asking}
 use Rattle.row_claim.specs.Choices.{choiceIn}
 use Rattle.row_claim.specs.declared.Choice.the-variants.{Waits, Goes}
@@ -45,13 +47,13 @@ module _ (bs map w : List ℕ) (a : ℕ) (v : Asking bs map w a) where
   FirstFrom k = firstMet (v .is) 0 (v .asks) ≡ firstMet (v .is) k (drop k (v .asks))
 
   -- Where the map has its branches.
-  module _ (from to : ℕ) (p : from ≡ getD map (1_345 + a) 0) (q : to ≡ getD map (1_345 + (a + 1)) 0) where
+  module _ (from to : ℕ) (p : from ≡ getD map (Map.FROM + a) 0) (q : to ≡ getD map (Map.FROM + (a + 1)) 0) where
     pub many-are : to ≡ from + length (v .asks)
     many-are =
         let t = v .asks-at .to-is in
         omega (arith, t)
 
-    pub few-are : to ≤ 4_096
+    pub few-are : to ≤ Limit.BRANCHES
     few-are = let m = many-are in let f = v .asks-at .from-few in omega (arith, f)
 
     pub none-met : (k : ℕ) → to - from ≤ k → FirstFrom k → Waits ≡ choiceIn (firstMet (v .is) 0 (v .asks))
@@ -76,11 +78,11 @@ module _ (bs map w : List ℕ) (a : ℕ) (v : Asking bs map w a) where
       onward : drop k (v .asks) ≡ offer ∷ drop (k + 1) (v .asks)
       onward = drop-some (v .asks) k offer offer-is
 
-      module _ (at : ℕ) (s : at ≡ getD map (2_370 + (from + k)) 0) where
+      module _ (at : ℕ) (s : at ≡ getD map (Map.CLAIM + (from + k)) 0) where
         claim-there : ClaimAt bs at (offer .claim)
         claim-there =
             let o = v .asks-at .each k offer offer-is in
-            rw (s ∙ ap (λ j. getD map (2_370 + (j + k)) 0) p)
+            rw (s ∙ ap (λ j. getD map (Map.CLAIM + (j + k)) 0) p)
             (record { inside = o .inside; items-few = o .items-few; items-valid = o .items-valid; claim-is = o .claim-is })
 
         pub its-claim : Meeting bs at w

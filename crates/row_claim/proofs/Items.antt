@@ -13,6 +13,8 @@ use Rattle.semantics.specs.Record.{relationOf, itemOf}
 use Rattle.semantics.specs.Claim.{holds, itemMet}
 use Rattle.promises.specs.Laws.{all-get}
 use Rattle.promises.specs.Fit.{ItemFit, I32}
+use Rattle.base_numbers.specs.Row as Row
+use Rattle.base_numbers.specs.Limit as Limit
 use Rattle.base_i32.specs.Code.{code, valueOf}
 use Rattle.base_i32.specs.Laws.{valueOf-code}
 use Rattle.row_work.specs.Work.{workOf}
@@ -20,14 +22,14 @@ use Rattle.row_work.specs.Shown.{work-long, free-at, bins-at, globals-at, count
 use Rattle.row_claim.specs.Items.{rowOf, MeetingItem}
 
 -- What is none of the first three kinds is a condition.
-pub else-variables : (k : ℕ) → 2 < k → rowOf k ≡ 72
+pub else-variables : (k : ℕ) → 2 < k → rowOf k ≡ Row.GLOBALS
 else-variables zero h = absurd (omega arith)
 else-variables (suc zero) h = absurd (omega arith)
 else-variables (suc (suc zero)) h = absurd (omega arith)
 else-variables (suc (suc (suc k))) h = refl
 
 module _ (i w : List ℕ) (d : MeetingItem i w) where
-  pub is-long : length w ≡ 10_696
+  pub is-long : length w ≡ Row.WORDS
   is-long = ap length (d .shows) ∙ work-long (d .is) (d .sized)
 
   -- The item, were k its kind: the item that it is has kind u8 i 0.
@@ -37,13 +39,13 @@ module _ (i w : List ℕ) (d : MeetingItem i w) where
       k
       (condition (u16 i 2) (relationOf (u8 i 1)) (i32 i 4))
 
-  low : (k : ℕ) → ItemFit (d .model) (ofKind k) → u16 i 2 < 32
+  low : (k : ℕ) → ItemFit (d .model) (ofKind k) → u16 i 2 < Limit.THINGS
   low zero h = omega (arith, h .0, d .sized .free-few, d .declares .frees-many)
   low (suc zero) h = omega (arith, h .0, d .sized .bins-few, d .declares .bins-many)
   low (suc (suc zero)) h = omega (arith, h .0, d .sized .syncs-few, d .declares .syncs-many)
   low (suc (suc (suc k))) h = omega (arith, h .0, d .sized .globals-few, d .declares .vars-many)
 
-  pub number-low : u16 i 2 < 32
+  pub number-low : u16 i 2 < Limit.THINGS
   number-low = low (u8 i 0) (d .fits)
 
   -- What stands at its number in the row of its kind, as the work shows it.

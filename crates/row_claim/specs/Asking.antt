@@ -12,6 +12,8 @@ use Rattle.semantics.specs.State.{State}
 use Rattle.semantics.specs.Claim.{Offer}
 use Rattle.promises.specs.Laws.{AllOf}
 use Rattle.promises.specs.Fit.{ItemFit}
+use Rattle.base_numbers.specs.Map as Map
+use Rattle.base_numbers.specs.Limit as Limit
 use Rattle.row_work.specs.Work.{workOf, Sized}
 use Rattle.file_map.specs.Map.{OffersAt}
 
@@ -47,8 +49,8 @@ pub record Asking (bs map w : List ℕ) (a : ℕ) : Type 0 where
   pub shows : w ≡ workOf is
   pub sized : Sized is
   pub declares : Declares model is
-  pub long : length map ≡ 18_754
-  pub few : a < 1_024
+  pub long : length map ≡ Map.WORDS
+  pub few : a < Limit.ACTIONS
   pub asks : List Offer
   pub asks-at : OffersAt bs map a asks
   pub asks-fit : AllOf (λ o. AllOf (ItemFit model) (o .claim)) asks

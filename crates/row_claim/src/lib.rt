@@ -4,6 +4,8 @@ ghost use Prim.Native.Nat.{_+_, _≤_, _<_};
 ghost use lib.ListN.{length, getD};
 ghost use Rattle.semantics.specs.Record.{relationOf, itemOf};
 ghost use Rattle.semantics.specs.Claim.{holds, itemMet, met, firstMet};
+ghost use Rattle.base_numbers.specs.Row as Row;
+ghost use Rattle.base_numbers.specs.Limit as Limit;
 ghost use Rattle.base_i32.specs.Code.{valueOf};
 ghost use Rattle.row_claim.specs.Asking.{Meeting, Asking};
 ghost use Rattle.row_claim.specs.Choices.{choiceIn};
@@ -35,7 +37,7 @@ fn holds(relation: u32, x: u64, y: u64) -> bool
 
 // Where the row begins that an item of this kind is looked up in: what is free, the bins, how many wait, the variables.
 fn row_of(kind: u32) -> usize
-    ensures { λ r. ⌜ (r ≡ rowOf kind) × (r ≤ 104) ⌝ }
+    ensures { λ r. ⌜ (r ≡ rowOf kind) × (r ≤ Row.WAITS) ⌝ }
 {
     match kind {
         item::GET_R => row::FREE,
@@ -47,7 +49,7 @@ fn row_of(kind: u32) -> usize
 
 // What the work has at this number of the row.
 fn there(w: &[u64], kind: u32, number: u32) -> u64
-    requires { ⌜ (length (now w) ≡ 10696) × (number < 32) ⌝ }
+    requires { ⌜ (length (now w) ≡ Row.WORDS) × (number < Limit.THINGS) ⌝ }
     ensures { λ r. ⌜ r ≡ getD (now (w .entry)) (rowOf kind + number) 0 ⌝ }
 {
     let row = row_of(kind);

@@ -10,6 +10,7 @@ use Rattle.semantics.specs.Words.{if_then_else_, insert}
 use Rattle.semantics.specs.State.{State, Event, enter, sooner}
 use Rattle.promises.specs.Laws.{AllOf, all-map}
 use Rattle.base_numbers.specs.Row as Row
+use Rattle.base_numbers.specs.Byte as Byte
 use Rattle.base_ordered.specs.Lines.{inserted, placeOf, eventKey}
 use Rattle.base_ordered.specs.Order.{Keyed, insert-placed, insert-length, sooner-key, event-below, event-key-low}
 use Rattle.base_ordered.specs.Shown.{placed}
@@ -39,7 +40,7 @@ module _ {w : List ℕ} {key word : ℕ} (d : Entering w key word) where
   unfolding enter
   is-sized = inserted-has EventSized sooner e (s .events) (d .doing .after .events-ok)
 
-  pub key-low : key + 1 < 18_446_744_073_709_551_616
+  pub key-low : key + 1 < Byte.EIGHT
   key-low = omega (arith, d .key-is, event-key-low e (is-sized .time-low))
 
   keyed : Keyed sooner eventKey e (s .events)

@@ -9,6 +9,7 @@ use lib.Dec.{eqb, leb}
 use lib.ListN.{length, getD, drop, getElem?, length-take, length-drop, length-map}
 use lib.Seq.{getD-take, getD-drop}
 use Rattle.semantics.specs.Words.{any}
+use Rattle.semantics.specs.Kinds as K
 use Rattle.semantics.specs.Model.{Branch, Action, HOLD, PRIO, TRACE, SET, LSET, DO, PUTR, PUTB, PUTS, BECOME, REQ, TRY, WHILE}
 use Rattle.semantics.specs.Model.{START, CLOSE, kindOf}
 use Rattle.semantics.specs.Bytes.{u16}
@@ -97,13 +98,13 @@ module _ {bs : List ℕ} {p : ℕ} {x : Action} (a : ActionAt bs p x) where
         let h = byte-at 3 (omega arith) ∙ ap (λ j. getD bs j 0) f in
         omega arith
 
-pub do-inside : {bs : List ℕ} {p : ℕ} {x : Action} → ActionAt bs p x → kindAt bs p ≡ 20 → p + 8 ≤ length bs
+pub do-inside : {bs : List ℕ} {p : ℕ} {x : Action} → ActionAt bs p x → kindAt bs p ≡ K.DO → p + 8 ≤ length bs
 do-inside {bs} {p} {x} a e = by (is-do a e)
   where
     by : (n : ℕ) × (b : ℕ) × (x ≡ DO n b) → p + 8 ≤ length bs
     by d = let t : ActionAt bs p (DO (d .0) (d .1)) = subst (ActionAt bs p) (d .2) a in inside t (told t .long)
 
-pub do-enters : {bs : List ℕ} {p : ℕ} {x : Action} → ActionAt bs p x → kindAt bs p ≡ 20 → (b r : ℕ)
+pub do-enters : {bs : List ℕ} {p : ℕ} {x : Action} → ActionAt bs p x → kindAt bs p ≡ K.DO → (b r : ℕ)
     → (eqb (u16 bs (p + 6)) b && (leb 1 r && leb r (u16 bs (p + 4)))) ≡ enters x b r
 do-enters {bs} {p} {x} a e b r = by (is-do a e)
   where
@@ -136,7 +137,8 @@ module _ {bs row : List ℕ} {a : ℕ} where
       among-any noBranch (λ x. eqb (x .block) b) _ xs _ (omega (arith, o .to-is))
       (λ k h. ap (λ n. eqb n b) (branch-at xs o k h))
 
-  pub branch-enters : (x : Action) → OffersAt bs row a (offers x) → (eqb (kindOf x) 26 || eqb (kindOf x) 27) ≡ true → (b r : ℕ)
+  pub branch-enters : (x : Action) → OffersAt bs row a (offers x) → (eqb (kindOf x) K.TRY || eqb (kindOf x) K.WHILE) ≡ true
+      → (b r : ℕ)
       → (branchEnters bs row a b && eqb r 1) ≡ enters x b r
   branch-enters (HOLD e) o h b r = no-way h
   branch-enters (PRIO e) o h b r = no-way h
@@ -184,7 +186,7 @@ module _ {bs row : List ℕ} {a : ℕ} where
           let z = o .each k (getD os k noOffer) (there os k h) in (z .behind, omega (arith, z .inside))
 
 -- ALL OTHERS enter nothing.
-pub others-enter : (x : Action) → (kindOf x ≡ 20 → ⊥) → (eqb (kindOf x) 26 || eqb (kindOf x) 27) ≡ false → (b r : ℕ)
+pub others-enter : (x : Action) → (kindOf x ≡ K.DO → ⊥) → (eqb (kindOf x) K.TRY || eqb (kindOf x) K.WHILE) ≡ false → (b r : ℕ)
     → false ≡ enters x b r
 others-enter (HOLD e) g h b r = refl
 others-enter (PRIO e) g h b r = refl
@@ -245,24 +247,24 @@ module _ {bs row : List ℕ} {a : ℕ} (v : Standing bs row a) (g : a ≡ Limit.
     kind-is : kind ≡ kindOf x
     kind-is = k ∙ kind-of record-at
 
-    pub body-inside : kind ≡ 20 → at + 8 ≤ length bs
+    pub body-inside : kind ≡ K.DO → at + 8 ≤ length bs
     body-inside d = do-inside record-at (sym k ∙ d)
 
-    pub by-do : kind ≡ 20 → (b r : ℕ)
+    pub by-do : kind ≡ K.DO → (b r : ℕ)
         → (eqb (u16 bs (at + 6)) b && (leb 1 r && leb r (u16 bs (at + 4)))) ≡ entersAt (v .action) b r
     by-do d b r = do-enters record-at (sym k ∙ d) b r ∙ sym (ap (λ o. entersAt o b r) (acts-in v g .is))
 
-    pub by-branch : (eqb kind 26 || eqb kind 27) ≡ true → (b r : ℕ)
+    pub by-branch : (eqb kind K.TRY || eqb kind K.WHILE) ≡ true → (b r : ℕ)
         → (branchEnters bs row a b && eqb r 1) ≡ entersAt (v .action) b r
     by-branch d b r =
-        branch-enters x (acts-in v g .at .offers-at) (ap (λ n. eqb n 26 || eqb n 27) (sym kind-is) ∙ d) b r
+        branch-enters x (acts-in v g .at .offers-at) (ap (λ n. eqb n K.TRY || eqb n K.WHILE) (sym kind-is) ∙ d) b r
         ∙ sym (ap (λ o. entersAt o b r) (acts-in v g .is))
 
-    pub by-none : (kind ≡ 20 → ⊥) → (eqb kind 26 || eqb kind 27) ≡ false → (b r : ℕ) → false ≡ entersAt (v .action) b r
+    pub by-none : (kind ≡ K.DO → ⊥) → (eqb kind K.TRY || eqb kind K.WHILE) ≡ false → (b r : ℕ) → false ≡ entersAt (v .action) b r
     by-none d f b r =
-        others-enter x (λ z. d (kind-is ∙ z)) (ap (λ n. eqb n 26 || eqb n 27) (sym kind-is) ∙ f) b r
+        others-enter x (λ z. d (kind-is ∙ z)) (ap (λ n. eqb n K.TRY || eqb n K.WHILE) (sym kind-is) ∙ f) b r
         ∙ sym (ap (λ o. entersAt o b r) (acts-in v g .is))
 
-    pub by-asking : (eqb kind 25 || eqb kind 26) ≡ asksAt (v .action)
+    pub by-asking : (eqb kind K.REQ || eqb kind K.TRY) ≡ asksAt (v .action)
     by-asking =
-        ap (λ n. eqb n 25 || eqb n 26) kind-is ∙ sym (ap asksAt (acts-in v g .is))
+        ap (λ n. eqb n K.REQ || eqb n K.TRY) kind-is ∙ sym (ap asksAt (acts-in v g .is))

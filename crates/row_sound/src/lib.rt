@@ -10,6 +10,7 @@ ghost use Rattle.semantics.specs.Sound.{entersAt, asksAt, namedThere, chained, 
 ghost use Rattle.base_numbers.specs.Word as Word;
 ghost use Rattle.base_numbers.specs.Limit as Limit;
 ghost use Rattle.base_numbers.specs.Map as Map;
+ghost use Rattle.base_numbers.specs.Byte as Byte;
 ghost use Rattle.row_sound.specs.Chain.{isBody, actionIn, Branching, branchEnters, Standing, Linking, linked};
 ghost use Rattle.row_sound.specs.Chain.{Viewed, Chained, Asking};
 ghost use Rattle.row_sound.specs.Handed.{Handed};
@@ -33,14 +34,14 @@ const WHILE: usize = kind::WHILE as usize;
 
 fn number_at(map: &[u32], i: usize) -> usize
     requires { ⌜ i < length (now map) ⌝ }
-    ensures { λ r. ⌜ (r ≡ getD (now (map .entry)) i 0) × (r < 4294967296) ⌝ }
+    ensures { λ r. ⌜ (r ≡ getD (now (map .entry)) i 0) × (r < Byte.FOUR) ⌝ }
 {
     map[i] as usize
 }
 
 fn number_in(bytes: &[u8], at: usize) -> usize
     requires { ⌜ at + 2 ≤ length (now bytes) ⌝ }
-    ensures { λ r. ⌜ (r ≡ u16 (now (bytes .entry)) at) × (r < 65536) ⌝ }
+    ensures { λ r. ⌜ (r ≡ u16 (now (bytes .entry)) at) × (r < Byte.TWO) ⌝ }
 {
     file_fields::u16_at(bytes, at) as usize
 }

@@ -96,10 +96,10 @@ module _ {w : List ℕ} {P : State → Type 0} (v : Shown w P) (m : Model) (p : 
       ∙ ap (λ t. t && slavesKnown w (m .syncs) p) (code-order lowest (q .priority) (omega arith) (h .priority-ok))
       ∙ ap (λ t. leZ lowest (q .priority) && t) slaves-known
       ∙ ap (λ (t : Bool). leZ lowest (q .priority) && (t && all (λ x. ltb (x .of) (m .syncs)) (q .slaves)))
-      (sym (all-true isI32 (q .locals) (all-map I32 _ (λ x i. lt-ltb (mag x) 2_147_483_648 i) (q .locals) (h .locals-ok))))
+      (sym (all-true isI32 (q .locals) (all-map I32 _ (λ x i. lt-ltb (mag x) Code.ZERO i) (q .locals) (h .locals-ok))))
       ∙ ap (λ (t : Bool). leZ lowest (q .priority)
       && (t && (all isI32 (q .locals) && all (λ x. ltb (x .of) (m .syncs)) (q .slaves))))
-      (sym (lt-ltb (mag (q .priority)) 2_147_483_648 (h .priority-ok)))
+      (sym (lt-ltb (mag (q .priority)) Code.ZERO (h .priority-ok)))
 
   living-is : length (q .locals) ≡ No.locals → length (q .held) ≡ length (m .totals)
       → livingRow w (m .syncs) p ≡ (furnished m q && (processInRange m q && ownNumber s q))

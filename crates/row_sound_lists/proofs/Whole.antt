@@ -23,6 +23,7 @@ use Rattle.row_lists.specs.Lists.{Any}
 use Rattle.semantics.specs.Numbers as No
 use Rattle.base_numbers.specs.Row as Row
 use Rattle.base_numbers.specs.Limit as Limit
+use Rattle.base_numbers.specs.Code as Code
 use Rattle.row_lists.proofs.Waiting as Wait
 use Rattle.row_sound_lists.specs.Tests.{each, Bounded, queueFits, waitingFits, eventsFit}
 use Rattle.row_sound_lists.specs.Tests.{placeFits, placeListed, amountsAdd}
@@ -122,7 +123,7 @@ module _ {w totals : List ℕ} {resources bins syncs : ℕ} (v : Counted w total
   globals-in : all isI32 (s .globals) ≡ true
   globals-in =
       all-true isI32 (s .globals)
-      (all-map I32 _ (λ x i. lt-ltb (mag x) 2_147_483_648 i) (s .globals) (v .sized .globals-ok))
+      (all-map I32 _ (λ x i. lt-ltb (mag x) Code.ZERO i) (s .globals) (v .sized .globals-ok))
 
   bins-in : all (λ n. leb n No.fullBin) (s .bins) ≡ true
   bins-in = all-true _ (s .bins) (all-map (λ n. n ≤ No.fullBin) _ (λ n i. le-leb n No.fullBin i) (s .bins) (v .sized .bins-low))

@@ -7,6 +7,8 @@ use lib.ListN.{length, getD, take, drop}
 use lib.Seq.{take-at, drop-at}
 use Rattle.semantics.specs.Words.{collect}
 use Rattle.promises.specs.Laws.{AllOf, all-map}
+use Rattle.base_numbers.specs.Row as Row
+use Rattle.base_numbers.specs.Process as Process
 use Rattle.row_work.specs.Laid.{laid, Wide, laid-length, even-length}
 use Rattle.row_work.specs.Work.{processWidths, workWidths}
 use Rattle.row_struct.specs.declared.Process.{Process}
@@ -48,13 +50,14 @@ processOf ps =
       owned = getD ps 4 [];
     }
 
-pub process-long : (q : Process) → ProcessFull q → length (processRowOf q) ≡ 128
+pub process-long : (q : Process) → ProcessFull q → length (processRowOf q) ≡ Process.WORDS
 unfolding processRowOf
 process-long q h = laid-length (processPartsOf q) processWidths h
 
-pub processes-long : (qs : List Process) → ProcessesFull qs → length (collect processRowOf qs) ≡ 8_192
+pub processes-long : (qs : List Process) → ProcessesFull qs → length (collect processRowOf qs) ≡ Row.PROCESSES_ALL
 processes-long qs f =
-    let e = even-length processRowOf 128 qs (all-map ProcessFull (λ q. length (processRowOf q) ≡ 128) process-long qs (f .1)) in
+    let e = even-length processRowOf Process.WORDS qs
+    (all-map ProcessFull (λ q. length (processRowOf q) ≡ Process.WORDS) process-long qs (f .1)) in
     let n = f .0 in
     omega arith
 
@@ -72,9 +75,9 @@ same-each (x ∷ xs) (y ∷ ys) l h k e =
     let n = process-long y (k .0) in
     let r = collect processRowOf xs in
     let t = collect processRowOf ys in
-    ap (λ z. z ∷ xs) (same-process x y (h .0) (k .0) (same-front (processRowOf x) (processRowOf y) r t 128 m n e))
+    ap (λ z. z ∷ xs) (same-process x y (h .0) (k .0) (same-front (processRowOf x) (processRowOf y) r t Process.WORDS m n e))
     ∙ ap (λ zs. y ∷ zs)
-    (same-each xs ys (omega arith) (h .1) (k .1) (same-rest (processRowOf x) (processRowOf y) r t 128 m n e))
+    (same-each xs ys (omega arith) (h .1) (k .1) (same-rest (processRowOf x) (processRowOf y) r t Process.WORDS m n e))
 
 pub same-processes : (xs ys : List Process) → ProcessesFull xs → ProcessesFull ys
     → collect processRowOf xs ≡ collect processRowOf ys → xs ≡ ys
@@ -103,7 +106,7 @@ stateOf ps qs =
       processes = qs;
     }
 
-pub state-long : (s : State) → Full s → length (rowOf s) ≡ 10_696
+pub state-long : (s : State) → Full s → length (rowOf s) ≡ Row.WORDS
 unfolding rowOf
 state-long s f = laid-length (partsOf s) workWidths (f .parts-full)
 

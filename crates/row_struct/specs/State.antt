@@ -4,6 +4,7 @@ use mathlib.Core.Path.{_≡_}
 use mathlib.Core.List.{List, [], _∷_, _++_}
 use lib.ListN.{length, take, drop}
 use Rattle.semantics.specs.Words.{collect}
+use Rattle.semantics.specs.Numbers as No
 use Rattle.promises.specs.Laws.{AllOf}
 use Rattle.row_work.specs.Laid.{laid, Wide}
 use Rattle.row_work.specs.Work.{processWidths, workWidths}
@@ -43,7 +44,7 @@ abbrev pub ProcessFull : Process → Type 0
 ProcessFull q = Wide (processPartsOf q) processWidths
 
 abbrev pub ProcessesFull : List Process → Type 0
-ProcessesFull qs = (length qs ≡ 64) × AllOf ProcessFull qs
+ProcessesFull qs = (length qs ≡ No.places) × AllOf ProcessFull qs
 
 pub record Full (s : State) : Type 0 where
   pub parts-full : Wide (partsOf s) workWidths

@@ -7,6 +7,10 @@ ghost use mathlib.Core.Path.{_≡_};
 ghost use Prim.Native.Nat.{_+_, _≤_};
 ghost use lib.ListN.{length, take, drop};
 ghost use Rattle.semantics.specs.Words.{collect};
+ghost use Rattle.semantics.specs.Numbers as No;
+ghost use Rattle.base_numbers.specs.Row as Row;
+ghost use Rattle.base_numbers.specs.Process as Parts;
+ghost use Rattle.base_numbers.specs.Limit as Limit;
 ghost use Rattle.row_struct.specs.State.{over, processRowOf, rowOf, ProcessFull, ProcessesFull, Full};
 
 // A process: its number, the code of its priority, how many blocks it is in and how many slaves it has; the codes of its locals,
@@ -71,7 +75,7 @@ fn lay(part: &[u64], w: &mut [u64], at: usize)
 
 // The row of a process; and its arrays have their lengths.
 fn unpack_process(q: Process, w: &mut [u64])
-    requires { ⌜ length (now w) ≡ 128 ⌝ }
+    requires { ⌜ length (now w) ≡ Parts.WORDS ⌝ }
     ensures { λ _. ⌜ now (w .exit) ≡ processRowOf q ⌝ }
     ensures { λ _. ⌜ ProcessFull q ⌝ }
 {
@@ -85,7 +89,7 @@ fn unpack_process(q: Process, w: &mut [u64])
 
 // The rows of all processes.
 fn unpack_processes(ps: [Process; limit::PLACES], w: &mut [u64])
-    requires { ⌜ length (now w) ≡ 8192 ⌝ }
+    requires { ⌜ length (now w) ≡ Row.PROCESSES_ALL ⌝ }
     ensures { λ _. ⌜ now (w .exit) ≡ collect processRowOf ps ⌝ }
     ensures { λ _. ⌜ ProcessesFull ps ⌝ }
 {
@@ -101,7 +105,7 @@ fn unpack_processes(ps: [Process; limit::PLACES], w: &mut [u64])
 
 // The row of a state; and its arrays have their lengths, so that the row is of no other state (`same-state`).
 pub fn unpack(state: State, w: &mut [u64])
-    requires { ⌜ length (now w) ≡ 10696 ⌝ }
+    requires { ⌜ length (now w) ≡ Row.WORDS ⌝ }
     ensures { λ _. ⌜ now (w .exit) ≡ rowOf state ⌝ }
     ensures { λ _. ⌜ Full state ⌝ }
 {
@@ -141,8 +145,8 @@ fn lift(w: &[u64], at: usize, part: &mut [u64])
 
 // The part as an array of each length that a field has.
 fn eight_at(w: &[u64], at: usize) -> [u64; limit::LOCALS]
-    requires { ⌜ at + 8 ≤ length (now w) ⌝ }
-    ensures { λ r. ⌜ r ≡ take 8 (drop at (now (w .entry))) ⌝ }
+    requires { ⌜ at + No.locals ≤ length (now w) ⌝ }
+    ensures { λ r. ⌜ r ≡ take No.locals (drop at (now (w .entry))) ⌝ }
 {
     let mut part = [0u64; limit::LOCALS];
     lift(w, at, &mut part);
@@ -150,8 +154,8 @@ fn eight_at(w: &[u64], at: usize) -> [u64; limit::LOCALS]
 }
 
 fn amounts_at(w: &[u64], at: usize) -> [u64; limit::THINGS]
-    requires { ⌜ at + 32 ≤ length (now w) ⌝ }
-    ensures { λ r. ⌜ r ≡ take 32 (drop at (now (w .entry))) ⌝ }
+    requires { ⌜ at + Limit.THINGS ≤ length (now w) ⌝ }
+    ensures { λ r. ⌜ r ≡ take Limit.THINGS (drop at (now (w .entry))) ⌝ }
 {
     let mut part = [0u64; limit::THINGS];
     lift(w, at, &mut part);
@@ -159,8 +163,8 @@ fn amounts_at(w: &[u64], at: usize) -> [u64; limit::THINGS]
 }
 
 fn places_at(w: &[u64], at: usize) -> [u64; limit::PLACES]
-    requires { ⌜ at + 64 ≤ length (now w) ⌝ }
-    ensures { λ r. ⌜ r ≡ take 64 (drop at (now (w .entry))) ⌝ }
+    requires { ⌜ at + No.places ≤ length (now w) ⌝ }
+    ensures { λ r. ⌜ r ≡ take No.places (drop at (now (w .entry))) ⌝ }
 {
     let mut part = [0u64; limit::PLACES];
     lift(w, at, &mut part);
@@ -168,8 +172,8 @@ fn places_at(w: &[u64], at: usize) -> [u64; limit::PLACES]
 }
 
 fn slaves_at(w: &[u64], at: usize) -> [u64; process::OWNED_MOST]
-    requires { ⌜ at + 76 ≤ length (now w) ⌝ }
-    ensures { λ r. ⌜ r ≡ take 76 (drop at (now (w .entry))) ⌝ }
+    requires { ⌜ at + Parts.OWNED_MOST ≤ length (now w) ⌝ }
+    ensures { λ r. ⌜ r ≡ take Parts.OWNED_MOST (drop at (now (w .entry))) ⌝ }
 {
     let mut part = [0u64; process::OWNED_MOST];
     lift(w, at, &mut part);
@@ -177,8 +181,8 @@ fn slaves_at(w: &[u64], at: usize) -> [u64; process::OWNED_MOST]
 }
 
 fn events_at(w: &[u64], at: usize) -> [u64; row::EVENTS_MOST]
-    requires { ⌜ at + 128 ≤ length (now w) ⌝ }
-    ensures { λ r. ⌜ r ≡ take 128 (drop at (now (w .entry))) ⌝ }
+    requires { ⌜ at + Row.EVENTS_MOST ≤ length (now w) ⌝ }
+    ensures { λ r. ⌜ r ≡ take Row.EVENTS_MOST (drop at (now (w .entry))) ⌝ }
 {
     let mut part = [0u64; row::EVENTS_MOST];
     lift(w, at, &mut part);
@@ -186,8 +190,8 @@ fn events_at(w: &[u64], at: usize) -> [u64; row::EVENTS_MOST]
 }
 
 fn waiting_at(w: &[u64], at: usize) -> [u64; row::WAITERS_ALL]
-    requires { ⌜ at + 2048 ≤ length (now w) ⌝ }
-    ensures { λ r. ⌜ r ≡ take 2048 (drop at (now (w .entry))) ⌝ }
+    requires { ⌜ at + Row.WAITERS_ALL ≤ length (now w) ⌝ }
+    ensures { λ r. ⌜ r ≡ take Row.WAITERS_ALL (drop at (now (w .entry))) ⌝ }
 {
     let mut part = [0u64; row::WAITERS_ALL];
     lift(w, at, &mut part);
@@ -196,7 +200,7 @@ fn waiting_at(w: &[u64], at: usize) -> [u64; row::WAITERS_ALL]
 
 // The process whose row this is.
 fn pack_process(w: &[u64]) -> Process
-    requires { ⌜ length (now w) ≡ 128 ⌝ }
+    requires { ⌜ length (now w) ≡ Parts.WORDS ⌝ }
     ensures { λ r. ⌜ processRowOf r ≡ now (w .entry) ⌝ }
     ensures { λ r. ⌜ ProcessFull r ⌝ }
 {
@@ -218,7 +222,7 @@ fn pack_process(w: &[u64]) -> Process
 
 // The processes whose rows these are.
 fn pack_processes(w: &[u64]) -> [Process; limit::PLACES]
-    requires { ⌜ length (now w) ≡ 8192 ⌝ }
+    requires { ⌜ length (now w) ≡ Row.PROCESSES_ALL ⌝ }
     ensures { λ r. ⌜ collect processRowOf r ≡ now (w .entry) ⌝ }
     ensures { λ r. ⌜ ProcessesFull r ⌝ }
 {
@@ -236,7 +240,7 @@ fn pack_processes(w: &[u64]) -> [Process; limit::PLACES]
 
 // The state whose row this is. There is one only (`same-state`).
 pub fn pack(w: &[u64]) -> State
-    requires { ⌜ length (now w) ≡ 10696 ⌝ }
+    requires { ⌜ length (now w) ≡ Row.WORDS ⌝ }
     ensures { λ r. ⌜ rowOf r ≡ now (w .entry) ⌝ }
     ensures { λ r. ⌜ Full r ⌝ }
 {

@@ -32,6 +32,7 @@ use Rattle.promises.specs.Capacity.{lists-fit}
 use Rattle.base_numbers.specs.Row as Row
 use Rattle.base_numbers.specs.Word as Word
 use Rattle.base_numbers.specs.Limit as Limit
+use Rattle.base_numbers.specs.Byte as Byte
 use Rattle.row_work.specs.Work.{FrameSized, SlaveSized, ProcessSized, WaiterSized, WaitersSized, NoticeSized, EventSized}
 use Rattle.row_work.specs.Work.{FloorSized, Sized}
 
@@ -282,7 +283,7 @@ module _ (m : Model) (f : Fit m) (n : Nested m) (r : Rounds m) where
 
 -- A FILE OF BYTES makes a model of few rounds: a DO's are a u16.
 abbrev pub IsByte : ℕ → Type 0
-IsByte b = b < 256
+IsByte b = b < Byte.ONE
 
 abbrev BodyBytes : Raw → Type 0
 BodyBytes (raw at k bs) = AllOf IsByte bs
@@ -311,7 +312,7 @@ EntryRounds BLOCK = Unit {0}
 EntryRounds (ENTITY x) = Unit {0}
 EntryRounds (ACTION a) = FewRounds a
 
-u16-low : (bs : List ℕ) (k : ℕ) → AllOf IsByte bs → u16 bs k < 65_536
+u16-low : (bs : List ℕ) (k : ℕ) → AllOf IsByte bs → u16 bs k < Byte.TWO
 u16-low bs k h =
     let a = all-get IsByte bs k 0 h (omega arith) in
     let b = all-get IsByte bs (k + 1) 0 h (omega arith) in

@@ -13,6 +13,7 @@ use Rattle.semantics.specs.Run.{run}
 use Rattle.semantics.specs.Journal.{roomIn}
 use Rattle.semantics.specs.Desk.{runFile}
 use Rattle.promises.specs.Laws.{AllOf}
+use Rattle.base_numbers.specs.Row as Row
 use Rattle.file_index.specs.Index.{Readable}
 use Rattle.file_index.proofs.Standing.{accepted-by}
 use Rattle.file_check.specs.Check.{refusalOf}
@@ -73,10 +74,10 @@ module _ (bs : List ℕ) (r : Refusal) (e : r ≡ refusalOf (decode bs)) where
       pub maps : Mapped bs m map
       maps = rw f (begun .mapped)
 
-      abbrev pub loaded : Loaded bs map (replicate 10_696 0)
+      abbrev pub loaded : Loaded bs map (replicate Row.WORDS 0)
       loaded = record { model = m; is-accepted = passes; is-mapped = maps; is-empty = refl }
 
-      module _ (w : List ℕ) (g : (d : Loaded bs map (replicate 10_696 0)) → w ≡ workOf (fresh (d .model))) where
+      module _ (w : List ℕ) (g : (d : Loaded bs map (replicate Row.WORDS 0)) → w ≡ workOf (fresh (d .model))) where
         abbrev pub opened : Open bs map w
         opened =
             let o = begun in

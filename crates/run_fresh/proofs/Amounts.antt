@@ -8,6 +8,7 @@ use lib.Dec.{eqb}
 use borrow.Author.Tests.{eqb-true, eqb-false, eq-eqb, ne-eqb}
 use lib.ListN.{length}
 use Rattle.semantics.specs.Words.{if_then_else_}
+use Rattle.semantics.specs.Kinds as K
 use Rattle.semantics.specs.Bytes.{u32, i32}
 use Rattle.semantics.specs.Record.{rowOf}
 use Rattle.base_i32.specs.Code.{code}
@@ -32,30 +33,30 @@ unfolding rowOf
 head-7 = refl
 
 module _ (k : ℕ) (bs : List ℕ) where
-  pub var-there : Judged k bs → k ≡ 4 → 4 ≤ length bs
+  pub var-there : Judged k bs → k ≡ K.VAR → 4 ≤ length bs
   var-there j = head-at j head-4
 
-  pub entity-there : Judged k bs → k ≡ 7 → 6 ≤ length bs
+  pub entity-there : Judged k bs → k ≡ K.ENTITY → 6 ≤ length bs
   entity-there j = head-at j head-7
 
-  pub var-is : k ≡ 4 → amountIn k bs ≡ code (i32 bs 0)
-  var-is e = rw (eq-eqb k 4 e)
+  pub var-is : k ≡ K.VAR → amountIn k bs ≡ code (i32 bs 0)
+  var-is e = rw (eq-eqb k K.VAR e)
 
   -- A RES or a BIN.
   module _ (low : 1 ≤ k) (high : k < 3) where
     pub amount-there : Judged k bs → 4 ≤ length bs
-    amount-there j = by (eqb k 1) refl
+    amount-there j = by (eqb k K.RES) refl
       where
-        by : (t : Bool) → eqb k 1 ≡ t → 4 ≤ length bs
-        by true e = head-at j head-1 (eqb-true k 1 e)
-        by false e = let n = eqb-false k 1 e in head-at j head-2 (omega arith)
+        by : (t : Bool) → eqb k K.RES ≡ t → 4 ≤ length bs
+        by true e = head-at j head-1 (eqb-true k K.RES e)
+        by false e = let n = eqb-false k K.RES e in head-at j head-2 (omega arith)
 
     pub amount-is : amountIn k bs ≡ u32 bs 0
-    amount-is = rw (ne-eqb k 4 (λ e. omega arith)) (by (eqb k 1) refl)
+    amount-is = rw (ne-eqb k K.VAR (λ e. omega arith)) (by (eqb k K.RES) refl)
       where
-        by : (t : Bool) → eqb k 1 ≡ t → (if t || eqb k 2 then u32 bs 0 else 0) ≡ u32 bs 0
+        by : (t : Bool) → eqb k K.RES ≡ t → (if t || eqb k K.BIN then u32 bs 0 else 0) ≡ u32 bs 0
         by true e = refl
-        by false e = let n = eqb-false k 1 e in rw (eq-eqb k 2 (omega arith))
+        by false e = let n = eqb-false k K.RES e in rw (eq-eqb k K.BIN (omega arith))
 
-  pub none-is : (k ≡ 1 → ⊥) → (k ≡ 2 → ⊥) → (k ≡ 4 → ⊥) → amountIn k bs ≡ 0
-  none-is a b c = rw (ne-eqb k 1 a, ne-eqb k 2 b, ne-eqb k 4 c)
+  pub none-is : (k ≡ K.RES → ⊥) → (k ≡ K.BIN → ⊥) → (k ≡ K.VAR → ⊥) → amountIn k bs ≡ 0
+  none-is a b c = rw (ne-eqb k K.RES a, ne-eqb k K.BIN b, ne-eqb k K.VAR c)

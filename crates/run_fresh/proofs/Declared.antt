@@ -6,6 +6,7 @@ use mathlib.Core.Bool.{Bool}
 use lib.Dec.{eqb}
 use lib.ListN.{length}
 use Rattle.semantics.specs.Words.{if_then_else_}
+use Rattle.semantics.specs.Kinds as K
 use Rattle.semantics.specs.Model.{Entity}
 use Rattle.semantics.specs.Bytes.{Raw, raw, u16, u32}
 use Rattle.semantics.specs.Record.{Row, table, rowOf}
@@ -30,10 +31,10 @@ entities b e es = if b then e ∷ es else es
 
 -- What g has after the entry e was added before it.
 pub record Adds (k : ℕ) (bs : List ℕ) (g h : Gathered) : Type 0 where
-  pub totals-are : h .model .totals ≡ given (eqb k 1) (amountIn k bs) ++ g .model .totals
-  pub amounts-are : h .model .amounts ≡ given (eqb k 2) (amountIn k bs) ++ g .model .amounts
-  pub vars-are : map code (h .model .vars) ≡ given (eqb k 4) (amountIn k bs) ++ map code (g .model .vars)
-  pub entities-are : h .model .entities ≡ entities (eqb k 7) (entityIn bs) (g .model .entities)
+  pub totals-are : h .model .totals ≡ given (eqb k K.RES) (amountIn k bs) ++ g .model .totals
+  pub amounts-are : h .model .amounts ≡ given (eqb k K.BIN) (amountIn k bs) ++ g .model .amounts
+  pub vars-are : map code (h .model .vars) ≡ given (eqb k K.VAR) (amountIn k bs) ++ map code (g .model .vars)
+  pub entities-are : h .model .entities ≡ entities (eqb k K.ENTITY) (entityIn bs) (g .model .entities)
 
 abbrev RowAdds : List ℕ → Gathered → Row → Type 0
 RowAdds bs g r = Adds (r .kind) bs g (adds g (r .says bs))

@@ -7,11 +7,14 @@ use mathlib.Core.Bool.{Bool}
 use lib.Dec.{eqb}
 use lib.ListN.{length, length-map}
 use lib.Seq.{sets, length-sets}
+use Rattle.semantics.specs.Kinds as K
 use Rattle.semantics.specs.Model.{Model}
 use Rattle.semantics.specs.Decode.{gather}
 use Rattle.semantics.specs.State.{bare}
 use Rattle.promises.specs.Fit.{Fit}
 use Rattle.promises.specs.Accepted.{accepted-fit}
+use Rattle.base_numbers.specs.Row as Row
+use Rattle.base_numbers.specs.Limit as Limit
 use Rattle.base_i32.specs.Code.{code}
 use Rattle.file_reader.specs.Reads.{recordAt}
 use Rattle.file_reader.specs.Records.{bodyAt}
@@ -35,9 +38,9 @@ pub record Declared (m : Model) (bs w : List ℕ) (free bins vars at : ℕ) : Ty
   pub i : ℕ
   pub j : ℕ
   pub k : ℕ
-  pub free-is : free ≡ 8 + i
-  pub bins-is : bins ≡ 40 + j
-  pub vars-is : vars ≡ 72 + k
+  pub free-is : free ≡ Row.FREE + i
+  pub bins-is : bins ≡ Row.BINS + j
+  pub vars-is : vars ≡ Row.GLOBALS + k
   pub shows : w ≡ workOf (partly m i j k)
   pub totals-left : Left (m .totals) i (gather (onward bs at) .model .totals)
   pub amounts-left : Left (m .amounts) j (gather (onward bs at) .model .amounts)
@@ -47,7 +50,7 @@ module _ {bs w : List ℕ} (d : Declaring bs w) where
   fits : Fit (d .model)
   fits = accepted-fit bs (d .model) (d .is-accepted)
 
-  pub declare-starts : Declared (d .model) bs w 8 40 72 0
+  pub declare-starts : Declared (d .model) bs w Row.FREE Row.BINS Row.GLOBALS 0
   declare-starts =
       let a = accepted-by bs (d .model) (d .is-accepted) in
       let m = d .model in
@@ -75,10 +78,10 @@ module _ {bs w₀ : List ℕ} (d : Declaring bs w₀) {w : List ℕ} {free bins 
   abbrev f : Fit m
   f = fits d
 
-  pub declared-long : length w ≡ 10_696
+  pub declared-long : length w ≡ Row.WORDS
   declared-long = ap length (v .shows) ∙ work-long (partly m (v .i) (v .j) (v .k)) (partly-sized m f (v .i) (v .j) (v .k))
 
-  few-vars : length (map code (m .vars)) ≤ 32
+  few-vars : length (map code (m .vars)) ≤ Limit.THINGS
   few-vars = let a : length (map code (m .vars)) ≡ length (m .vars) = length-map (m .vars) code in omega (arith, f .few-vars)
 
   -- There is room for one more of each.
@@ -109,34 +112,34 @@ module _ {bs w₀ : List ℕ} (d : Declaring bs w₀) {w : List ℕ} {free bins 
     adding : Adds k body (gather (onward bs z)) (gather (onward bs at))
     adding = front-adds bs at h (v .fine) e o
 
-    totals : Left (m .totals) (v .i) (given (eqb k 1) a ++ gather (onward bs z) .model .totals)
+    totals : Left (m .totals) (v .i) (given (eqb k K.RES) a ++ gather (onward bs z) .model .totals)
     totals = rw g (subst (Left (m .totals) (v .i)) (adding .totals-are) (v .totals-left))
 
-    amounts : Left (m .amounts) (v .j) (given (eqb k 2) a ++ gather (onward bs z) .model .amounts)
+    amounts : Left (m .amounts) (v .j) (given (eqb k K.BIN) a ++ gather (onward bs z) .model .amounts)
     amounts = rw g (subst (Left (m .amounts) (v .j)) (adding .amounts-are) (v .amounts-left))
 
-    values : Left (map code (m .vars)) (v .k) (given (eqb k 4) a ++ map code (gather (onward bs z) .model .vars))
+    values : Left (map code (m .vars)) (v .k) (given (eqb k K.VAR) a ++ map code (gather (onward bs z) .model .vars))
     values = rw g (subst (Left (map code (m .vars)) (v .k)) (adding .vars-are) (v .vars-left))
 
-    pub declare-turn : {free' bins' vars' : ℕ} {x y u : List ℕ} → Wrote free (given (eqb k 1) a) w free' x
-        → Wrote bins (given (eqb k 2) a) x bins' y → Wrote vars (given (eqb k 4) a) y vars' u
+    pub declare-turn : {free' bins' vars' : ℕ} {x y u : List ℕ} → Wrote free (given (eqb k K.RES) a) w free' x
+        → Wrote bins (given (eqb k K.BIN) a) x bins' y → Wrote vars (given (eqb k K.VAR) a) y vars' u
         → Declared m bs u free' bins' vars' z
     declare-turn {x = x} {y = y} {u = u} r s t =
-        let i' : ℕ = v .i + length (given (eqb k 1) a) in
-        let j' : ℕ = v .j + length (given (eqb k 2) a) in
-        let k' : ℕ = v .k + length (given (eqb k 4) a) in
+        let i' : ℕ = v .i + length (given (eqb k K.RES) a) in
+        let j' : ℕ = v .j + length (given (eqb k K.BIN) a) in
+        let k' : ℕ = v .k + length (given (eqb k K.VAR) a) in
         let x-is : x ≡ workOf (partly m i' (v .j) (v .k)) =
-        r .after-is ∙ ap (λ n. sets w n (given (eqb k 1) a)) (v .free-is)
-        ∙ ap (λ l. sets l (8 + v .i) (given (eqb k 1) a)) (v .shows)
-        ∙ free-noted m f (v .i) (v .j) (v .k) (eqb k 1) a _ totals in
+        r .after-is ∙ ap (λ n. sets w n (given (eqb k K.RES) a)) (v .free-is)
+        ∙ ap (λ l. sets l (Row.FREE + v .i) (given (eqb k K.RES) a)) (v .shows)
+        ∙ free-noted m f (v .i) (v .j) (v .k) (eqb k K.RES) a _ totals in
         let y-is : y ≡ workOf (partly m i' j' (v .k)) =
-        s .after-is ∙ ap (λ n. sets x n (given (eqb k 2) a)) (v .bins-is)
-        ∙ ap (λ l. sets l (40 + v .j) (given (eqb k 2) a)) x-is
-        ∙ bins-noted m f i' (v .j) (v .k) (eqb k 2) a _ amounts in
+        s .after-is ∙ ap (λ n. sets x n (given (eqb k K.BIN) a)) (v .bins-is)
+        ∙ ap (λ l. sets l (Row.BINS + v .j) (given (eqb k K.BIN) a)) x-is
+        ∙ bins-noted m f i' (v .j) (v .k) (eqb k K.BIN) a _ amounts in
         let u-is : u ≡ workOf (partly m i' j' k') =
-        t .after-is ∙ ap (λ n. sets y n (given (eqb k 4) a)) (v .vars-is)
-        ∙ ap (λ l. sets l (72 + v .k) (given (eqb k 4) a)) y-is
-        ∙ vars-noted m f i' j' (v .k) (eqb k 4) a _ values in
+        t .after-is ∙ ap (λ n. sets y n (given (eqb k K.VAR) a)) (v .vars-is)
+        ∙ ap (λ l. sets l (Row.GLOBALS + v .k) (given (eqb k K.VAR) a)) y-is
+        ∙ vars-noted m f i' j' (v .k) (eqb k K.VAR) a _ values in
         record {
           fine = fine-there bs at h (v .fine) e o;
           i = i';
@@ -146,9 +149,9 @@ module _ {bs w₀ : List ℕ} (d : Declaring bs w₀) {w : List ℕ} {free bins 
           bins-is = omega (arith, s .next-is, v .bins-is);
           vars-is = omega (arith, t .next-is, v .vars-is);
           shows = u-is;
-          totals-left = left-next (m .totals) (v .i) (given (eqb k 1) a) _ totals;
-          amounts-left = left-next (m .amounts) (v .j) (given (eqb k 2) a) _ amounts;
-          vars-left = left-next (map code (m .vars)) (v .k) (given (eqb k 4) a) _ values;
+          totals-left = left-next (m .totals) (v .i) (given (eqb k K.RES) a) _ totals;
+          amounts-left = left-next (m .amounts) (v .j) (given (eqb k K.BIN) a) _ amounts;
+          vars-left = left-next (map code (m .vars)) (v .k) (given (eqb k K.VAR) a) _ values;
         }
 
   pub declare-ends : length bs ≤ at → w ≡ workOf (bare m)

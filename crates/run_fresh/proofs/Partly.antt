@@ -13,6 +13,8 @@ use Rattle.semantics.specs.Model.{Model}
 use Rattle.semantics.specs.State.{State, Waiter, nobody, with-globals, with-free, with-bins, bare}
 use Rattle.promises.specs.Laws.{AllOf, all-map, all-append, all-replicate}
 use Rattle.promises.specs.Fit.{I32, Fit}
+use Rattle.base_numbers.specs.Row as Row
+use Rattle.base_numbers.specs.Limit as Limit
 use Rattle.base_i32.specs.Code.{code}
 use Rattle.base_ordered.specs.Lines.{pad}
 use Rattle.base_places.specs.Places.{livingOf}
@@ -80,29 +82,30 @@ take-few n i xs h = simp length-take (omega arith)
 abbrev empties : ℕ → List (List Waiter)
 empties n = replicate n []
 
-module _ (n : ℕ) (few : n ≤ 32) where
+module _ (n : ℕ) (few : n ≤ Limit.THINGS) where
   no-counts : (k : ℕ) → AllOf (λ x. x ≡ 0) (map length (empties k))
   no-counts zero = tt
   no-counts (suc k) = (refl, no-counts k)
 
-  counts-none : pad 32 (map length (empties n)) ≡ replicate 32 0
+  counts-none : pad Limit.THINGS (map length (empties n)) ≡ replicate Limit.THINGS 0
   counts-none =
       let a : length (map length (empties n)) ≡ length (empties n) = length-map (empties n) length in
       let b : length (empties n) ≡ n = length-replicate n [] in
-      zeros-padded 32 (map length (empties n)) (no-counts n) (omega arith)
+      zeros-padded Limit.THINGS (map length (empties n)) (no-counts n) (omega arith)
 
   no-waiters : (k : ℕ) → AllOf (λ x. x ≡ 0) (collect waitersRow (empties k))
   no-waiters zero = tt
   no-waiters (suc k) =
-      all-append (λ x. x ≡ 0) (replicate 64 0) (collect waitersRow (empties k))
-      (all-replicate (λ x. x ≡ 0) 64 0 refl) (no-waiters k)
+      all-append (λ x. x ≡ 0) (replicate Row.WAITERS_MOST 0) (collect waitersRow (empties k))
+      (all-replicate (λ x. x ≡ 0) Row.WAITERS_MOST 0 refl) (no-waiters k)
 
-  waiting-none : pad 2_048 (collect waitersRow (empties n)) ≡ replicate 2_048 0
+  waiting-none : pad Row.WAITERS_ALL (collect waitersRow (empties n)) ≡ replicate Row.WAITERS_ALL 0
   waiting-none =
-      let a : length (collect waitersRow (empties n)) ≡ 64 * length (empties n) =
-      even-length waitersRow 64 (empties n) (all-replicate (λ ws. length (waitersRow ws) ≡ 64) n [] refl) in
+      let a : length (collect waitersRow (empties n)) ≡ Row.WAITERS_MOST * length (empties n) =
+      even-length waitersRow Row.WAITERS_MOST (empties n)
+      (all-replicate (λ ws. length (waitersRow ws) ≡ Row.WAITERS_MOST) n [] refl) in
       let b : length (empties n) ≡ n = length-replicate n [] in
-      zeros-padded 2_048 (collect waitersRow (empties n)) (no-waiters n) (omega arith)
+      zeros-padded Row.WAITERS_ALL (collect waitersRow (empties n)) (no-waiters n) (omega arith)
 
 -- ROWS OF ZEROS, and a last one.
 abbrev zeroRows : List ℕ → List (List ℕ)
@@ -124,13 +127,13 @@ module _ (m : Model) (f : Fit m) where
         clock-low = omega arith;
         last-low = omega arith;
         floor-ok = tt;
-        free-few = take-few 32 i (m .totals) (f .few-totals);
+        free-few = take-few Limit.THINGS i (m .totals) (f .few-totals);
         free-low = all-take _ i (m .totals) (f .totals-fit);
-        bins-few = take-few 32 j (m .amounts) (f .few-amounts);
+        bins-few = take-few Limit.THINGS j (m .amounts) (f .few-amounts);
         bins-low =
             all-take (λ n. n ≤ No.fullBin) j (m .amounts)
-            (all-map (λ n. n ≤ 1_000_000) (λ n. n ≤ No.fullBin) (λ n h. omega arith) (m .amounts) (f .amounts-fit));
-        globals-few = take-few 32 k (m .vars) (f .few-vars);
+            (all-map (λ n. n ≤ Limit.AMOUNT) (λ n. n ≤ No.fullBin) (λ n h. omega arith) (m .amounts) (f .amounts-fit));
+        globals-few = take-few Limit.THINGS k (m .vars) (f .few-vars);
         globals-ok = all-take I32 k (m .vars) (f .vars-fit);
         syncs-few = let a = f .few-syncs in omega (arith, length-replicate {A = List Waiter} (m .syncs) []);
         waiting-ok = all-replicate WaitersSized (m .syncs) [] (record { few = omega arith; each = tt });
@@ -147,8 +150,9 @@ module _ (m : Model) (f : Fit m) where
       let rows : List (List ℕ) = workParts (partly m 0 0 0) in
       sym
       (ap (λ l. laid (set rows 4 l)) (counts-none (m .syncs) (f .few-syncs))
-      ∙ ap (λ l. laid (set (set rows 4 (replicate 32 0)) 8 l)) (waiting-none (m .syncs) (f .few-syncs))
-      ∙ zeros-laid (8 ∷ 32 ∷ 32 ∷ 32 ∷ 32 ∷ 64 ∷ 128 ∷ 128 ∷ 2_048 ∷ []) (collect processRow (replicate No.places nobody)))
+      ∙ ap (λ l. laid (set (set rows 4 (replicate Limit.THINGS 0)) 8 l)) (waiting-none (m .syncs) (f .few-syncs))
+      ∙ zeros-laid (Row.FREE ∷ Limit.THINGS ∷ Limit.THINGS ∷ Limit.THINGS ∷ Limit.THINGS ∷ Row.WAITERS_MOST
+      ∷ Row.EVENTS_MOST ∷ Row.EVENTS_MOST ∷ Row.WAITERS_ALL ∷ []) (collect processRow (replicate No.places nobody)))
 
   -- All of them: those that are still to come are none.
   pub all-declared : (i j k : ℕ) → Left (m .totals) i [] → Left (m .amounts) j [] → Left (map code (m .vars)) k []
@@ -174,9 +178,9 @@ module _ (m : Model) (f : Fit m) where
       through xs = record { few = omega arith; left-is = drop-length xs }
 
 -- ONE MORE is noted in row n of the work, which shows the first i of xs: the state is t i.
-module _ (n : ℕ) (xs : List ℕ) (t : ℕ → State) (few : length xs ≤ 32) (wide : getD workWidths n 0 ≡ 32)
-    (shown : (i : ℕ) → Sized (t i)) (row : (i : ℕ) → getD (workParts (t i)) n [] ≡ pad 32 (take i xs))
-    (next : (i k : ℕ) → laid (set (workParts (t i)) n (pad 32 (take k xs))) ≡ workOf (t k)) where
+module _ (n : ℕ) (xs : List ℕ) (t : ℕ → State) (few : length xs ≤ Limit.THINGS) (wide : getD workWidths n 0 ≡ Limit.THINGS)
+    (shown : (i : ℕ) → Sized (t i)) (row : (i : ℕ) → getD (workParts (t i)) n [] ≡ pad Limit.THINGS (take i xs))
+    (next : (i k : ℕ) → laid (set (workParts (t i)) n (pad Limit.THINGS (take k xs))) ≡ workOf (t k)) where
   row-noted : (i : ℕ) (b : Bool) (v : ℕ) (r : List ℕ) → Left xs i (given b v ++ r)
       → sets (workOf (t i)) (sum (take n workWidths) + i) (given b v) ≡ workOf (t (i + length (given b v)))
   unfolding workOf
@@ -185,30 +189,30 @@ module _ (n : ℕ) (xs : List ℕ) (t : ℕ → State) (few : length xs ≤ 32) 
       let a = left-room xs i (v ∷ []) r l in
       laid-set (workParts (t i)) workWidths (work-wide (t i) (shown i)) n i v (omega arith)
       ∙ ap (λ x. laid (set (workParts (t i)) n (set x i v))) (row i)
-      ∙ ap (λ x. laid (set (workParts (t i)) n x)) (pad-more 32 xs i v r few (l .left-is))
+      ∙ ap (λ x. laid (set (workParts (t i)) n x)) (pad-more Limit.THINGS xs i v r few (l .left-is))
       ∙ next i (i + 1)
 
 module _ (m : Model) (f : Fit m) (i j k : ℕ) (b : Bool) (v : ℕ) (r : List ℕ) where
   pub free-noted : Left (m .totals) i (given b v ++ r)
-      → sets (workOf (partly m i j k)) (8 + i) (given b v) ≡ workOf (partly m (i + length (given b v)) j k)
+      → sets (workOf (partly m i j k)) (Row.FREE + i) (given b v) ≡ workOf (partly m (i + length (given b v)) j k)
   unfolding workOf
   free-noted =
       row-noted 1 (m .totals) (λ x. partly m x j k) (f .few-totals) refl (λ x. partly-sized m f x j k)
       (λ x. refl) (λ x y. refl) i b v r
 
   pub bins-noted : Left (m .amounts) j (given b v ++ r)
-      → sets (workOf (partly m i j k)) (40 + j) (given b v) ≡ workOf (partly m i (j + length (given b v)) k)
+      → sets (workOf (partly m i j k)) (Row.BINS + j) (given b v) ≡ workOf (partly m i (j + length (given b v)) k)
   unfolding workOf
   bins-noted =
       row-noted 2 (m .amounts) (λ x. partly m i x k) (f .few-amounts) refl (λ x. partly-sized m f i x k)
       (λ x. refl) (λ x y. refl) j b v r
 
   pub vars-noted : Left (map code (m .vars)) k (given b v ++ r)
-      → sets (workOf (partly m i j k)) (72 + k) (given b v) ≡ workOf (partly m i j (k + length (given b v)))
+      → sets (workOf (partly m i j k)) (Row.GLOBALS + k) (given b v) ≡ workOf (partly m i j (k + length (given b v)))
   unfolding workOf
   vars-noted =
       let a : length (map code (m .vars)) ≡ length (m .vars) = length-map (m .vars) code in
       let c = f .few-vars in
       row-noted 3 (map code (m .vars)) (λ x. partly m i j x) (omega arith) refl (λ x. partly-sized m f i j x)
-      (λ x. ap (pad 32) (take-map code x (m .vars)))
-      (λ x y. ap (λ l. laid (set (workParts (partly m i j x)) 3 (pad 32 l))) (sym (take-map code y (m .vars)))) k b v r
+      (λ x. ap (pad Limit.THINGS) (take-map code x (m .vars)))
+      (λ x y. ap (λ l. laid (set (workParts (partly m i j x)) 3 (pad Limit.THINGS l))) (sym (take-map code y (m .vars)))) k b v r

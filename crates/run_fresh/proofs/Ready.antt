@@ -15,6 +15,8 @@ use Rattle.promises.specs.Sound.{al, Vacant, ProcOk, Sound}
 use Rattle.promises.specs.Keep.{livingIn, al-none, FreeAt, some-free, enter-all}
 use Rattle.promises.specs.Moves.{nobody-ok}
 use Rattle.promises.specs.FreshSound.{bare-sound, begin-all-sound}
+use Rattle.base_numbers.specs.Row as Row
+use Rattle.base_numbers.specs.Limit as Limit
 use Rattle.row_work.specs.Work.{ProcessSized, EventSized, Sized}
 use Rattle.row_begin_end.specs.Begins.{newcomerIn, Roomy, begins, numbered}
 use Rattle.row_begin_end.specs.Laws.{begin-is, begun-there}
@@ -25,9 +27,9 @@ pub record Ready (m : Model) (es : List Entity) (s : State) : Type 0 where
   pub is-sound : Sound m s
   pub is-sized : Sized s
   pub clock-none : s .clock ≡ 0
-  pub last-few : s .last + length es ≤ 64
-  pub living-few : livingIn (s .processes) + length es ≤ 64
-  pub events-few : length (s .events) + length es ≤ 64
+  pub last-few : s .last + length es ≤ No.places
+  pub living-few : livingIn (s .processes) + length es ≤ No.places
+  pub events-few : length (s .events) + length es ≤ No.places
   pub each-fits : AllOf (EntityFit m) es
 
 pub ready-starts : (m : Model) → Fit m → Ready m (m .entities) (bare m)
@@ -56,7 +58,7 @@ unfolding made
 nobody-is q v e = same-parts q v e
 
 -- A NEWCOMER can be shown, and so can the state that it begins in.
-new-sized : (n b : ℕ) (xs : List ℕ) → n ≤ No.lastNumber → b < 256 → length xs ≤ 32
+new-sized : (n b : ℕ) (xs : List ℕ) → n ≤ No.lastNumber → b < Limit.BLOCKS → length xs ≤ Limit.THINGS
     → ProcessSized (newcomerIn n b (map (λ x. 0) xs))
 new-sized n b xs l h few =
     record {
@@ -75,7 +77,7 @@ new-sized n b xs l h few =
     ns : List ℕ
     ns = map (λ x. 0) xs
 
-    zeros : (ys : List ℕ) → AllOf (λ n. n ≤ 1_000_000) (map (λ x. 0) ys)
+    zeros : (ys : List ℕ) → AllOf (λ n. n ≤ Limit.AMOUNT) (map (λ x. 0) ys)
     zeros [] = tt
     zeros (y ∷ ys) = (omega arith, zeros ys)
 
@@ -98,7 +100,8 @@ module _ (s : State) (h : Sized s) (b t : ℕ) (r : Roomy s) where
   unfolding enter
   longer = length-insert sooner event (s .events)
 
-  pub begins-sized : s .last < No.lastNumber → b < 256 → t ≤ No.latest → length (s .events) < 128 → Sized (begins b t s)
+  pub begins-sized : s .last < No.lastNumber → b < Limit.BLOCKS → t ≤ No.latest → length (s .events) < Row.EVENTS_MOST
+      → Sized (begins b t s)
   unfolding begins wake
   begins-sized l low late few =
       record {
@@ -145,11 +148,11 @@ module _ (m : Model) (f : Fit m) (n : Nested m) (e : Entity) (es : List Entity) 
   unfolding beginAll
   is-begun = ap (beginAll m es) (begin-is m (e .class) (e .offset) s (h .is-sound .frees-many))
 
-  block-low : body m (e .class) < 256
+  block-low : body m (e .class) < Limit.BLOCKS
   block-low =
       let a = f .few-blocks in
-      let c = all-map _ (λ b. b < 256) (λ b l. omega (arith, l .0)) (m .classes) (n .bodies) in
-      all-get (λ b. b < 256) (m .classes) (e .class) 0 c (omega arith)
+      let c = all-map _ (λ b. b < Limit.BLOCKS) (λ b l. omega (arith, l .0)) (m .classes) (n .bodies) in
+      all-get (λ b. b < Limit.BLOCKS) (m .classes) (e .class) 0 c (omega arith)
 
   after-sound : Sound m after
   unfolding beginAll

@@ -8,12 +8,16 @@ use lib.Dec.{eqb}
 use borrow.Author.Tests.{eq-eqb}
 use lib.ListN.{length, getD}
 use Rattle.semantics.specs.Words.{if_then_else_}
+use Rattle.semantics.specs.Kinds as K
 use Rattle.semantics.specs.Model.{Model, Entity, body}
 use Rattle.semantics.specs.Bytes.{u16, u32}
 use Rattle.semantics.specs.Decode.{gather}
 use Rattle.semantics.specs.State.{State, bare, beginAll, fresh}
 use Rattle.promises.specs.Fit.{Fit, Nested}
 use Rattle.promises.specs.Accepted.{accepted-fit, accepted-nested}
+use Rattle.base_numbers.specs.Row as Row
+use Rattle.base_numbers.specs.Map as Map
+use Rattle.base_numbers.specs.Limit as Limit
 use Rattle.file_reader.specs.Reads.{recordAt}
 use Rattle.file_reader.specs.Records.{bodyAt}
 use Rattle.file_reader.specs.Walk.{onward, onward-ends}
@@ -62,7 +66,7 @@ module _ {bs map w₀ : List ℕ} (d : Beginning bs map w₀) {w : List ℕ} {at
   abbrev m : Model
   m = d .model
 
-  pub run-long : length w ≡ 10_696
+  pub run-long : length w ≡ Row.WORDS
   run-long = ap length (v .shows) ∙ work-long (v .is) (v .ready .is-sized)
 
   pub run-ends : length bs ≤ at → w ≡ workOf (fresh m)
@@ -82,22 +86,22 @@ module _ {bs map w₀ : List ℕ} (d : Beginning bs map w₀) {w : List ℕ} {at
     abbrev es : List Entity
     es = gather (onward bs z) .model .entities
 
-    same : gather (onward bs at) .model .entities ≡ entities (eqb k 7) (entityIn bytes) es
+    same : gather (onward bs at) .model .entities ≡ entities (eqb k K.ENTITY) (entityIn bytes) es
     same = front-adds bs at h (v .fine) e o .entities-are
 
-    readied : Ready m (entities (eqb k 7) (entityIn bytes) es) (v .is)
+    readied : Ready m (entities (eqb k K.ENTITY) (entityIn bytes) es) (v .is)
     readied = subst (λ l. Ready m l (v .is)) same (v .ready)
 
     -- Where it is an ENTITY.
     module _ (r : Ready m (entityIn bytes ∷ es) (v .is)) where
-      class-low : u16 bytes 0 < 64
+      class-low : u16 bytes 0 < Limit.CLASSES
       class-low = let a = r .each-fits .0 .0 in omega (arith, fits d .few-classes)
 
-      block-is : getD map (1_281 + u16 bytes 0) 0 ≡ body m (u16 bytes 0)
+      block-is : getD map (Map.BODY + u16 bytes 0) 0 ≡ body m (u16 bytes 0)
       block-is = d .is-mapped .body-is (u16 bytes 0) class-low
 
     after : Bool → State
-    after t = if t then begins (getD map (1_281 + u16 bytes 0) 0) (u32 bytes 2) (v .is) else v .is
+    after t = if t then begins (getD map (Map.BODY + u16 bytes 0) 0) (u32 bytes 2) (v .is) else v .is
 
     stepped : (t : Bool) → Ready m (entities t (entityIn bytes) es) (v .is)
         → Ready m es (after t) × (beginAll m (entities t (entityIn bytes) es) (v .is) ≡ beginAll m es (after t))
@@ -108,8 +112,8 @@ module _ {bs map w₀ : List ℕ} (d : Beginning bs map w₀) {w : List ℕ} {at
         let b = is-begun m (fits d) (nests d) (entityIn bytes) es (v .is) r in
         rw (block-is r) (a, b)
 
-    of-entity : k ≡ 7 → Ready m (entityIn bytes ∷ es) (v .is)
-    of-entity i = subst (λ t. Ready m (entities t (entityIn bytes) es) (v .is)) (eq-eqb k 7 i) readied
+    of-entity : k ≡ K.ENTITY → Ready m (entityIn bytes ∷ es) (v .is)
+    of-entity i = subst (λ t. Ready m (entities t (entityIn bytes) es) (v .is)) (eq-eqb k K.ENTITY i) readied
 
     pub entering : Doing w (Entering map k bytes) (λ s. entersBy map k bytes s)
     unfolding after
@@ -118,7 +122,7 @@ module _ {bs map w₀ : List ℕ} (d : Beginning bs map w₀) {w : List ℕ} {at
           is = v .is;
           shows = v .shows;
           before = v .ready .is-sized;
-          after = stepped (eqb k 7) readied .0 .is-sized;
+          after = stepped (eqb k K.ENTITY) readied .0 .is-sized;
           given =
               record {
                 long = d .is-mapped .long;
@@ -131,7 +135,7 @@ module _ {bs map w₀ : List ℕ} (d : Beginning bs map w₀) {w : List ℕ} {at
     pub run-turn : {x : List ℕ} → Done w (Entering map k bytes) (λ s. entersBy map k bytes s) x → Running m bs x z
     unfolding entering after
     run-turn done =
-        let a = stepped (eqb k 7) readied in
+        let a = stepped (eqb k K.ENTITY) readied in
         record {
           fine = fine-there bs at h (v .fine) e o;
           is = entersBy map k bytes (v .is);

@@ -5,8 +5,12 @@ use mathlib.Core.Path.{_≡_, refl, sym, _∙_, ap}
 use mathlib.Core.List.{List, _++_, append-assoc, append-nil}
 use lib.ListN.{length, set, replicate, length-append, length-replicate, replicate-append-replicate}
 use Rattle.semantics.specs.Words.{collect}
+use Rattle.semantics.specs.Numbers as No
 use Rattle.semantics.specs.State.{nobody}
 use Rattle.promises.specs.Laws.{all-replicate}
+use Rattle.base_numbers.specs.Row as Row
+use Rattle.base_numbers.specs.Process as Process
+use Rattle.base_numbers.specs.Code as Code
 use Rattle.base_i32.specs.Code.{code}
 use Rattle.row_work.specs.Laid.{laid, set-append-add, even-length}
 use Rattle.row_work.specs.Work.{stacked, processRow}
@@ -15,24 +19,24 @@ use Rattle.run_fresh.specs.Fresh.{vacantWork}
 
 -- The places from p on are free.
 abbrev pub freeFrom : ℕ → List ℕ
-freeFrom p = replicate (2_504 + 128 * p) 0 ++ collect processRow (replicate (64 - p) nobody)
+freeFrom p = replicate (Row.PROCESSES + Process.WORDS * p) 0 ++ collect processRow (replicate (No.places - p) nobody)
 
-pub none-free : replicate 10_696 0 ≡ freeFrom 64
-none-free = sym (append-nil (replicate 10_696 0))
+pub none-free : replicate Row.WORDS 0 ≡ freeFrom No.places
+none-free = sym (append-nil (replicate Row.WORDS 0))
 
-pub free-long : (p : ℕ) → p ≤ 64 → length (freeFrom p) ≡ 10_696
+pub free-long : (p : ℕ) → p ≤ No.places → length (freeFrom p) ≡ Row.WORDS
 free-long p h =
-    let zs : List ℕ = replicate (2_504 + 128 * p) 0 in
-    let rs : List ℕ = collect processRow (replicate (64 - p) nobody) in
+    let zs : List ℕ = replicate (Row.PROCESSES + Process.WORDS * p) 0 in
+    let rs : List ℕ = collect processRow (replicate (No.places - p) nobody) in
     let a : length (zs ++ rs) ≡ length zs + length rs = length-append zs rs in
-    let b : length zs ≡ 2_504 + 128 * p = length-replicate (2_504 + 128 * p) 0 in
-    let c : length (replicate (64 - p) nobody) ≡ 64 - p = length-replicate (64 - p) nobody in
-    let d : length rs ≡ 128 * length (replicate (64 - p) nobody) =
-    even-length processRow 128 (replicate (64 - p) nobody)
-    (all-replicate (λ q. length (processRow q) ≡ 128) (64 - p) nobody (process-long nobody (omega arith))) in
+    let b : length zs ≡ Row.PROCESSES + Process.WORDS * p = length-replicate (Row.PROCESSES + Process.WORDS * p) 0 in
+    let c : length (replicate (No.places - p) nobody) ≡ No.places - p = length-replicate (No.places - p) nobody in
+    let d : length rs ≡ Process.WORDS * length (replicate (No.places - p) nobody) =
+    even-length processRow Process.WORDS (replicate (No.places - p) nobody)
+    (all-replicate (λ q. length (processRow q) ≡ Process.WORDS) (No.places - p) nobody (process-long nobody (omega arith))) in
     omega arith
 
-one-free : (rest : List ℕ) → set (replicate 128 0 ++ rest) 1 2_147_483_648 ≡ processRow nobody ++ rest
+one-free : (rest : List ℕ) → set (replicate Process.WORDS 0 ++ rest) 1 Code.ZERO ≡ processRow nobody ++ rest
 unfolding processRow laid stacked code
 one-free rest = refl
 
@@ -44,15 +48,16 @@ set-behind zs ys rest n i v e =
     ∙ ap (λ j. set (zs ++ (ys ++ rest)) (j + i) v) (sym e)
     ∙ set-append-add zs (ys ++ rest) i v
 
-pub one-more-free : (p : ℕ) → p < 64 → set (freeFrom (p + 1)) (2_504 + 128 * p + 1) 2_147_483_648 ≡ freeFrom p
+pub one-more-free : (p : ℕ) → p < No.places
+    → set (freeFrom (p + 1)) (Row.PROCESSES + Process.WORDS * p + 1) Code.ZERO ≡ freeFrom p
 one-more-free p h =
-    let n : ℕ = 2_504 + 128 * p in
-    let rest : List ℕ = collect processRow (replicate (64 - (p + 1)) nobody) in
-    let a : 2_504 + 128 * (p + 1) ≡ n + 128 = omega arith in
-    let b : 64 - p ≡ suc (64 - (p + 1)) = omega arith in
-    ap (λ j. set (replicate j 0 ++ rest) (n + 1) 2_147_483_648) a
-    ∙ ap (λ l. set (l ++ rest) (n + 1) 2_147_483_648) (sym (replicate-append-replicate n 128 0))
-    ∙ set-behind (replicate n 0) (replicate 128 0) rest n 1 2_147_483_648 (length-replicate n 0)
+    let n : ℕ = Row.PROCESSES + Process.WORDS * p in
+    let rest : List ℕ = collect processRow (replicate (No.places - (p + 1)) nobody) in
+    let a : Row.PROCESSES + Process.WORDS * (p + 1) ≡ n + Process.WORDS = omega arith in
+    let b : No.places - p ≡ suc (No.places - (p + 1)) = omega arith in
+    ap (λ j. set (replicate j 0 ++ rest) (n + 1) Code.ZERO) a
+    ∙ ap (λ l. set (l ++ rest) (n + 1) Code.ZERO) (sym (replicate-append-replicate n Process.WORDS 0))
+    ∙ set-behind (replicate n 0) (replicate Process.WORDS 0) rest n 1 Code.ZERO (length-replicate n 0)
     ∙ ap (λ l. replicate n 0 ++ l) (one-free rest)
     ∙ ap (λ j. replicate n 0 ++ collect processRow (replicate j nobody)) (sym b)
 

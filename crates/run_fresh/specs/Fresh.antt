@@ -6,10 +6,15 @@ use mathlib.Core.Bool.{_||_}
 use lib.Dec.{eqb}
 use lib.ListN.{length, getD, replicate}
 use Rattle.semantics.specs.Words.{if_then_else_, collect}
+use Rattle.semantics.specs.Numbers as No
+use Rattle.semantics.specs.Kinds as K
 use Rattle.semantics.specs.Model.{Model}
 use Rattle.semantics.specs.Bytes.{u16, u32, i32}
 use Rattle.semantics.specs.Decode.{accepted, decode}
 use Rattle.semantics.specs.State.{State, nobody, bare}
+use Rattle.base_numbers.specs.Row as Row
+use Rattle.base_numbers.specs.Map as Map
+use Rattle.base_numbers.specs.Limit as Limit
 use Rattle.base_i32.specs.Code.{code}
 use Rattle.row_work.specs.Work.{processRow, workOf}
 use Rattle.file_index.specs.Index.{Judged}
@@ -21,16 +26,16 @@ pub record Loaded (bs map w : List ℕ) : Type 0 where
   pub model : Model
   pub is-accepted : decode bs ≡ accepted model
   pub is-mapped : Mapped bs model map
-  pub is-empty : w ≡ replicate 10_696 0
+  pub is-empty : w ≡ replicate Row.WORDS 0
 
 -- FIRST all places are free.
 unfoldable pub vacantWork : List ℕ
 unfolding processRow
-vacantWork = replicate 2_504 0 ++ collect processRow (replicate 64 nobody)
+vacantWork = replicate Row.PROCESSES 0 ++ collect processRow (replicate No.places nobody)
 
 -- THEN what is declared is written: the amount of a RES or a BIN, the code of a VAR's value.
 abbrev pub amountIn : ℕ → List ℕ → ℕ
-amountIn k bs = if eqb k 4 then code (i32 bs 0) else if eqb k 1 || eqb k 2 then u32 bs 0 else 0
+amountIn k bs = if eqb k K.VAR then code (i32 bs 0) else if eqb k K.RES || eqb k K.BIN then u32 bs 0 else 0
 
 pub record Declaring (bs w : List ℕ) : Type 0 where
   pub model : Model
@@ -45,10 +50,10 @@ pub record Beginning (bs map w : List ℕ) : Type 0 where
   pub shows : w ≡ workOf (bare model)
 
 abbrev pub entersBy : List ℕ → ℕ → List ℕ → State → State
-entersBy map k bs s = if eqb k 7 then begins (getD map (1_281 + u16 bs 0) 0) (u32 bs 2) s else s
+entersBy map k bs s = if eqb k K.ENTITY then begins (getD map (Map.BODY + u16 bs 0) 0) (u32 bs 2) s else s
 
 pub record Entering (map : List ℕ) (k : ℕ) (bs : List ℕ) (s : State) : Type 0 where
-  pub long : length map ≡ 18_754
+  pub long : length map ≡ Map.WORDS
   pub judged : Judged k bs
-  pub class-low : k ≡ 7 → u16 bs 0 < 64
-  pub roomy : k ≡ 7 → Roomy s
+  pub class-low : k ≡ K.ENTITY → u16 bs 0 < Limit.CLASSES
+  pub roomy : k ≡ K.ENTITY → Roomy s

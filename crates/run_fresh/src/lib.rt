@@ -9,13 +9,14 @@ ghost use mathlib.Core.Path.{_≡_};
 ghost use Prim.Native.Nat.{_+_, _≤_};
 ghost use lib.ListN.{length, replicate};
 ghost use Rattle.semantics.specs.State.{bare, fresh};
+ghost use Rattle.base_numbers.specs.Row as Row;
 ghost use Rattle.file_index.specs.Index.{Judged, given, Wrote};
 ghost use Rattle.row_work.specs.Work.{workOf, Doing, Done};
 ghost use Rattle.run_fresh.specs.Fresh.{Loaded, vacantWork, amountIn, Declaring, Beginning, entersBy, Entering};
 
 // All places are free.
 fn vacate_all(w: &mut [u64])
-    requires { ⌜ now w ≡ replicate 10696 0 ⌝ }
+    requires { ⌜ now w ≡ replicate Row.WORDS 0 ⌝ }
     ensures { λ _. ⌜ now (w .exit) ≡ vacantWork ⌝ }
 {
     let mut p = limit::PLACES;

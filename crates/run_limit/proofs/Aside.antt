@@ -11,6 +11,9 @@ use Rattle.semantics.specs.Words.{Outcome, ok, fails, if_then_else_}
 use Rattle.semantics.specs.Numbers as No
 use Rattle.semantics.specs.Walk.{Line, Next}
 use Rattle.semantics.specs.Journal.{journal, written}
+use Rattle.base_numbers.specs.Row as Row
+use Rattle.base_numbers.specs.Limit as Limit
+use Rattle.base_numbers.specs.Line as Line
 use Rattle.base_journal.specs.Wrote.{wroteAt}
 use Rattle.base_journal.specs.Laws.{journal-length, written-none, wrote-sets, wrote-written}
 use Rattle.act_floor.specs.Acting.{Going, Stepped}
@@ -18,7 +21,7 @@ use Rattle.act_floor.specs.Running.{runs}
 use Rattle.act_floor.specs.Floor.{run-long}
 use Rattle.run_limit.specs.Fitted.{fitted}
 
-pub going-long : (bs map w : List ℕ) → Going bs map w → length w ≡ 10_696
+pub going-long : (bs map w : List ℕ) → Going bs map w → length w ≡ Row.WORDS
 going-long bs map w g = run-long (runs (g .running))
 
 -- WHETHER ITS LINES FIT.
@@ -29,12 +32,12 @@ no-room : (x : Next) (n : ℕ) → n < length (x .lines) → fitted n (ok x) ≡
 no-room x n h = ap (λ b. if b then ok x else fails No.JOURNAL) (lt-leb (length (x .lines)) n h)
 
 -- THE BYTES of lines written aside, and bytes laid over a part of the journal.
-bytes-aside : (ls : List Line) (out : List ℕ) → 16 * length ls ≤ length out
-    → take (16 * length ls) (wroteAt 0 ls out) ≡ journal ls
+bytes-aside : (ls : List Line) (out : List ℕ) → Line.BYTES * length ls ≤ length out
+    → take (Line.BYTES * length ls) (wroteAt 0 ls out) ≡ journal ls
 unfolding written
 bytes-aside ls out h =
-    ap (take (16 * length ls)) (ap (wroteAt 0 ls) (sym (written-none out)) ∙ wrote-written [] ls out (omega arith))
-    ∙ take-at (journal ls) (drop (16 * length ls) out) (16 * length ls) (journal-length ls)
+    ap (take (Line.BYTES * length ls)) (ap (wroteAt 0 ls) (sym (written-none out)) ∙ wrote-written [] ls out (omega arith))
+    ∙ take-at (journal ls) (drop (Line.BYTES * length ls) out) (Line.BYTES * length ls) (journal-length ls)
 
 pub as-many : (n : ℕ) (bs : List ℕ) → n ≤ length bs → n ≡ length (take n bs)
 as-many n bs h = sym (length-take-le n bs h)
@@ -70,29 +73,31 @@ module _ (o : Outcome Next) (n fault lines : ℕ) (w w′ : List ℕ) where
       by (fails k) s h e = let l = s .1 .0 in absurd (omega arith)
 
   -- or not, and so the bytes that stand aside were laid over the journal.
-  pub taken-over : (at : ℕ) (out out′ j part : List ℕ) → Stepped o fault lines w w′ 0 out out′ → lines ≤ n → n ≤ 66
-      → length out ≡ 1_056 → 16 * (at + n) ≤ length j
-      → part ≡ take (length (take (16 * lines) out′)) (take (16 * lines) out′)
-      ++ drop (length (take (16 * lines) out′)) (take (length j - 16 * at) (drop (16 * at) j))
-      → Stepped (fitted n o) fault lines w w′ at j (putMid (16 * at) (length j - 16 * at) j part)
+  pub taken-over : (at : ℕ) (out out′ j part : List ℕ) → Stepped o fault lines w w′ 0 out out′ → lines ≤ n → n ≤ Limit.STEP_LINES
+      → length out ≡ Limit.STEP_LINES * Line.BYTES → Line.BYTES * (at + n) ≤ length j
+      → part ≡ take (length (take (Line.BYTES * lines) out′)) (take (Line.BYTES * lines) out′)
+      ++ drop (length (take (Line.BYTES * lines) out′)) (take (length j - Line.BYTES * at) (drop (Line.BYTES * at) j))
+      → Stepped (fitted n o) fault lines w w′ at j (putMid (Line.BYTES * at) (length j - Line.BYTES * at) j part)
   taken-over at out out′ j part s h few long room e =
-      by o s (ap (putMid (16 * at) (length j - 16 * at) j) e ∙ laid-over j (take (16 * lines) out′) (16 * at) within)
+      by o s (ap (putMid (Line.BYTES * at) (length j - Line.BYTES * at) j) e
+      ∙ laid-over j (take (Line.BYTES * lines) out′) (Line.BYTES * at) within)
     where
-      within : 16 * at + length (take (16 * lines) out′) ≤ length j
-      within = omega (arith, length-take (16 * lines) out′)
+      within : Line.BYTES * at + length (take (Line.BYTES * lines) out′) ≤ length j
+      within = omega (arith, length-take (Line.BYTES * lines) out′)
 
       by : (o : Outcome Next) → Stepped o fault lines w w′ 0 out out′
-          → {j′ : List ℕ} → j′ ≡ sets j (16 * at) (take (16 * lines) out′) → Stepped (fitted n o) fault lines w w′ at j j′
+          → {j′ : List ℕ} → j′ ≡ sets j (Line.BYTES * at) (take (Line.BYTES * lines) out′)
+          → Stepped (fitted n o) fault lines w w′ at j j′
       by (ok x) s {j′} e =
           let l = s .1 .0 in
-          let front : take (16 * lines) out′ ≡ journal (x .lines) =
-          ap (λ k. take (16 * k) out′) l
-          ∙ ap (take (16 * length (x .lines))) (s .1 .1 .1)
+          let front : take (Line.BYTES * lines) out′ ≡ journal (x .lines) =
+          ap (λ k. take (Line.BYTES * k) out′) l
+          ∙ ap (take (Line.BYTES * length (x .lines))) (s .1 .1 .1)
           ∙ bytes-aside (x .lines) out (omega arith) in
           subst (λ o. Stepped o fault lines w w′ at j j′) (sym (does-fit x n (omega arith)))
-          (s .0, (l, (s .1 .1 .0, e ∙ ap (sets j (16 * at)) front ∙ sym (wrote-sets (x .lines) at j))))
+          (s .0, (l, (s .1 .1 .0, e ∙ ap (sets j (Line.BYTES * at)) front ∙ sym (wrote-sets (x .lines) at j))))
       by (fails k) s e =
-          let l = s .1 .0 in (s .0, (l, (s .1 .1 .0, e ∙ ap (λ i. sets j (16 * at) (take (16 * i) out′)) l)))
+          let l = s .1 .0 in (s .0, (l, (s .1 .1 .0, e ∙ ap (λ i. sets j (Line.BYTES * at) (take (Line.BYTES * i) out′)) l)))
 
   -- One whose lines fit in any case.
   pub fits-anyway : (at : ℕ) (out out′ : List ℕ) → Stepped o fault lines w w′ at out out′

@@ -82,7 +82,7 @@ fitted-fails n (ok y) q a e = tested (leb (length (y .lines)) n) e
   where
     tested : (b : Bool) → _≡_ {A = Outcome Next} (if b then ok y else fails No.JOURNAL) (fails q) → 0 < q
     tested true f = not-ok (sym f)
-    tested false f = let z : 30 ≡ q = cc in omega arith
+    tested false f = let z : No.JOURNAL ≡ q = cc in omega arith
 fitted-fails n (fails k) q (above l g) e = let z : k ≡ q = cc in omega arith
 
 -- AFTER k STEPS that wrote the lines ls: r is what is left of the run.

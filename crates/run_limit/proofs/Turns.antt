@@ -20,6 +20,7 @@ use Rattle.promises.specs.Laws.{no-way, and-true}
 use Rattle.promises.specs.Sound.{Sound}
 use Rattle.promises.specs.Stays.{step-ok}
 use Rattle.promises.specs.Safe.{step-safe}
+use Rattle.base_numbers.specs.Line as Line
 use Rattle.row_work.specs.Work.{workOf}
 use Rattle.base_journal.specs.Laws.{written-none, written-length, wrote-written}
 use Rattle.base_journal.specs.Wrote.{wroteAt}
@@ -46,10 +47,10 @@ module _ {bs map w₀ : List ℕ} (v : Open bs map w₀) (limit : ℕ) (j₀ : L
     pub sound : Sound (v .model) is
     pub within : steps ≤ limit
     pub many : lines ≡ length made
-    pub room : 16 * lines ≤ length j₀
+    pub room : Line.BYTES * lines ≤ length j₀
     pub writes : j ≡ written made j₀
     pub runs-on : run (v .model) limit (roomIn j₀) (v .is)
-        ≡ added steps made (run (v .model) (limit - steps) (roomFor (length j₀ / 16 - lines)) is)
+        ≡ added steps made (run (v .model) (limit - steps) (roomFor (length j₀ / Line.BYTES - lines)) is)
 
   pub begun : Sofar w₀ j₀ 0 0
   begun =
@@ -62,7 +63,7 @@ module _ {bs map w₀ : List ℕ} (v : Open bs map w₀) (limit : ℕ) (j₀ : L
         many = refl;
         room = omega arith;
         writes = sym (written-none j₀);
-        runs-on = rw (sub-zero limit, sub-zero (length j₀ / 16)) (added-none _);
+        runs-on = rw (sub-zero limit, sub-zero (length j₀ / Line.BYTES)) (added-none _);
       }
 
 module _ {bs map w₀ : List ℕ} {v : Open bs map w₀} {limit : ℕ} {j₀ w j : List ℕ} {steps lines : ℕ}
@@ -74,7 +75,7 @@ module _ {bs map w₀ : List ℕ} {v : Open bs map w₀} {limit : ℕ} {j₀ w j
   whole = run m limit (roomIn j₀) (v .is)
 
   abbrev left : ℕ
-  left = length j₀ / 16 - lines
+  left = length j₀ / Line.BYTES - lines
 
   abbrev opened : Open bs map w
   opened =
@@ -138,7 +139,7 @@ module _ {bs map w₀ : List ℕ} {v : Open bs map w₀} {limit : ℕ} {j₀ w j
     abbrev pub one-going : Going bs map w
     one-going = record { running = opened; goes-on = goes }
 
-    pub have-left : 16 * lines ≤ length j
+    pub have-left : Line.BYTES * lines ≤ length j
     have-left = let a = as-long in let b = f .room in omega arith
 
     -- What is left of the run, by what the step came to.
@@ -158,9 +159,10 @@ module _ {bs map w₀ : List ℕ} {v : Open bs map w₀} {limit : ℕ} {j₀ w j
 
     module _ (fault k : ℕ) (w′ j′ : List ℕ)
         (s : (g : Going bs map w)
-        → Stepped (fitted (length j / 16 - lines) (step (g .running .model) (g .running .is))) fault k w w′ lines j j′) where
+        → Stepped (fitted (length j / Line.BYTES - lines)
+        (step (g .running .model) (g .running .is))) fault k w w′ lines j j′) where
       came : Stepped (fitted left (step m (f .is))) fault k w w′ lines j j′
-      came = subst (λ n. Stepped (fitted (n / 16 - lines) (step m (f .is))) fault k w w′ lines j j′) as-long (s one-going)
+      came = subst (λ n. Stepped (fitted (n / Line.BYTES - lines) (step m (f .is))) fault k w w′ lines j j′) as-long (s one-going)
 
       -- A fault is the answer.
       pub faults : (fault ≡ 0 → ⊥) → RanAs whole
@@ -186,8 +188,8 @@ module _ {bs map w₀ : List ℕ} {v : Open bs map w₀} {limit : ℕ} {j₀ w j
               let l = s .1 .0 in
               let few = o .1 in
               let many = f .many in
-              let most = mul-div-le (length j₀) 16 in
-              let fit : 16 * (length (f .made) + length (x .lines)) ≤ length j₀ = omega arith in
+              let most = mul-div-le (length j₀) Line.BYTES in
+              let fit : Line.BYTES * (length (f .made) + length (x .lines)) ≤ length j₀ = omega arith in
               record {
                 is = x .state;
                 made = f .made ++ x .lines;
@@ -202,7 +204,7 @@ module _ {bs map w₀ : List ℕ} {v : Open bs map w₀} {limit : ℕ} {j₀ w j
                     ∙ ap (λ n. wroteAt n (x .lines) (written (f .made) j₀)) many
                     ∙ wrote-written (f .made) (x .lines) j₀ fit;
                 runs-on =
-                    let n : left - length (x .lines) ≡ length j₀ / 16 - (lines + k) = omega arith in
+                    let n : left - length (x .lines) ≡ length j₀ / Line.BYTES - (lines + k) = omega arith in
                     f .runs-on
                     ∙ ap (added steps (f .made)) (goes-by (ok x) e)
                     ∙ added-one steps (f .made) x (onward x)

@@ -11,6 +11,8 @@ ghost use lib.ListN.{length};
 ghost use Rattle.semantics.specs.Step.{step as stepOf};
 ghost use Rattle.semantics.specs.Run.{before, run as runOf};
 ghost use Rattle.semantics.specs.Journal.{roomIn};
+ghost use Rattle.base_numbers.specs.Limit as Limit;
+ghost use Rattle.base_numbers.specs.Line as Line;
 ghost use Rattle.act_floor.specs.Acting.{Open, Going, Stepped};
 ghost use Rattle.run_limit.specs.Halts.{Showing, mayGo, haltedBy};
 ghost use Rattle.run_limit.specs.Fitted.{fitted};
@@ -77,7 +79,7 @@ fn careful<'a>(
     left: usize,
 ) -> Went
     requires { ⌜ Going (now s) (now map) (now w) ⌝ }
-    requires { ⌜ (16 * (at + left) ≤ length (now journal)) × (left ≤ 66) ⌝ }
+    requires { ⌜ (Line.BYTES * (at + left) ≤ length (now journal)) × (left ≤ Limit.STEP_LINES) ⌝ }
     ensures { λ r. ⌜ ((v : Going (now (s .entry)) (now (map .entry)) (now (w .entry))) →
         Stepped (fitted left (stepOf (v .running .model) (v .running .is))) (r .fault) (r .lines)
         (now (w .entry)) (now (w .exit)) at (now (journal .entry)) (now (journal .exit))) ⌝ }
@@ -109,9 +111,9 @@ fn advance<'a>(
     at: usize,
 ) -> Went
     requires { ⌜ Going (now s) (now map) (now w) ⌝ }
-    requires { ⌜ 16 * at ≤ length (now journal) ⌝ }
+    requires { ⌜ Line.BYTES * at ≤ length (now journal) ⌝ }
     ensures { λ r. ⌜ ((v : Going (now (s .entry)) (now (map .entry)) (now (w .entry))) →
-        Stepped (fitted (length (now (journal .entry)) / 16 - at) (stepOf (v .running .model) (v .running .is)))
+        Stepped (fitted (length (now (journal .entry)) / Line.BYTES - at) (stepOf (v .running .model) (v .running .is)))
         (r .fault) (r .lines) (now (w .entry)) (now (w .exit)) at (now (journal .entry)) (now (journal .exit))) ⌝ }
 {
     let left = journal.len() / line::BYTES - at;

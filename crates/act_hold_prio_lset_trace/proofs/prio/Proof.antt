@@ -4,6 +4,7 @@ use native.Mathlib.Omega.{arith}
 use mathlib.Core.Path.{_∙_}
 use Prim.Native.Nat.{_<_}
 use borrow.Author.Tests.{not-true, not-false}
+use Rattle.base_numbers.specs.Code as Code
 use Rattle.act_floor.specs.Onward.{passing}
 use Rattle.act_hold_prio_lset_trace.proofs.Values.{to-value, tells}
 use Rattle.act_hold_prio_lset_trace.proofs.Between.{raising, raised-is}
@@ -54,7 +55,7 @@ returns-2 c = λ v.
     let at-struct-known = else1 .before in
     let at-value-in = at-struct-known .before in
     let r = at-value-in .value-in in
-    let l : r .result .code < 4294967296 = omega (arith, at-struct-known .struct-known) in
+    let l : r .result .code < Code.CODES = omega (arith, at-struct-known .struct-known) in
     let g = at-greater .greater .ensures in
     let d = raising (v .on) (r .result .code) _ l g (at-past .past .ensures (passing (v .on))) in
     prioritized v (r .result) (tells (to-value v (λ f. f)) (r .ensures)) (not-false _ (else1 .if1 .left))

@@ -6,7 +6,7 @@ use native.Mathlib.Omega.{arith}
 use Rattle.base_i32.proofs.Sums.{product-fits, same-signs, other-signs}
 use Rattle.base_i32.proofs.multiply.Statement.{statement}
 use Rattle.base_i32.proofs.multiply.Tie as tie
-use Rattle.base_i32.specs.Code.{valueOf}
+use Rattle.base_i32.specs.Code.{valueOf, MIDDLE}
 
 magnitude-requires : tie.Need-magnitude-requires
 magnitude-requires c κs = search needs
@@ -42,7 +42,7 @@ returns-2 : tie.Need-returns-2
 returns-2 c = let a = c .before .before .before .before .args in
     let p = c .before .before .before .magnitude in
     let q = c .before .before .magnitude2 in
-    let h : p .result * q .result ≤ 9_223_372_036_854_775_808 =
+    let h : p .result * q .result ≤ MIDDLE =
     omega (arith, product-fits (p .result) (q .result) (p .ensures .1) (q .ensures .1)) in
     c .in-range2 .ensures (valueOf (a .x) *ℤ valueOf (a .y))
     (rw (p .ensures .0, q .ensures .0)

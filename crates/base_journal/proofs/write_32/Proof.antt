@@ -4,6 +4,7 @@ use mathlib.Core.Path.{_∙_, ap}
 use Prim.Native.Nat.{_/_}
 use lib.Seq.{sets}
 use Rattle.semantics.specs.Journal.{le16}
+use Rattle.base_numbers.specs.Byte as Byte
 use Rattle.base_journal.proofs.Stores.{stored-on, halves}
 use Rattle.base_journal.proofs.write_32.Statement.{statement}
 use Rattle.base_journal.proofs.write_32.Tie as tie
@@ -24,7 +25,7 @@ returns : tie.Need-returns
 returns c = let high = c .before .before in
     let low = high .before .before .before .before in
     let a = low .before .before .before .args in
-    stored-on (a .out .now) (a .at) (le16 (a .n)) (le16 (a .n / 65_536)) (low .write-16 .ensures) (high .write-162 .ensures)
+    stored-on (a .out .now) (a .at) (le16 (a .n)) (le16 (a .n / Byte.TWO)) (low .write-16 .ensures) (high .write-162 .ensures)
     ∙ ap (λ vs. sets (a .out .now) (a .at) vs) (halves (a .n))
 
 pub write-32-spec : {M : Type 1} → statement M

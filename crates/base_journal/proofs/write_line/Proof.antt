@@ -59,7 +59,7 @@ returns c = let value = c .before .before in
     let two = le16 Line.LENGTH ++ le16 (a .kind) in
     let three = two ++ le32 (a .time) in
     let four = three ++ le32 (a .process) in
-    let code = ap (λ n. sets (process .write-322 .last .0) (at + 12) (le32 n)) (value .before .to-twos .ensures) in
+    let code = ap (λ n. sets (process .write-322 .last .0) (at + Line.VALUE_AT) (le32 n)) (value .before .to-twos .ensures) in
     stored-on (a .out .now) at four (le32 (twos (valueOf (a .value))))
     (stored-on (a .out .now) at three (le32 (a .process))
     (stored-on (a .out .now) at two (le32 (a .time))

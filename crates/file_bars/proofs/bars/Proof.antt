@@ -9,9 +9,10 @@ use Rattle.file_bars.proofs.bars.Statement.{statement}
 use Rattle.file_bars.proofs.bars.Tie as tie
 use Rattle.file_bars.specs.Bits.{strictlyWithin, branchesTo, branchesOf}
 use Rattle.semantics.specs.Words.{all, any}
+use Rattle.base_numbers.specs.Limit as Limit
 
 abbrev Inv-loop : tie.InvT-loop
-Inv-loop map b q from to end x₀ x = (to ≤ 4096) × (end ≤ 4096)
+Inv-loop map b q from to end x₀ x = (to ≤ Limit.BRANCHES) × (end ≤ Limit.BRANCHES)
     × (all (λ w. any (strictlyWithin w) (branchesTo map from to)) (branchesTo map x end)
     ≡ all (λ w. any (strictlyWithin w) (branchesOf map b)) (branchesOf map q))
 

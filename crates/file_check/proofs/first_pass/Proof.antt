@@ -6,6 +6,7 @@ use borrow.Author.Tests.{not-true, not-false}
 use lib.ListN.{length, getD, length-set}
 use mathlib.Core.Path.{_≡_, refl, sym, _∙_, ap}
 use native.Mathlib.Omega.{arith}
+use Rattle.semantics.specs.Kinds as K
 use Rattle.file_reader.specs.Walk.{onward, reads-step}
 use Rattle.file_check.proofs.Pass.{first-torn, first-refused, first-goes, first-ends, passes-few}
 use Rattle.file_check.specs.Check.{firstOf}
@@ -17,7 +18,7 @@ use Rattle.file_check.proofs.first_pass.Statement.{statement}
 use Rattle.file_check.proofs.first_pass.Tie as tie
 
 abbrev Inv-loop : tie.InvT-loop
-Inv-loop s at₀ seen₀ at seen = (length seen ≡ 17) × (firstPass seen (onward s at) ≡ firstPass noneSeen (recordsFrom 0 s))
+Inv-loop s at₀ seen₀ at seen = (length seen ≡ K.groups) × (firstPass seen (onward s at) ≡ firstPass noneSeen (recordsFrom 0 s))
 
 abbrev μ-loop : tie.MeasureT-loop
 μ-loop s at₀ seen₀ at seen = length s - at

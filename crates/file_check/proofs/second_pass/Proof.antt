@@ -5,6 +5,7 @@ use borrow.Author.Needs.{needs}
 use lib.ListN.{length}
 use mathlib.Core.Path.{_≡_, refl, sym, _∙_, ap}
 use native.Mathlib.Omega.{arith}
+use Rattle.semantics.specs.Numbers as No
 use Rattle.file_reader.specs.Walk.{onward}
 use Rattle.file_index.proofs.Records.{Fine, fine-first, step-there, judged-there, fine-there}
 use Rattle.file_check.proofs.Pass.{sized-on, second-refused, second-goes, second-ends}
@@ -15,7 +16,7 @@ use Rattle.file_check.proofs.second_pass.Statement.{statement}
 use Rattle.file_check.proofs.second_pass.Tie as tie
 
 abbrev Inv-loop : tie.InvT-loop
-Inv-loop s n at₀ own₀ at own = Fine (onward s at) × ((own ≤ at) × ((length s ≤ 65535) ×
+Inv-loop s n at₀ own₀ at own = Fine (onward s at) × ((own ≤ at) × ((length s ≤ No.longestFile) ×
     (secondPass n own (onward s at) ≡ secondPass n 0 (recordsFrom 0 s))))
 
 abbrev μ-loop : tie.MeasureT-loop

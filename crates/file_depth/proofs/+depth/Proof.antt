@@ -7,6 +7,7 @@ use borrow.Fn.Kinds.{In}
 use borrow.Fn.PlainCycle.{Measures, is, falls, and}
 use mathlib.Core.Path.{sym}
 use native.Mathlib.Omega.{arith}
+use Rattle.base_numbers.specs.Limit as Limit
 use Rattle.file_depth.proofs.+depth.Lts-depth as depth-lts
 use Rattle.file_depth.proofs.+depth.Tie.{close}
 use Rattle.file_depth.proofs.+depth.{statement}
@@ -20,7 +21,7 @@ use Rattle.file_depth.proofs.start.Reads as start-reads
 use Rattle.base_wide.proofs.short_index.Reads as short-index-reads
 
 abbrev μ-depth : Measures 2 depth-kinds.ps ℕ
-μ-depth κs a = 256 - a .1 .1 .1 .1 .1 .0
+μ-depth κs a = Limit.BLOCKS - a .1 .1 .1 .1 .1 .0
 
 abbrev depth-at : ℕ → In 2 depth-kinds.ps
 depth-at t = and 2 depth-kinds.ps (is 2 depth-kinds.ps μ-depth t) depth.Pre

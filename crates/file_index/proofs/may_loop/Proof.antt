@@ -1,6 +1,7 @@
 -- `file_index::may_loop` meets its contract, by the kinds. Assumes nothing.
 use borrow.Author.Needs.{needs}
 use borrow.Author.Tests.{ne-eqb}
+use Rattle.semantics.specs.Kinds as K
 use Rattle.file_index.proofs.may_loop.Statement.{statement}
 use Rattle.file_index.proofs.may_loop.Tie as tie
 
@@ -21,7 +22,7 @@ returns-2 c = rw (c .before .before .match .keys2, c .body-of .ensures, c .befor
 
 returns-3 : tie.Need-returns-3
 returns-3 c = let r = c .match .rest in
-    rw (ne-eqb (c .before .before .args .kind) 27 (r .0 .1), ne-eqb (c .before .before .args .kind) 28 (r .1))
+    rw (ne-eqb (c .before .before .args .kind) K.WHILE (r .0 .1), ne-eqb (c .before .before .args .kind) K.START (r .1))
 
 pub may-loop-spec : {M : Type 1} → statement M
 may-loop-spec =

@@ -8,6 +8,7 @@ use mathlib.Core.List.{[], _∷_}
 use mathlib.Core.Path.{_≡_, ap}
 use native.Mathlib.Omega.{arith}
 use Prim.Native.Nat.{ℕ, _+_, _*_, _≤_}
+use Rattle.semantics.specs.Numbers as No
 use Rattle.file_index.proofs.Filled.{fills-length}
 use Rattle.file_index.proofs.Rows.{RowsFill, rows-none, rows-room, rows-next, rows-end}
 use Rattle.file_index.proofs.Tries.{fit-four, fit-size, fit-turn, end-turn, claim-there, offered-turn, offered-none-left}
@@ -19,7 +20,7 @@ use Rattle.semantics.specs.Record.{branchesFrom, branchesFit}
 
 abbrev Inv-loop : tie.InvT-loop
 Inv-loop at bs n claim₀ resources₀ bins₀ syncs₀ left₀ rest₀ here₀ next₀ claim resources bins syncs left rest here next =
-    (here + length rest ≤ 65_535) × ((branchesFit left rest ≡ true)
+    (here + length rest ≤ No.longestFile) × ((branchesFit left rest ≡ true)
     × RowsFill (rows claim₀ resources₀ bins₀ syncs₀) n (offeredTry at bs) (rows claim resources bins syncs) next
     (offeredAt here (branchesFrom left rest)))
 
@@ -138,7 +139,7 @@ loop-again c = let b = c .before .before .before .before .before .before .before
     let p = offered-turn (l .left) (l .rest .now) t (l .inv .1 .0) e (l .here) in
     let y = b .branch-noted .last .1 .1 .1 in
     let after : Rows = rows (y .0) (y .1 .0) (y .1 .1 .0) (y .1 .1 .1 .0) in (
-      end-turn (l .left) (l .rest .now) t (l .inv .1 .0) e (l .here) 65_535 (l .inv .0),
+      end-turn (l .left) (l .rest .now) t (l .inv .1 .0) e (l .here) No.longestFile (l .inv .0),
       (
         fit-turn (l .left) (l .rest .now) t (l .inv .1 .0) e,
         rows-next (l .inv .1 .1) (offered _ _ ∷ []) _ p {after = after} (b .branch-noted .ensures),

@@ -10,6 +10,7 @@ use borrow.Fn.PlainCycle.{Measures, is, falls, and}
 use mathlib.Core.Path.{_∙_, sym}
 use native.Mathlib.Nat.{mul-le-mul}
 use native.Mathlib.Omega.{arith}
+use Rattle.base_numbers.specs.Limit as Limit
 use Rattle.file_depth.proofs.Laws.{known-more, measured-known}
 use Rattle.file_depth.proofs.Loop.{begun, turned, all-noted}
 use Rattle.file_weight.proofs.+action_weight+block_weight+class_weight+goes_weight.Lts-action_weight as action-lts
@@ -37,16 +38,16 @@ use Rattle.base_wide.proofs.short_index.Reads as short-index-reads
 use Rattle.file_weight.specs.Weigh.{actsIn}
 
 abbrev μ-action : Measures 2 action-kinds.ps ℕ
-μ-action κs a = (256 - a .1 .1 .1 .1 .1 .1 .1 .1 .0) * 4
+μ-action κs a = (Limit.BLOCKS - a .1 .1 .1 .1 .1 .1 .1 .1 .0) * 4
 
 abbrev μ-block : Measures 2 block-kinds.ps ℕ
-μ-block κs a = (256 - a .1 .1 .1 .1 .1 .1 .1 .1 .0) * 4 + 1
+μ-block κs a = (Limit.BLOCKS - a .1 .1 .1 .1 .1 .1 .1 .1 .0) * 4 + 1
 
 abbrev μ-class : Measures 2 class-kinds.ps ℕ
-μ-class κs a = (256 - a .1 .1 .1 .1 .1 .1 .1 .1 .0) * 4 + 2
+μ-class κs a = (Limit.BLOCKS - a .1 .1 .1 .1 .1 .1 .1 .1 .0) * 4 + 2
 
 abbrev μ-goes : Measures 2 goes-kinds.ps ℕ
-μ-goes κs a = (256 - a .1 .1 .1 .1 .1 .1 .1 .1 .1 .0) * 4 + 3
+μ-goes κs a = (Limit.BLOCKS - a .1 .1 .1 .1 .1 .1 .1 .1 .1 .0) * 4 + 3
 
 abbrev action-at : ℕ → In 2 action-kinds.ps
 action-at t = and 2 action-kinds.ps (is 2 action-kinds.ps μ-action t) action.Pre

@@ -4,6 +4,8 @@ use lib.ListN.{replicate}
 use mathlib.Core.Path.{refl, sym}
 use native.Mathlib.Omega.{arith}
 use borrow.Author.Needs.{needs}
+use Rattle.semantics.specs.Numbers as No
+use Rattle.base_numbers.specs.Process as Process
 use Rattle.row_struct.proofs.Places.{Placed, placed-none, placed-process, placed-all}
 use Rattle.row_struct.proofs.pack_processes.Statement.{statement}
 use Rattle.row_struct.proofs.pack_processes.Tie as tie
@@ -12,7 +14,7 @@ abbrev Inv-loop : tie.InvT-loop
 Inv-loop w ps₀ p₀ ps p = Placed ps w p
 
 abbrev μ-loop : tie.MeasureT-loop
-μ-loop w ps₀ p₀ ps p = 64 - p
+μ-loop w ps₀ p₀ ps p = No.places - p
 
 sub-pack-process : tie.Need-sub-pack-process Inv-loop μ-loop
 sub-pack-process c = search needs
@@ -31,11 +33,11 @@ loop-holds c =
     let r = c .pack-process in
     let o = c .before .before .before in
     placed-process
-    (placed-none (replicate 64 (r .result)) (o .args .w .now) refl (o .pre))
+    (placed-none (replicate No.places (r .result)) (o .args .w .now) refl (o .pre))
     (omega arith)
     (r .result)
     (r .ensures .1)
-    128
+    Process.WORDS
     refl
     (r .ensures .0)
 
@@ -76,7 +78,7 @@ loop-again : tie.Need-loop-again Inv-loop μ-loop
 loop-again c =
     let r = c .pack-process2 in
     let l = c .before .before .before .loop in
-    placed-process (l .inv) (omega arith) (r .result) (r .ensures .1) (128 * l .p + 128) refl (r .ensures .0)
+    placed-process (l .inv) (omega arith) (r .result) (r .ensures .1) (Process.WORDS * l .p + Process.WORDS) refl (r .ensures .0)
 
 returns : tie.Need-returns Inv-loop μ-loop
 returns c = let h = placed-all (c .before .loop .inv) (omega arith) in (sym (h .0), h .1)

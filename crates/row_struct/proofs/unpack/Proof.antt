@@ -4,6 +4,8 @@ use Prim.Native.Nat.{ℕ}
 use mathlib.Core.List.{List, _++_}
 use lib.ListN.{length, take, drop}
 use Rattle.semantics.specs.Words.{collect}
+use Rattle.base_numbers.specs.Row as Row
+use Rattle.base_numbers.specs.Limit as Limit
 use Rattle.row_struct.specs.State.{over, processRowOf}
 use Rattle.row_struct.specs.Same.{processes-long}
 use Rattle.row_struct.proofs.Laying.{part-over, written, _then_}
@@ -31,9 +33,9 @@ entered c =
     let e = d .before .before .before .before .before .before .before .before .before .before .before in
     e .before .before .before .before .before .before .before .before .before .before .before .args .w .now
 
-long : (c : Halfway) → (length (c .before .lay5 .last .1 .0) ≡ 10_696) × (length (entered c) ≡ 10_696)
+long : (c : Halfway) → (length (c .before .lay5 .last .1 .0) ≡ Row.WORDS) × (length (entered c) ≡ Row.WORDS)
 long c =
-    let p : length (entered c) ≡ 10_696 =
+    let p : length (entered c) ≡ Row.WORDS =
     let d = c .before .before .before .before .before .before .before .before .before .before .before in
     let e = d .before .before .before .before .before .before .before .before .before .before .before in
     e .before .before .before .before .before .before .before .before .before .before .before .pre in
@@ -118,21 +120,22 @@ returns c =
     let e1 = e2 .before .before .before .before .before .before .before in
     let o = e1 .before .before .before .before in
     let s = o .args .t1 in
-    let l2 : length (s .free) ≡ 32 = omega (arith, e2 .before .before .lay-arg3 .given) in
-    let l3 : length (s .bins) ≡ 32 = omega (arith, e3 .before .before .lay-arg6 .given) in
-    let l4 : length (s .globals) ≡ 32 = omega (arith, e4 .before .before .lay-arg9 .given) in
-    let l5 : length (s .waits) ≡ 32 = omega (arith, e5 .before .before .lay-arg12 .given) in
-    let l6 : length (s .queue) ≡ 64 = omega (arith, e6 .before .before .lay-arg15 .given) in
-    let l7 : length (s .keys) ≡ 128 = omega (arith, e7 .before .before .lay-arg18 .given) in
-    let l8 : length (s .words) ≡ 128 = omega (arith, e8 .before .before .lay-arg21 .given) in
-    let l9 : length (s .waiting) ≡ 2_048 = omega (arith, e9 .before .before .lay-arg24 .given) in
+    let l2 : length (s .free) ≡ Limit.THINGS = omega (arith, e2 .before .before .lay-arg3 .given) in
+    let l3 : length (s .bins) ≡ Limit.THINGS = omega (arith, e3 .before .before .lay-arg6 .given) in
+    let l4 : length (s .globals) ≡ Limit.THINGS = omega (arith, e4 .before .before .lay-arg9 .given) in
+    let l5 : length (s .waits) ≡ Limit.THINGS = omega (arith, e5 .before .before .lay-arg12 .given) in
+    let l6 : length (s .queue) ≡ Row.WAITERS_MOST = omega (arith, e6 .before .before .lay-arg15 .given) in
+    let l7 : length (s .keys) ≡ Row.EVENTS_MOST = omega (arith, e7 .before .before .lay-arg18 .given) in
+    let l8 : length (s .words) ≡ Row.EVENTS_MOST = omega (arith, e8 .before .before .lay-arg21 .given) in
+    let l9 : length (s .waiting) ≡ Row.WAITERS_ALL = omega (arith, e9 .before .before .lay-arg24 .given) in
     let f = e10 .unpack-processes .ensures in
     let n = processes-long (s .processes) (f .1) in
     let v = e9 .lay9 .last .1 .0 in
     let y = e10 .unpack-processes .last .1 .0 in
-    let e : take 2_504 v ++ (y ++ drop 8_192 (drop 2_504 v)) ≡ over 2_504 (collect processRowOf (s .processes)) v =
-    ap (λ y. take 2_504 v ++ (y ++ drop 8_192 (drop 2_504 v))) (f .0)
-    ∙ part-over 2_504 10_696 (collect processRowOf (s .processes)) v (omega arith) in
+    let e : take Row.PROCESSES v ++ (y ++ drop Row.PROCESSES_ALL (drop Row.PROCESSES v))
+    ≡ over Row.PROCESSES (collect processRowOf (s .processes)) v =
+    ap (λ y. take Row.PROCESSES v ++ (y ++ drop Row.PROCESSES_ALL (drop Row.PROCESSES v))) (f .0)
+    ∙ part-over Row.PROCESSES Row.WORDS (collect processRowOf (s .processes)) v (omega arith) in
     state-unpacked
     s
     _

@@ -3,6 +3,8 @@ use native.Mathlib.Omega.{arith}
 use borrow.Author.Needs.{needs}
 use mathlib.Core.Path.{_≡_, refl}
 use lib.ListN.{length}
+use Rattle.base_numbers.specs.Process as Process
+use Rattle.base_numbers.specs.Limit as Limit
 use Rattle.row_struct.proofs.Laying.{written, _then_}
 use Rattle.row_struct.proofs.Packing.{process-unpacked}
 use Rattle.row_struct.proofs.unpack_process.Statement.{statement}
@@ -39,9 +41,9 @@ returns c =
     let o = e1 .before .before .before .before in
     let q = o .args .t1 in
     let l : length (q .locals) ≡ 8 = omega (arith, e2 .before .before .lay-arg3 .given) in
-    let h : length (q .held) ≡ 32 = omega (arith, e3 .before .before .lay-arg6 .given) in
+    let h : length (q .held) ≡ Limit.THINGS = omega (arith, e3 .before .before .lay-arg6 .given) in
     let b : length (q .blocks) ≡ 8 = omega (arith, e4 .before .before .lay-arg9 .given) in
-    let w : length (q .owned) ≡ 76 = omega (arith, e5 .before .before .lay-arg12 .given) in
+    let w : length (q .owned) ≡ Process.OWNED_MOST = omega (arith, e5 .before .before .lay-arg12 .given) in
     process-unpacked
     q
     _

@@ -3,6 +3,8 @@ use Prim.Native.Nat.{_+_, _-_, _*_}
 use mathlib.Core.Path.{refl, sym, _∙_}
 use mathlib.Core.List.{[]}
 use lib.ListN.{getD}
+use Rattle.semantics.specs.Numbers as No
+use Rattle.base_numbers.specs.Process as Process
 use Rattle.row_struct.specs.declared.Process.{Process}
 use native.Mathlib.Omega.{arith}
 use borrow.Author.Needs.{needs}
@@ -19,7 +21,7 @@ abbrev Inv-loop : tie.InvT-loop
 Inv-loop w₀ ps p₀ w p = Placed ps w p
 
 abbrev μ-loop : tie.MeasureT-loop
-μ-loop w₀ ps p₀ w p = 64 - p
+μ-loop w₀ ps p₀ w p = No.places - p
 
 loop-holds : tie.Need-loop-holds Inv-loop μ-loop
 loop-holds c = placed-none _ _ (search needs) (c .before .pre)
@@ -63,7 +65,7 @@ loop-again c =
     let l = c .before .before .before .before .before .before .loop in
     let ps = c .before .before .before .before .before .before .before .before .args .t1 in
     let q = getD ps (l .p) nothing in
-    placed-row (l .inv) (omega arith) q (r .ensures .1) nothing refl (128 * l .p + 128) refl _ (r .ensures .0)
+    placed-row (l .inv) (omega arith) q (r .ensures .1) nothing refl (Process.WORDS * l .p + Process.WORDS) refl _ (r .ensures .0)
 
 same-length : tie.Need-same-length Inv-loop μ-loop
 same-length c = c .before .loop .inv .long ∙ sym (c .before .before .before .pre)

@@ -6,6 +6,7 @@ use borrow.Author.Needs.{needs}
 use mathlib.Core.Path.{sym, _∙_}
 use lib.Dec.{eqb}
 use lib.ListN.{length}
+use Rattle.semantics.specs.Kinds as K
 use Rattle.file_index.proofs.Records.{step-there, judged-there}
 use Rattle.run_fresh.specs.Fresh.{Declaring}
 use Rattle.run_fresh.proofs.Declaring.{Declared, declare-starts, declared-long, free-room, bins-room, vars-room}
@@ -69,7 +70,7 @@ noted-requires-2 : tie.Need-noted-requires-2 Inv-loop μ-loop
 noted-requires-2 c κs = let i = c .before .before .before .before .before .before .before .before .before in
     let d = i .before .before .before .before .before .pre in
     let k = c .before .before .before .before .before .before .before .before .read .result .kind in
-    bins-room d (i .before .loop .inv d) (c .before .before .before .noted .ensures) (eqb k 2) (c .before .before .before
+    bins-room d (i .before .loop .inv d) (c .before .before .before .noted .ensures) (eqb k K.BIN) (c .before .before .before
     .before .before .amount .result)
 
 noted-requires-3 : tie.Need-noted-requires-3 Inv-loop μ-loop
@@ -79,7 +80,8 @@ noted-requires-3 c κs = let x = c .before .before .before .before .before .befo
     let k = c .before .before .before .before .before .before .before .before .before .before .before .before .read .result
     .kind in
     let a = x .before .before .amount in
-    vars-room d (i .before .loop .inv d) (x .noted .ensures) (c .before .before .before .noted2 .ensures) (eqb k 4) (a .result)
+    vars-room d (i .before .loop .inv d) (x .noted .ensures) (c .before .before .before .noted2 .ensures) (eqb k K.VAR)
+    (a .result)
 
 loop-less : tie.Need-loop-less Inv-loop μ-loop
 loop-less c =

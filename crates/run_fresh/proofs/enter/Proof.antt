@@ -2,6 +2,7 @@
 -- Assumes nothing.
 use native.Mathlib.Omega.{arith}
 use Prim.Native.Nat.{_+_}
+use Rattle.base_numbers.specs.Map as Map
 use Rattle.run_fresh.proofs.Entering.{stays, bytes-there, class-there, beginning, entered}
 use borrow.Author.Needs.{needs}
 use Rattle.run_fresh.proofs.enter.Statement.{statement}
@@ -30,7 +31,7 @@ shared-slice-read-b c = let k = c .before .before in
     class-there (k .before .before .before .before .before .pre) (k .before .if1 .taken) (k .u16-at .ensures .0)
 
 cast-b : tie.Need-cast-b
-cast-b c = omega (arith, c .shared-slice-known3 .given (1281 + c .before .before .u16-at .result))
+cast-b c = omega (arith, c .shared-slice-known3 .given (Map.BODY + c .before .before .u16-at .result))
 
 begin-requires : tie.Need-begin-requires
 begin-requires c κs = let t = c .before .before in

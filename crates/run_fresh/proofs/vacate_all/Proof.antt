@@ -3,12 +3,16 @@ use Prim.Native.Nat.{_+_, _-_, _*_, _≤_, _<_}
 use native.Mathlib.Omega.{arith}
 use mathlib.Core.Path.{_≡_, sym, _∙_, ap}
 use lib.ListN.{length, set}
+use Rattle.semantics.specs.Numbers as No
+use Rattle.base_numbers.specs.Row as Row
+use Rattle.base_numbers.specs.Process as Process
+use Rattle.base_numbers.specs.Code as Code
 use Rattle.run_fresh.proofs.Vacating.{freeFrom, none-free, free-long, one-more-free, all-free}
 use Rattle.run_fresh.proofs.vacate_all.Statement.{statement}
 use Rattle.run_fresh.proofs.vacate_all.Tie as tie
 
 abbrev Inv-loop : tie.InvT-loop
-Inv-loop w₀ p₀ w p = (p ≤ 64) × (w ≡ freeFrom p)
+Inv-loop w₀ p₀ w p = (p ≤ No.places) × (w ≡ freeFrom p)
 
 abbrev μ-loop : tie.MeasureT-loop
 μ-loop w₀ p₀ w p = p
@@ -30,10 +34,10 @@ loop-again : tie.Need-loop-again Inv-loop μ-loop
 loop-again c = let l = c .before .before .before .before .before .loop in
     let q = l .p - 1 in
     let e : l .p ≡ q + 1 = omega arith in
-    let h : q < 64 = omega arith in (
+    let h : q < No.places = omega arith in (
       omega arith,
       c .before .before .set-word .ensures
-          ∙ ap (λ x. set x (2504 + 128 * q + 1) 2147483648) (l .inv .1 ∙ ap freeFrom e)
+          ∙ ap (λ x. set x (Row.PROCESSES + Process.WORDS * q + 1) Code.ZERO) (l .inv .1 ∙ ap freeFrom e)
           ∙ one-more-free q h,
     )
 
@@ -41,7 +45,7 @@ same-length : tie.Need-same-length Inv-loop μ-loop
 same-length c = let l = c .before .loop in
     ap length (l .inv .1)
     ∙ free-long (l .p) (l .inv .0)
-    ∙ sym (ap length (c .before .before .before .pre ∙ none-free) ∙ free-long 64 (omega arith))
+    ∙ sym (ap length (c .before .before .before .pre ∙ none-free) ∙ free-long No.places (omega arith))
 
 returns : tie.Need-returns Inv-loop μ-loop
 returns c = let l = c .before .loop in

@@ -4,6 +4,7 @@ use native.Mathlib.Omega.{arith}
 use mathlib.Core.Path.{refl, _∙_, ap, sym}
 use lib.ListN.{length}
 use Rattle.semantics.specs.Step.{step as stepOf}
+use Rattle.base_numbers.specs.Line as Line
 use Rattle.run_limit.proofs.Aside.{going-long, undone, taken-over, as-many, have-room}
 use borrow.Author.Needs.{needs}
 use Rattle.run_limit.proofs.careful.Statement.{statement}
@@ -68,7 +69,7 @@ copy-requires : tie.Need-copy-requires
 copy-requires c κs =
     let made = c .before .before .before .before .before .before in
     let start = made .before .before .before .before .before .before .before .before .before .before .before in
-    have-room (start .args .journal .now) _ (16 * start .args .at) (16 * made .step .result .lines)
+    have-room (start .args .journal .now) _ (Line.BYTES * start .args .at) (Line.BYTES * made .step .result .lines)
     (omega (arith, c .before .before .if1 .left, start .pre .1 .0))
 
 same-length-2 : tie.Need-same-length-2
