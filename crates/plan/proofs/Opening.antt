@@ -20,6 +20,7 @@ use Rattle.promises.specs.Laws.{and-true}
 use Rattle.file_index.specs.Index.{Readable}
 use Rattle.file_index.proofs.Standing.{accepted-by}
 use Rattle.row_work.specs.Work.{workOf}
+use Rattle.row_work.specs.Underway.{in-state}
 use Rattle.file_map.specs.Map.{Mapped}
 use Rattle.file_map.specs.MapOf.{mapOf}
 use Rattle.run_fresh.specs.Fresh.{Loaded}
@@ -49,16 +50,7 @@ module _ {bs : List ℕ} (a : Accepted bs) where
     pub opened : {w : List ℕ} → ((d : Loaded bs map (replicate 10_696 0)) → w ≡ workOf (fresh (d .model))) → Open bs map w
     opened g =
         let o = begun in
-        record {
-          model = a .model;
-          fits = o .fits;
-          nested = o .nested;
-          few-rounds = o .few-rounds;
-          mapped = maps;
-          is = fresh (a .model);
-          shows = g loaded;
-          sound = o .sound;
-        }
+        record { run = in-state (o .run) (fresh (a .model)) (g loaded); mapped = maps; sound = o .sound }
 
 -- A turn that answers LIMIT, which is 2, has made all its steps; so what is left of a million steps falls.
 abbrev pub leftOf : (answer steps : ℕ) → ℕ

@@ -17,6 +17,7 @@ use Rattle.promises.specs.Calls.{run-sound}
 use Rattle.promises.specs.Answers.{steps-within, lines-fit}
 use Rattle.promises.specs.Answers.{Why, was-closed, was-idle, at-limit, at-fault, no-room, run-why}
 use Rattle.promises.specs.Safe.{step-safe, safe-fault}
+use Rattle.row_work.specs.Underway.{in-state}
 use Rattle.act_floor.specs.Acting.{Open}
 use Rattle.run_limit.specs.declared.Ran.{Ran}
 use Rattle.run_limit.specs.Ran.{answerOf, numberOf, RanAs}
@@ -27,10 +28,10 @@ use Rattle.plan_turn.specs.declared.Answered.{Answered}
 use Rattle.plan_turn.specs.Turn.{AnsweredAs}
 
 module _ {bs map w : List ℕ} (v : Open bs map w) (limit : ℕ) (j : List ℕ) {x : Ran} {w′ j′ : List ℕ}
-    (t : RanAs (run (v .model) limit (roomIn j) (v .is)) x w′ j j′) where
+    (t : RanAs (run (v .run .model) limit (roomIn j) (v .run .is)) x w′ j j′) where
   few : x .lines ≤ length j / 16
   few =
-      let a = leb-true _ (length j / 16) (lines-fit (v .model) limit (roomIn j) (v .is)) in
+      let a = leb-true _ (length j / 16) (lines-fit (v .run .model) limit (roomIn j) (v .run .is)) in
       omega (arith, t .lines-are)
 
   pub fits-journal : length j′ ≡ length j → 16 * x .lines ≤ length j′
@@ -58,35 +59,30 @@ answered {d} h {x} {j = j} {j′} t {b = b} {out} {out′} e f =
 
 -- THE RUN IS STILL OPEN.
 module _ {bs map w : List ℕ} (v : Open bs map w) (limit : ℕ) (j : List ℕ) {r : Answered} {w′ j′ out out′ : List ℕ}
-    (t : AnsweredAs (run (v .model) limit (roomIn j) (v .is)) r w′ j j′ out out′) where
+    (t : AnsweredAs (run (v .run .model) limit (roomIn j) (v .run .is)) r w′ j j′ out out′) where
   abbrev pub still-open : Open bs map w′
   still-open =
       record {
-        model = v .model;
-        fits = v .fits;
-        nested = v .nested;
-        few-rounds = v .few-rounds;
+        run = in-state (v .run) (run (v .run .model) limit (roomIn j) (v .run .is) .state) (t .state-is);
         mapped = v .mapped;
-        is = run (v .model) limit (roomIn j) (v .is) .state;
-        shows = t .state-is;
-        sound = run-sound (v .model) (v .fits) limit (roomIn j) (v .is) (v .sound);
+        sound = run-sound (v .run .model) (v .run .fits) limit (roomIn j) (v .run .is) (v .sound);
       }
 
   pub few-steps : r .steps ≤ limit
-  few-steps = rw (t .steps-are) (steps-within (v .model) limit (roomIn j) (v .is))
+  few-steps = rw (t .steps-are) (steps-within (v .run .model) limit (roomIn j) (v .run .is))
 
   -- LIMIT is answered where all steps were made; a fault has another number.
   pub all-steps : r .answer ≡ 2 → r .steps ≡ limit
-  all-steps e = t .steps-are ∙ by (run-why (v .model) limit (roomIn j) (v .is)) still-sound (sym (t .answer-is) ∙ e)
+  all-steps e = t .steps-are ∙ by (run-why (v .run .model) limit (roomIn j) (v .run .is)) still-sound (sym (t .answer-is) ∙ e)
     where
-      still-sound : Sound (v .model) (run (v .model) limit (roomIn j) (v .is) .state)
-      still-sound = run-sound (v .model) (v .fits) limit (roomIn j) (v .is) (v .sound)
+      still-sound : Sound (v .run .model) (run (v .run .model) limit (roomIn j) (v .run .is) .state)
+      still-sound = run-sound (v .run .model) (v .run .fits) limit (roomIn j) (v .run .is) (v .sound)
 
-      by : {a : definition.Answer} {k : ℕ} {ls : List Line} {u : State} → Why (v .model) limit (roomIn j) a k ls u
-          → Sound (v .model) u → numberOf a ≡ 2 → k ≡ limit
+      by : {a : definition.Answer} {k : ℕ} {ls : List Line} {u : State} → Why (v .run .model) limit (roomIn j) a k ls u
+          → Sound (v .run .model) u → numberOf a ≡ 2 → k ≡ limit
       by (was-closed b) h d = absurd (omega arith)
       by (was-idle b) h d = absurd (omega arith)
       by (at-limit b l) h d = l
       by {u = u} (at-fault b l f) h d =
-          let s = safe-fault (step-safe (v .model) u h b) f in absurd (omega (arith, s, d))
+          let s = safe-fault (step-safe (v .run .model) u h b) f in absurd (omega (arith, s, d))
       by (no-room b l f g) h d = absurd (omega arith)

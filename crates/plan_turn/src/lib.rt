@@ -26,7 +26,7 @@ pub fn turn<'a>(
     requires { ⌜ Open (now s) (now map) (now w) ⌝ }
     requires { ⌜ 40 * (length (now journal) / 16) ≤ length (now out) ⌝ }
     ensures { λ r. ⌜ ((v : Open (now (s .entry)) (now (map .entry)) (now (w .entry))) →
-        AnsweredAs (runOf (v .model) limit (roomIn (now (journal .entry))) (v .is)) r (now (w .exit))
+        AnsweredAs (runOf (v .run .model) limit (roomIn (now (journal .entry))) (v .run .is)) r (now (w .exit))
         (now (journal .entry)) (now (journal .exit)) (now (out .entry)) (now (out .exit))) ⌝ }
 {
     let ran = run_limit::run(s, map, w, limit, journal);

@@ -21,6 +21,7 @@ use Rattle.file_check.specs.declared.Refusal.{Refusal}
 use Rattle.file_check.proofs.Answer.{refuses, accepts}
 use Rattle.row_work.specs.Work.{workOf}
 use Rattle.row_work.specs.Sized.{IsByte}
+use Rattle.row_work.specs.Underway.{in-state}
 use Rattle.file_map.specs.Map.{Mapped}
 use Rattle.file_map.specs.MapOf.{mapOf}
 use Rattle.run_fresh.specs.Fresh.{Loaded}
@@ -81,19 +82,10 @@ module _ (bs : List ℕ) (r : Refusal) (e : r ≡ refusalOf (decode bs)) where
         abbrev pub opened : Open bs map w
         opened =
             let o = begun in
-            record {
-              model = m;
-              fits = o .fits;
-              nested = o .nested;
-              few-rounds = o .few-rounds;
-              mapped = maps;
-              is = fresh m;
-              shows = g loaded;
-              sound = o .sound;
-            }
+            record { run = in-state (o .run) (fresh m) (g loaded); mapped = maps; sound = o .sound }
 
         pub ran-says : (limit : ℕ) (j : List ℕ) (x : Ran) (w′ j′ : List ℕ)
-            → ((v : Open bs map w) → RanAs (run (v .model) limit (roomIn j) (v .is)) x w′ j j′)
+            → ((v : Open bs map w) → RanAs (run (v .run .model) limit (roomIn j) (v .run .is)) x w′ j j′)
             → Says bs limit j (Whole.Ran (x .answer) (x .steps)) j′
         unfolding runFile
         ran-says limit j x w′ j′ h =

@@ -22,6 +22,7 @@ use Rattle.promises.specs.Stays.{step-ok}
 use Rattle.promises.specs.Safe.{step-safe}
 use Rattle.base_numbers.specs.Line as Line
 use Rattle.row_work.specs.Work.{workOf}
+use Rattle.row_work.specs.Underway.{in-state}
 use Rattle.base_journal.specs.Laws.{written-none, written-length, wrote-written}
 use Rattle.base_journal.specs.Wrote.{wroteAt}
 use Rattle.act_floor.specs.Acting.{Open, Going, Stepped}
@@ -44,20 +45,20 @@ module _ {bs map w₀ : List ℕ} (v : Open bs map w₀) (limit : ℕ) (j₀ : L
     pub is : State
     pub made : List Line
     pub shows : w ≡ workOf is
-    pub sound : Sound (v .model) is
+    pub sound : Sound (v .run .model) is
     pub within : steps ≤ limit
     pub many : lines ≡ length made
     pub room : Line.BYTES * lines ≤ length j₀
     pub writes : j ≡ written made j₀
-    pub runs-on : run (v .model) limit (roomIn j₀) (v .is)
-        ≡ added steps made (run (v .model) (limit - steps) (roomFor (length j₀ / Line.BYTES - lines)) is)
+    pub runs-on : run (v .run .model) limit (roomIn j₀) (v .run .is)
+        ≡ added steps made (run (v .run .model) (limit - steps) (roomFor (length j₀ / Line.BYTES - lines)) is)
 
   pub begun : Sofar w₀ j₀ 0 0
   begun =
       record {
-        is = v .is;
+        is = v .run .is;
         made = [];
-        shows = v .shows;
+        shows = v .run .shows;
         sound = v .sound;
         within = omega arith;
         many = refl;
@@ -69,26 +70,16 @@ module _ {bs map w₀ : List ℕ} (v : Open bs map w₀) (limit : ℕ) (j₀ : L
 module _ {bs map w₀ : List ℕ} {v : Open bs map w₀} {limit : ℕ} {j₀ w j : List ℕ} {steps lines : ℕ}
     (f : Sofar v limit j₀ w j steps lines) where
   abbrev m : Model
-  m = v .model
+  m = v .run .model
 
   abbrev whole : definition.Ran
-  whole = run m limit (roomIn j₀) (v .is)
+  whole = run m limit (roomIn j₀) (v .run .is)
 
   abbrev left : ℕ
   left = length j₀ / Line.BYTES - lines
 
   abbrev opened : Open bs map w
-  opened =
-      record {
-        model = m;
-        fits = v .fits;
-        nested = v .nested;
-        few-rounds = v .few-rounds;
-        mapped = v .mapped;
-        is = f .is;
-        shows = f .shows;
-        sound = f .sound;
-      }
+  opened = record { run = in-state (v .run) (f .is) (f .shows); mapped = v .mapped; sound = f .sound }
 
   abbrev pub shown : Showing w
   shown = record { is = f .is; shows = f .shows }
@@ -160,7 +151,7 @@ module _ {bs map w₀ : List ℕ} {v : Open bs map w₀} {limit : ℕ} {j₀ w j
     module _ (fault k : ℕ) (w′ j′ : List ℕ)
         (s : (g : Going bs map w)
         → Stepped (fitted (length j / Line.BYTES - lines)
-        (step (g .running .model) (g .running .is))) fault k w w′ lines j j′) where
+        (step (g .running .run .model) (g .running .run .is))) fault k w w′ lines j j′) where
       came : Stepped (fitted left (step m (f .is))) fault k w w′ lines j j′
       came = subst (λ n. Stepped (fitted (n / Line.BYTES - lines) (step m (f .is))) fault k w w′ lines j j′) as-long (s one-going)
 
@@ -194,7 +185,7 @@ module _ {bs map w₀ : List ℕ} {v : Open bs map w₀} {limit : ℕ} {j₀ w j
                 is = x .state;
                 made = f .made ++ x .lines;
                 shows = s .1 .1 .0;
-                sound = step-ok m (v .fits) (f .is) (f .sound) x (o .0);
+                sound = step-ok m (v .run .fits) (f .is) (f .sound) x (o .0);
                 within = omega (arith, more);
                 many = omega (arith, length-append (f .made) (x .lines));
                 room = omega arith;

@@ -81,7 +81,7 @@ fn careful<'a>(
     requires { ⌜ Going (now s) (now map) (now w) ⌝ }
     requires { ⌜ (Line.BYTES * (at + left) ≤ length (now journal)) × (left ≤ Limit.STEP_LINES) ⌝ }
     ensures { λ r. ⌜ ((v : Going (now (s .entry)) (now (map .entry)) (now (w .entry))) →
-        Stepped (fitted left (stepOf (v .running .model) (v .running .is))) (r .fault) (r .lines)
+        Stepped (fitted left (stepOf (v .running .run .model) (v .running .run .is))) (r .fault) (r .lines)
         (now (w .entry)) (now (w .exit)) at (now (journal .entry)) (now (journal .exit))) ⌝ }
 {
     let mut kept = [0u64; row::WORDS];
@@ -113,7 +113,7 @@ fn advance<'a>(
     requires { ⌜ Going (now s) (now map) (now w) ⌝ }
     requires { ⌜ Line.BYTES * at ≤ length (now journal) ⌝ }
     ensures { λ r. ⌜ ((v : Going (now (s .entry)) (now (map .entry)) (now (w .entry))) →
-        Stepped (fitted (length (now (journal .entry)) / Line.BYTES - at) (stepOf (v .running .model) (v .running .is)))
+        Stepped (fitted (length (now (journal .entry)) / Line.BYTES - at) (stepOf (v .running .run .model) (v .running .run .is)))
         (r .fault) (r .lines) (now (w .entry)) (now (w .exit)) at (now (journal .entry)) (now (journal .exit))) ⌝ }
 {
     let left = journal.len() / line::BYTES - at;
@@ -133,7 +133,7 @@ pub fn run<'a>(
 ) -> Ran
     requires { ⌜ Open (now s) (now map) (now w) ⌝ }
     ensures { λ r. ⌜ ((v : Open (now (s .entry)) (now (map .entry)) (now (w .entry))) →
-        RanAs (runOf (v .model) limit (roomIn (now (journal .entry))) (v .is)) r (now (w .exit))
+        RanAs (runOf (v .run .model) limit (roomIn (now (journal .entry))) (v .run .is)) r (now (w .exit))
         (now (journal .entry)) (now (journal .exit))) ⌝ }
 {
     let mut steps: u32 = 0;

@@ -41,18 +41,21 @@ module _ {bs : List ℕ} (p : Passing bs) (map : List ℕ) (f : map ≡ mapOf (r
       let e = p .passes in
       let h = says-sound-row bs m e w .yes z in
       record {
-        model = m;
-        fits = accepted-fit bs m e;
-        nested = accepted-nested bs m e;
-        few-rounds = accepted-rounds bs m (p .bytes-are) e;
+        run =
+            record {
+              model = m;
+              fits = accepted-fit bs m e;
+              nested = accepted-nested bs m e;
+              few-rounds = accepted-rounds bs m (p .bytes-are) e;
+              is = viewIn m w;
+              shows = h .0;
+            };
         mapped = maps p map f;
-        is = viewIn m w;
-        shows = h .0;
         sound = sound-yes m (viewIn m w) (h .1);
       }
 
   pub ran-says : (limit : ℕ) (j : List ℕ) (r : Ran) (w′ j′ : List ℕ)
-      → ((v : Open bs map w) → RanAs (run (v .model) limit (roomIn j) (v .is)) r w′ j j′)
+      → ((v : Open bs map w) → RanAs (run (v .run .model) limit (roomIn j) (v .run .is)) r w′ j j′)
       → TellsCall (callRow bs (asked limit j) w) r w′ j j′
   ran-says limit j r w′ j′ g =
       let t = g opened in

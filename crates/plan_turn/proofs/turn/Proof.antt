@@ -35,7 +35,7 @@ returns c =
     let at-number-of = at-lines .before .before .before in
     let at-run = at-number-of .before .before .before .before .before in
     λ v.
-    answered (run-writable (v .model) (v .fits) _ _ (v .is) (v .sound)) (at-run .run .ensures v)
+    answered (run-writable (v .run .model) (v .run .fits) _ _ (v .run .is) (v .sound)) (at-run .run .ensures v)
     (at-number-of .number-of .ensures) (at-lines .lines .ensures)
 
 pub turn-spec : {M : Type 1} → statement M

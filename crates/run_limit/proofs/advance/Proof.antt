@@ -37,8 +37,8 @@ returns-2 c =
     let room = made .before .before .before .if1 .left in
     λ v.
     let g = v .running in
-    fits-anyway (stepOf (g .model) (g .is)) _ _ _ _ _ _ _ _ (made .step .ensures v)
-    (λ x e. omega (arith, room, step-lines (g .model) (g .is) (g .sound) x e))
+    fits-anyway (stepOf (g .run .model) (g .run .is)) _ _ _ _ _ _ _ _ (made .step .ensures v)
+    (λ x e. omega (arith, room, step-lines (g .run .model) (g .run .is) (g .sound) x e))
 
 pub advance-spec : {M : Type 1} → statement M
 advance-spec =

@@ -39,7 +39,8 @@ returns c =
     let made = test .before .before .before .before in
     let kept = c .before .before .copy-words2 .ensures ∙ made .before .before .before .before .copy-words .ensures in
     λ v.
-    undone (stepOf (v .running .model) (v .running .is)) _ _ _ _ _ _ _ _ _ _ (made .step .ensures v) (test .if1 .taken) kept
+    undone (stepOf (v .running .run .model) (v .running .run .is)) _ _ _ _ _ _ _ _ _ _ (made .step .ensures v)
+    (test .if1 .taken) kept
 
 mul-size : tie.Need-mul-size
 mul-size c = search needs
@@ -84,7 +85,7 @@ returns-2 c =
     let made = test .before .before .before .before in
     let start = made .before .before .before .before .before .before .before .before .before .before .before in
     λ v.
-    taken-over (stepOf (v .running .model) (v .running .is)) _ _ _ _ _ _ _ _ _ _ (made .step .ensures v)
+    taken-over (stepOf (v .running .run .model) (v .running .run .is)) _ _ _ _ _ _ _ _ _ _ (made .step .ensures v)
     (test .if1 .left) (start .pre .1 .1) refl (start .pre .1 .0) (c .before .before .copy .ensures .1)
 
 pub careful-spec : {M : Type 1} → statement M
