@@ -3,11 +3,14 @@ use Prim.Native.Nat.{ℕ}
 use mathlib.Core.Path.{_≡_}
 use mathlib.Core.List.{List}
 use Rattle.semantics.specs.Model.{Model}
+use Rattle.semantics.specs.Decode.{accepted, decode}
 use Rattle.semantics.specs.State.{State}
+use Rattle.promises.specs.Laws.{AllOf}
 use Rattle.promises.specs.Fit.{Fit, Nested}
 use Rattle.promises.specs.Sound.{Held}
+use Rattle.promises.specs.Accepted.{accepted-fit, accepted-nested}
 use Rattle.row_work.specs.Work.{workOf, FloorSized, Sized}
-use Rattle.row_work.specs.Sized.{Rounds, held-sized}
+use Rattle.row_work.specs.Sized.{Rounds, held-sized, IsByte, accepted-rounds}
 
 -- Whoever has one says what is sound of the state.
 pub record Underway (w : List ℕ) : Type 0 where
@@ -17,6 +20,19 @@ pub record Underway (w : List ℕ) : Type 0 where
   pub few-rounds : Rounds model
   pub is : State
   pub shows : w ≡ workOf is
+
+-- Of an accepted file, in the state s.
+abbrev pub accepted-run : (bs : List ℕ) (m : Model) → AllOf IsByte bs → decode bs ≡ accepted m → (s : State) {w : List ℕ}
+    → w ≡ workOf s → Underway w
+accepted-run bs m h e s shows =
+    record {
+      model = m;
+      fits = accepted-fit bs m e;
+      nested = accepted-nested bs m e;
+      few-rounds = accepted-rounds bs m h e;
+      is = s;
+      shows = shows;
+    }
 
 module _ {w : List ℕ} (r : Underway w) where
   -- The run in another state, which the row x shows.

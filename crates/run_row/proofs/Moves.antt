@@ -8,9 +8,8 @@ use Rattle.semantics.specs.Bytes.{recordsFrom}
 use Rattle.semantics.specs.Run.{run}
 use Rattle.semantics.specs.Journal.{roomIn}
 use Rattle.promises.specs.Decides.{sound-yes}
-use Rattle.promises.specs.Accepted.{accepted-fit, accepted-nested}
 use Rattle.base_journal.specs.Laws.{written-none}
-use Rattle.row_work.specs.Sized.{accepted-rounds}
+use Rattle.row_work.specs.Underway.{accepted-run}
 use Rattle.file_map.specs.MapOf.{mapOf}
 use Rattle.act_floor.specs.Acting.{Open}
 use Rattle.run_limit.specs.declared.Ran.{Ran}
@@ -41,15 +40,7 @@ module _ {bs : List ℕ} (p : Passing bs) (map : List ℕ) (f : map ≡ mapOf (r
       let e = p .passes in
       let h = says-sound-row bs m e w .yes z in
       record {
-        run =
-            record {
-              model = m;
-              fits = accepted-fit bs m e;
-              nested = accepted-nested bs m e;
-              few-rounds = accepted-rounds bs m (p .bytes-are) e;
-              is = viewIn m w;
-              shows = h .0;
-            };
+        run = accepted-run bs m (p .bytes-are) e (viewIn m w) (h .0);
         mapped = maps p map f;
         sound = sound-yes m (viewIn m w) (h .1);
       }
