@@ -1,7 +1,7 @@
 // What a block and a class weigh, up to the least weight that is OVER: a block's weight calls its actions', and an action's the
 // weights of the later blocks, or of the class, that it goes to, each block weighed once.
 ghost use mathlib.Core.Path.{_≡_};
-ghost use Prim.Native.Nat.{_+_, _≤_, _<_, max};
+ghost use Prim.Native.Nat.{_+_, _<_, max};
 ghost use lib.Dec.{eqb};
 ghost use lib.ListN.{getD};
 ghost use Rattle.base_numbers.specs.Limit as Limit;

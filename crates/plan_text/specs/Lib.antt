@@ -1,4 +1,5 @@
 pub mod Text
+pub mod Width
 pub mod Vectors
 pub mod Tells
 pub mod Writable

@@ -13,41 +13,46 @@ use Rattle.semantics.specs.Walk.{Line}
 use Rattle.semantics.specs.Journal.{twos, lineBytes, journal, written}
 use Rattle.semantics.specs.Plan.{PrintedLine, printLine}
 use Rattle.promises.specs.Laws.{AllOf}
+use Rattle.base_numbers.specs.Code as Code
+use Rattle.base_numbers.specs.Line as Line
+use Rattle.base_numbers.specs.Byte as Byte
 
 -- The line that bs begins with.
 abbrev pub tellIn : List ℕ → PrintedLine
-tellIn bs = (u32 bs 4, u32 bs 8, u16 bs 2, i32 bs 12)
+tellIn bs = (u32 bs Line.TIME_AT, u32 bs Line.PROCESS_AT, u16 bs Line.KIND_AT, i32 bs Line.VALUE_AT)
 
 -- The first n lines of bs.
 unfoldable pub tellsIn : List ℕ → ℕ → List PrintedLine
 tellsIn bs zero = []
-tellsIn bs (suc n) = tellIn bs ∷ tellsIn (drop 16 bs) n
+tellsIn bs (suc n) = tellIn bs ∷ tellsIn (drop Line.BYTES bs) n
 
 -- A line that its 16 bytes can hold.
 pub record Writable (l : Line) : Type 0 where
-  pub time-fits : l .time < 4_294_967_296
-  pub process-fits : l .process < 4_294_967_296
-  pub kind-fits : l .kind < 65_536
-  pub value-fits : mag (l .value) < 2_147_483_648
+  pub time-fits : l .time < Byte.FOUR
+  pub process-fits : l .process < Byte.FOUR
+  pub kind-fits : l .kind < Byte.TWO
+  pub value-fits : mag (l .value) < Code.ZERO
 
 -- NUMBERS come back from their bytes.
-low-half : (n : ℕ) → n % 256 + 256 * (n / 256 % 256) ≡ n % 65_536
-low-half n = omega (arith, div-div-eq-div-mul n 256 256)
+low-half : (n : ℕ) → n % Byte.ONE + Byte.ONE * (n / Byte.ONE % Byte.ONE) ≡ n % Byte.TWO
+low-half n = omega (arith, div-div-eq-div-mul n Byte.ONE Byte.ONE)
 
-from-le16 : (n : ℕ) → n < 65_536 → n % 256 + 256 * (n / 256 % 256) ≡ n
+from-le16 : (n : ℕ) → n < Byte.TWO → n % Byte.ONE + Byte.ONE * (n / Byte.ONE % Byte.ONE) ≡ n
 from-le16 n h = omega arith
 
-from-le32 : (n : ℕ) → n < 4_294_967_296
-    → (n % 256 + 256 * (n / 256 % 256)) + 65_536 * (n / 65_536 % 256 + 256 * (n / 16_777_216 % 256)) ≡ n
+from-le32 : (n : ℕ) → n < Byte.FOUR
+    → (n % Byte.ONE + Byte.ONE * (n / Byte.ONE % Byte.ONE))
+    + Byte.TWO * (n / Byte.TWO % Byte.ONE + Byte.ONE * (n / (Byte.TWO * Byte.ONE) % Byte.ONE))
+    ≡ n
 from-le32 n h =
-    rw (low-half n, ← div-div-eq-div-mul n 65_536 256, from-le16 (n / 65_536) (omega arith)) (omega arith)
+    rw (low-half n, ← div-div-eq-div-mul n Byte.TWO Byte.ONE, from-le16 (n / Byte.TWO) (omega arith)) (omega arith)
 
-signed-twos : (v : ℤ) → mag v < 2_147_483_648 → signed (twos v) ≡ v
-signed-twos (pos n) h = rw (lt-ltb n 2_147_483_648 h)
+signed-twos : (v : ℤ) → mag v < Code.ZERO → signed (twos v) ≡ v
+signed-twos (pos n) h = rw (lt-ltb n Code.ZERO h)
 signed-twos (negsuc n) h =
-    rw (le-ltb (4_294_967_295 - n) 2_147_483_648 (omega arith)) (ap negsuc (omega arith))
+    rw (le-ltb (Code.HIGHEST - n) Code.ZERO (omega arith)) (ap negsuc (omega arith))
 
-twos-fits : (v : ℤ) → mag v < 2_147_483_648 → twos v < 4_294_967_296
+twos-fits : (v : ℤ) → mag v < Code.ZERO → twos v < Byte.FOUR
 twos-fits (pos n) h = omega arith
 twos-fits (negsuc n) h = omega arith
 
@@ -77,4 +82,4 @@ tells-journal (l ∷ ls) bs h =
 
 pub tells-written : (ls : List Line) (j : List ℕ) → AllOf Writable ls → tellsIn (written ls j) (length ls) ≡ map printLine ls
 unfolding written
-tells-written ls j h = tells-journal ls (drop (16 * length ls) j) h
+tells-written ls j h = tells-journal ls (drop (Line.BYTES * length ls) j) h

@@ -16,10 +16,17 @@ abbrev pub ascii : String → List ℕ
 ascii no-letter = []
 ascii (c then s) = code c ∷ ascii s
 
+-- Numbers are told in tens; and the byte of the digit 0.
+abbrev pub BASE : ℕ
+BASE = 10
+
+abbrev pub ZERO : ℕ
+ZERO = 48
+
 -- A number in decimal: its last digit stands behind the digits of a tenth of it. n is above the number.
 unfoldable pub digitsIn : ℕ → ℕ → List ℕ
 digitsIn zero x = []
-digitsIn (suc n) x = elim (ltb x 10) [ true ↦ (48 + x) ∷ [] | false ↦ digitsIn n (x / 10) ++ ((48 + x % 10) ∷ []) ]
+digitsIn (suc n) x = elim (ltb x BASE) [ true ↦ (ZERO + x) ∷ [] | false ↦ digitsIn n (x / BASE) ++ ((ZERO + x % BASE) ∷ []) ]
 
 unfoldable pub decimal : ℕ → List ℕ
 unfolding digitsIn

@@ -54,7 +54,7 @@ writable : {t p k : ℕ} {v : ℤ} → t ≤ No.latest → p ≤ No.lastNumber �
 writable a b c d =
     record { time-fits = omega arith; process-fits = omega arith; kind-fits = omega arith; value-fits = d }
 
-small : (i : ℕ) → i ≤ 64 → I32 (pos i)
+small : (i : ℕ) → i ≤ No.places → I32 (pos i)
 small i h = omega arith
 
 -- PROCESS NUMBERS stay as they are where a process changes, and where one takes what is offered.
@@ -156,7 +156,7 @@ module _ (m : Model) (t : Fit m) where
   unfolding walk
   walk-writes s c h = walk-on-writes (s .blocked) s [] c h
 
-free-writes : (i : ℕ) → i ≤ 64 → (rs : List ℕ) (s : State) → s .clock ≤ No.latest → Numbered (s .processes)
+free-writes : (i : ℕ) → i ≤ No.places → (rs : List ℕ) (s : State) → s .clock ≤ No.latest → Numbered (s .processes)
     → AllOf Writable (freeAll i rs s .lines)
 unfolding freeAll wake
 free-writes i l [] s c h = tt
@@ -293,7 +293,7 @@ module _ (m : Model) (t : Fit m) (s : State) (h : SmallIn s) (p : ℕ) where
 -- ONE STEP, and a run.
 module _ (m : Model) (t : Fit m) where
   -- a return, and who is granted then
-  return-writes : (s : State) → SmallIn s → s .last ≤ No.lastNumber → (known k : ℕ) → known ≤ 32 → k ≤ No.closed
+  return-writes : (s : State) → SmallIn s → s .last ≤ No.lastNumber → (known k : ℕ) → known ≤ No.mostThings → k ≤ No.closed
       → {c : ℤ} {i n g : ℕ} → ReturnOk known (s .last) c i n g → Writes (ok (after (line s g k (pos i)) (walk m s)))
   return-writes s h l known k f e {i = i} {g = g} r =
       let a = r .giver-ok in

@@ -9,11 +9,13 @@ ghost use Prim.Native.Nat.{_+_, _*_, _%_, _≤_};
 ghost use lib.ListN.{length};
 ghost use lib.Seq.{sets};
 ghost use Rattle.semantics.specs.Bytes.{signed as signedOf};
-ghost use Rattle.plan_text.specs.Text.{decimal, signedDecimal, lineText, linesText};
+ghost use Rattle.base_numbers.specs.Line as Line;
+ghost use Rattle.plan_text.specs.Text.{ascii, BASE, ZERO, decimal, signedDecimal, lineText, linesText};
 ghost use Rattle.plan_text.specs.Text.{answerText, boundText, endText, refusedText};
 ghost use Rattle.plan_text.specs.Tells.{tellIn, tellsIn};
 ghost use Rattle.plan_text.specs.Codes.{answerOf, boundOf};
 ghost use Rattle.plan_text.specs.Put.{Put, Front};
+ghost use Rattle.plan_text.specs.Width as Width;
 
 // ---- numbers and words at a place; each answers the place behind
 
@@ -22,14 +24,14 @@ const BASE: u64 = 10;
 
 // The last digit of n.
 fn digit(n: u64) -> u8
-    ensures { λ r. ⌜ r ≡ 48 + n % 10 ⌝ }
+    ensures { λ r. ⌜ r ≡ ZERO + n % BASE ⌝ }
 {
     b'0' + ((n % BASE) as u8)
 }
 
 // How many digits n has.
 fn width(n: u64) -> usize
-    ensures { λ r. ⌜ (r ≡ length (decimal n)) × (r ≤ 20) ⌝ }
+    ensures { λ r. ⌜ (r ≡ length (decimal n)) × (r ≤ Width.DIGITS) ⌝ }
 {
     let mut rest = n;
     let mut k = 1;
@@ -58,7 +60,7 @@ fn spell(n: u64, out: &mut [u8], at: usize, end: usize)
 fn digits(n: u64, out: &mut [u8], at: usize) -> usize
     requires { ⌜ at + length (decimal n) ≤ length (now out) ⌝ }
     ensures { λ r. ⌜ Put (decimal n) (now (out .entry)) at (now (out .exit)) r ⌝ }
-    ensures { λ r. ⌜ r ≤ at + 20 ⌝ }
+    ensures { λ r. ⌜ r ≤ at + Width.DIGITS ⌝ }
 {
     let end = at + width(n);
     spell(n, out, at, end);
@@ -81,9 +83,9 @@ fn word<'a>(text: &'a [u8], out: &'a mut [u8], at: usize) -> usize
 
 // n, and a mark behind it: 10 digits at most.
 fn field(n: u32, mark: u8, out: &mut [u8], at: usize) -> usize
-    requires { ⌜ at + 11 ≤ length (now out) ⌝ }
+    requires { ⌜ at + Width.FIELD ≤ length (now out) ⌝ }
     ensures { λ r. ⌜ Put (decimal n ++ mark ∷ []) (now (out .entry)) at (now (out .exit)) r ⌝ }
-    ensures { λ r. ⌜ r ≤ at + 11 ⌝ }
+    ensures { λ r. ⌜ r ≤ at + Width.FIELD ⌝ }
 {
     let end = digits(n as u64, out, at);
     out[end] = mark;
@@ -92,9 +94,9 @@ fn field(n: u32, mark: u8, out: &mut [u8], at: usize) -> usize
 
 // The number whose two's complement is n, and a mark behind it.
 fn signed_field(n: u32, mark: u8, out: &mut [u8], at: usize) -> usize
-    requires { ⌜ at + 12 ≤ length (now out) ⌝ }
+    requires { ⌜ at + Width.SIGNED ≤ length (now out) ⌝ }
     ensures { λ r. ⌜ Put (signedDecimal (signedOf n) ++ mark ∷ []) (now (out .entry)) at (now (out .exit)) r ⌝ }
-    ensures { λ r. ⌜ r ≤ at + 12 ⌝ }
+    ensures { λ r. ⌜ r ≤ at + Width.SIGNED ⌝ }
 {
     if n < twos::NEGATIVE {
         return field(n, mark, out, at);
@@ -105,10 +107,10 @@ fn signed_field(n: u32, mark: u8, out: &mut [u8], at: usize) -> usize
 
 // The line that the journal begins with: 40 bytes at most.
 fn line<'a>(journal: &'a [u8], out: &'a mut [u8], at: usize) -> usize
-    requires { ⌜ 16 ≤ length (now journal) ⌝ }
-    requires { ⌜ at + 40 ≤ length (now out) ⌝ }
+    requires { ⌜ Line.BYTES ≤ length (now journal) ⌝ }
+    requires { ⌜ at + Line.TEXT ≤ length (now out) ⌝ }
     ensures { λ r. ⌜ Put (lineText (tellIn (now (journal .entry)))) (now (out .entry)) at (now (out .exit)) r ⌝ }
-    ensures { λ r. ⌜ r ≤ at + 40 ⌝ }
+    ensures { λ r. ⌜ r ≤ at + Line.TEXT ⌝ }
 {
     let process = field(file_fields::u32_at(journal, line::TIME_AT), b' ', out, at);
     let kind = field(
@@ -128,8 +130,8 @@ fn line<'a>(journal: &'a [u8], out: &'a mut [u8], at: usize) -> usize
 
 // The first n lines of the journal, at the front of `out`; answers how many bytes they are.
 pub fn lines<'a>(journal: &'a [u8], n: usize, out: &'a mut [u8]) -> usize
-    requires { ⌜ 16 * n ≤ length (now journal) ⌝ }
-    requires { ⌜ 40 * n ≤ length (now out) ⌝ }
+    requires { ⌜ Line.BYTES * n ≤ length (now journal) ⌝ }
+    requires { ⌜ Line.TEXT * n ≤ length (now out) ⌝ }
     ensures { λ r. ⌜ Front (linesText (tellsIn (now (journal .entry)) n)) (now (out .entry)) (now (out .exit)) r ⌝ }
 {
     let mut rest = journal;
@@ -147,9 +149,9 @@ pub fn lines<'a>(journal: &'a [u8], n: usize, out: &'a mut [u8]) -> usize
 
 // The answer and a blank.
 fn answered(answer: u32, out: &mut [u8]) -> usize
-    requires { ⌜ 17 ≤ length (now out) ⌝ }
-    ensures { λ r. ⌜ Put (answerText (answerOf answer) ++ 32 ∷ []) (now (out .entry)) 0 (now (out .exit)) r ⌝ }
-    ensures { λ r. ⌜ r ≤ 17 ⌝ }
+    requires { ⌜ Width.ANSWER ≤ length (now out) ⌝ }
+    ensures { λ r. ⌜ Put (answerText (answerOf answer) ++ ascii " ") (now (out .entry)) 0 (now (out .exit)) r ⌝ }
+    ensures { λ r. ⌜ r ≤ Width.ANSWER ⌝ }
 {
     if answer == answer::CLOSED {
         return word(b"closed ", out, 0);
@@ -166,9 +168,9 @@ fn answered(answer: u32, out: &mut [u8]) -> usize
 
 // The bound and the end of the line.
 fn bounded(bound: u64, out: &mut [u8], at: usize) -> usize
-    requires { ⌜ at + 11 ≤ length (now out) ⌝ }
-    ensures { λ r. ⌜ Put (boundText (boundOf bound) ++ 10 ∷ []) (now (out .entry)) at (now (out .exit)) r ⌝ }
-    ensures { λ r. ⌜ r ≤ at + 11 ⌝ }
+    requires { ⌜ at + Width.FIELD ≤ length (now out) ⌝ }
+    ensures { λ r. ⌜ Put (boundText (boundOf bound) ++ ascii "\n") (now (out .entry)) at (now (out .exit)) r ⌝ }
+    ensures { λ r. ⌜ r ≤ at + Width.FIELD ⌝ }
 {
     if bound < bound::NONE {
         return field(bound as u32, b'\n', out, at);
@@ -181,7 +183,7 @@ fn bounded(bound: u64, out: &mut [u8], at: usize) -> usize
 
 // The last line, at the front of `out`; answers how many bytes it has.
 pub fn ending(answer: u32, steps: u32, bound: u64, out: &mut [u8]) -> usize
-    requires { ⌜ 45 ≤ length (now out) ⌝ }
+    requires { ⌜ Width.ENDING ≤ length (now out) ⌝ }
     ensures { λ r. ⌜ Front (endText (answerOf answer) steps (boundOf bound)) (now (out .entry)) (now (out .exit)) r ⌝ }
 {
     let at = answered(answer, out);
@@ -192,7 +194,7 @@ pub fn ending(answer: u32, steps: u32, bound: u64, out: &mut [u8]) -> usize
 
 // A refusal, at the front of `out`; answers how many bytes it has.
 pub fn refusal(number: u32, place: usize, out: &mut [u8]) -> usize
-    requires { ⌜ 43 ≤ length (now out) ⌝ }
+    requires { ⌜ Width.REFUSAL ≤ length (now out) ⌝ }
     ensures { λ r. ⌜ Front (refusedText number place) (now (out .entry)) (now (out .exit)) r ⌝ }
 {
     let at = word(b"refused ", out, 0);

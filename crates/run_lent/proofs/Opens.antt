@@ -10,6 +10,7 @@ use Rattle.semantics.specs.Words.{if_then_else_}
 use Rattle.semantics.specs.Model.{Model}
 use Rattle.semantics.specs.Decode.{Checked, refused, accepted, decode}
 use Rattle.semantics.specs.State.{fresh}
+use Rattle.base_numbers.specs.Row as Row
 use Rattle.file_check.specs.declared.Refusal.{Refusal}
 use Rattle.row_work.specs.Work.{workOf}
 use Rattle.row_struct.specs.declared.State.{State}
@@ -20,7 +21,7 @@ use Rattle.run_lent.specs.declared.Opened.{Opened}
 use Rattle.run_lent.specs.Opened.{TellsOpened}
 
 abbrev zeros : List ℕ
-zeros = replicate 10_696 0
+zeros = replicate Row.WORDS 0
 
 abbrev openedAs : ℕ → ℕ → State → Opened
 openedAs n p s = record { number = n; place = p; state = s }
@@ -31,7 +32,7 @@ module _ (r : Refusal) (w : List ℕ) (s : State) (e : rowOf s ≡ w) (f : Full 
   told-by (refused n p) t =
       record { number-is = t .number-is; place-is = t .place-is; row-is = e ∙ t .row-is; full = f }
   told-by (accepted m) t =
-      let l : eqb (length zeros) 10_696 ≡ true = ap (λ n. eqb n 10_696) (length-replicate {A = ℕ} 10_696 0) in
+      let l : eqb (length zeros) Row.WORDS ≡ true = ap (λ n. eqb n Row.WORDS) (length-replicate {A = ℕ} Row.WORDS 0) in
       let chosen : Bool → handed.Opened =
       λ b. if b then handed.openedAs 0 0 (workOf (fresh m)) else handed.openedAs No.STATE 0 zeros in
       let u = subst (λ b. handed.TellsOpened (chosen b) r w) l t in

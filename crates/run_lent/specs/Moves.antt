@@ -15,6 +15,7 @@ use Rattle.semantics.specs.Run.{FAULT, Ask, isNumber, noEnd, leaves}
 use Rattle.semantics.specs.Bound.{bound, loops}
 use Rattle.promises.specs.Laws.{AllOf}
 use Rattle.promises.specs.Left.{noTry}
+use Rattle.base_numbers.specs.Line as Line
 use Rattle.row_work.specs.Work.{workOf}
 use Rattle.row_work.specs.Sized.{IsByte}
 use Rattle.run_limit.specs.declared.Ran.{Ran}
@@ -33,10 +34,10 @@ module _ (bs : List ℕ) (limit : ℕ) (j w : List ℕ) {r : Ran} {w′ j′ : L
   pub few-steps : r .steps ≤ limit
   few-steps = subst (λ n. n ≤ limit) (sym (t .steps-are)) (call-within bs (asked limit j) w .steps-few)
 
-  pub few-lines : r .lines ≤ length j / 16
+  pub few-lines : r .lines ≤ length j / Line.BYTES
   few-lines =
-      subst (λ n. n ≤ length j / 16) (sym (t .lines-are))
-      (leb-true _ (length j / 16) (call-within bs (asked limit j) w .lines-few))
+      subst (λ n. n ≤ length j / Line.BYTES) (sym (t .lines-are))
+      (leb-true _ (length j / Line.BYTES) (call-within bs (asked limit j) w .lines-few))
 
 -- A CALL THAT WAS MADE: its limit and the journal lent to it, what it told, and the run and the journal that it left.
 pub record Move : Type 0 where

@@ -6,6 +6,7 @@ use lib.ListN.{replicate}
 use Rattle.semantics.specs.Model.{Model}
 use Rattle.semantics.specs.Decode.{Checked, refused, accepted, decode}
 use Rattle.semantics.specs.State.{fresh}
+use Rattle.base_numbers.specs.Row as Row
 use Rattle.file_check.specs.Check.{refusalOf}
 use Rattle.row_work.specs.Work.{workOf}
 use Rattle.row_struct.specs.declared.State.{State}
@@ -15,7 +16,7 @@ use Rattle.run_lent.specs.declared.Opened.{Opened}
 
 -- The row of the fresh run; of a file that is refused, all 0.
 abbrev pub openedRow : Checked Model → List ℕ
-openedRow (refused n p) = replicate 10_696 0
+openedRow (refused n p) = replicate Row.WORDS 0
 openedRow (accepted m) = workOf (fresh m)
 
 -- The code's r tells what the check says of the file.

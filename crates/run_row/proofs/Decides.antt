@@ -14,6 +14,8 @@ use Rattle.semantics.specs.Sound.{soundIn}
 use Rattle.promises.specs.Fit.{Fit, Nested}
 use Rattle.promises.specs.Says.{Says}
 use Rattle.promises.specs.Accepted.{accepted-fit, accepted-nested}
+use Rattle.base_numbers.specs.Row as Row
+use Rattle.base_numbers.specs.Limit as Limit
 use Rattle.file_index.specs.Index.{Readable, indexOf, countsIn}
 use Rattle.file_index.specs.declared.Index.{Index}
 use Rattle.file_index.specs.declared.Counts.{Counts}
@@ -75,7 +77,7 @@ module _ {bs : List ℕ} (p : Passing bs) where
     pub maps : Mapped bs m map
     maps = rw f (mapped-by bs m (p .passes))
 
-    abbrev pub loaded : Loaded bs map (replicate 10_696 0)
+    abbrev pub loaded : Loaded bs map (replicate Row.WORDS 0)
     loaded = record { model = m; is-accepted = p .passes; is-mapped = maps; is-empty = refl }
 
   -- What it declares, k, and a row.
@@ -101,8 +103,8 @@ module _ {bs : List ℕ} (p : Passing bs) where
 
         -- The index i, the map and the fresh work x.
         module _ (i : Index) (n : i ≡ indexOf (recordsFrom 0 bs)) (map : List ℕ) (f : map ≡ mapOf (recordsFrom 0 bs))
-            (x : List ℕ) (g : (d : Loaded bs map (replicate 10_696 0)) → x ≡ workOf (fresh (d .model))) where
-          abbrev pub handed : sound.Handed bs map w (cut 8 32 x) (k .resources) (k .bins) (k .syncs) (i .classes)
+            (x : List ℕ) (g : (d : Loaded bs map (replicate Row.WORDS 0)) → x ≡ workOf (fresh (d .model))) where
+          abbrev pub handed : sound.Handed bs map w (cut Row.FREE Limit.THINGS x) (k .resources) (k .bins) (k .syncs) (i .classes)
           handed =
               record {
                 viewed =
@@ -122,7 +124,7 @@ module _ {bs : List ℕ} (p : Passing bs) where
               }
 
           pub sound-says : (r : Bool)
-              → ((v : sound.Handed bs map w (cut 8 32 x) (k .resources) (k .bins) (k .syncs) (i .classes))
+              → ((v : sound.Handed bs map w (cut Row.FREE Limit.THINGS x) (k .resources) (k .bins) (k .syncs) (i .classes))
               → r ≡ soundIn (v .viewed .model) (v .viewed .is))
               → r ≡ soundRow bs w
           sound-says r h = h handed ∙ row-is

@@ -13,6 +13,9 @@ use Rattle.semantics.specs.Model.{Model}
 use Rattle.semantics.specs.State.{Frame, Slave}
 use Rattle.promises.specs.Laws.{AllOf, no-way}
 use Rattle.promises.specs.Fit.{Fit}
+use Rattle.base_numbers.specs.Row as Row
+use Rattle.base_numbers.specs.Process as Process
+use Rattle.base_numbers.specs.Limit as Limit
 use Rattle.base_i32.specs.Code.{valueOf}
 use Rattle.row_work.specs.Shown.{work-long}
 use Rattle.row_view.specs.View.{cut, frameOf, framesOf, waitingOf, seated, processOf, processesOf, viewBy, viewIn}
@@ -28,19 +31,19 @@ frames-long (x ∷ xs) = omega (arith, frames-long xs, length-append (framesOf x
 waiting-long : (ns row : List ℕ) → length (waitingOf ns row) ≡ length ns
 unfolding waitingOf
 waiting-long [] row = refl
-waiting-long (n ∷ ns) row = ap suc (waiting-long ns (drop 64 row))
+waiting-long (n ∷ ns) row = ap suc (waiting-long ns (drop Row.WAITERS_MOST row))
 
 none-long : (fs : List Frame) → isEmpty fs ≡ true → length fs ≡ 0
 none-long [] e = refl
 none-long (f ∷ fs) e = no-way e
 
 -- A PROCESS, by how many blocks it is in.
-module _ (m : Model) (few : length (m .totals) ≤ 32) where
+module _ (m : Model) (few : length (m .totals) ≤ Limit.THINGS) where
   abbrev resources : ℕ
   resources = length (m .totals)
 
   seated-furnished : (d n : ℕ) (v : ℤ) (slaves : List Slave) (locals held blocks : List ℕ) → length locals ≡ 8
-      → length held ≡ 32 → length blocks ≡ 8
+      → length held ≡ Limit.THINGS → length blocks ≡ Limit.DEPTH
       → Furnished m
       (record {
         number = n;
@@ -64,37 +67,39 @@ module _ (m : Model) (few : length (m .totals) ≤ 32) where
         );
       }
 
-  process-furnished : (row : List ℕ) → length row ≡ 128 → Furnished m (processOf resources row)
+  process-furnished : (row : List ℕ) → length row ≡ Process.WORDS → Furnished m (processOf resources row)
   unfolding processOf
   process-furnished row l =
-      seated-furnished (getD row 2 0) _ _ _ (cut 4 8 row) (cut 12 32 row) (cut 44 8 row) (cut-long 4 8 row (omega arith))
-      (cut-long 12 32 row (omega arith))
-      (cut-long 44 8 row (omega arith))
+      seated-furnished (getD row Process.DEPTH 0) _ _ _ (cut Process.LOCALS No.locals row) (cut Process.HELD Limit.THINGS row)
+      (cut Process.BLOCKS Limit.DEPTH row) (cut-long Process.LOCALS No.locals row (omega arith))
+      (cut-long Process.HELD Limit.THINGS row (omega arith))
+      (cut-long Process.BLOCKS Limit.DEPTH row (omega arith))
 
-  all-furnished : (n : ℕ) (rows : List ℕ) → length rows ≡ 128 * n → AllOf (Furnished m) (processesOf resources n rows)
+  all-furnished : (n : ℕ) (rows : List ℕ) → length rows ≡ Process.WORDS * n → AllOf (Furnished m) (processesOf resources n rows)
   unfolding processesOf
   all-furnished zero rows l = tt
   all-furnished (suc n) rows l = (
-    process-furnished (take 128 rows) (length-take-le 128 rows (omega arith)),
-    all-furnished n (drop 128 rows) (omega (arith, length-drop 128 rows)),
+    process-furnished (take Process.WORDS rows) (length-take-le Process.WORDS rows (omega arith)),
+    all-furnished n (drop Process.WORDS rows) (omega (arith, length-drop Process.WORDS rows)),
   )
 
 -- THE STATE.
 pub shown-shaped : (m : Model) (w : List ℕ) → Fit m → Showing m w → Shaped m (viewIn m w)
 unfolding viewBy
 shown-shaped m w f h =
-    let long : length w ≡ 10_696 = ap length (h .is-form) ∙ work-long (viewIn m w) (h .is-sized) in
-    let part : (from n : ℕ) → from ≤ 104 → n ≤ 32 → length (take n (cut from 32 w)) ≡ n =
-    λ from n i j. length-take-le n (cut from 32 w) (omega (arith, cut-long from 32 w (omega arith))) in
+    let long : length w ≡ Row.WORDS = ap length (h .is-form) ∙ work-long (viewIn m w) (h .is-sized) in
+    let part : (from n : ℕ) → from ≤ Row.WAITS → n ≤ Limit.THINGS → length (take n (cut from Limit.THINGS w)) ≡ n =
+    λ from n i j. length-take-le n (cut from Limit.THINGS w) (omega (arith, cut-long from Limit.THINGS w (omega arith))) in
     record {
       frees-many = part 8 (length (m .totals)) (omega arith) (f .few-totals);
-      bins-many = part 40 (length (m .amounts)) (omega arith) (f .few-amounts);
+      bins-many = part Row.BINS (length (m .amounts)) (omega arith) (f .few-amounts);
       vars-many =
-          length-map (take (length (m .vars)) (cut 72 32 w)) valueOf
-          ∙ part 72 (length (m .vars)) (omega arith) (f .few-vars);
+          length-map (take (length (m .vars)) (cut Row.GLOBALS Limit.THINGS w)) valueOf
+          ∙ part Row.GLOBALS (length (m .vars)) (omega arith) (f .few-vars);
       syncs-many =
-          waiting-long (take (m .syncs) (cut 104 32 w)) (cut 456 2_048 w)
-          ∙ part 104 (m .syncs) (omega arith) (f .few-syncs);
+          waiting-long (take (m .syncs) (cut Row.WAITS Limit.THINGS w)) (cut Row.WAITING Row.WAITERS_ALL w)
+          ∙ part Row.WAITS (m .syncs) (omega arith) (f .few-syncs);
       furnished =
-          all-furnished m (f .few-totals) No.places (cut 2_504 8_192 w) (cut-long 2_504 8_192 w (omega arith));
+          all-furnished m (f .few-totals) No.places (cut Row.PROCESSES Row.PROCESSES_ALL w)
+          (cut-long Row.PROCESSES Row.PROCESSES_ALL w (omega arith));
     }

@@ -8,6 +8,8 @@ use Rattle.semantics.specs.Model.{Model, Entity}
 use Rattle.semantics.specs.State.{State, wake, begin, beginAll, bare, fresh}
 use Rattle.promises.specs.Fit.{Fit, Nested}
 use Rattle.promises.specs.FreshSound.{fresh-sound}
+use Rattle.base_numbers.specs.Row as Row
+use Rattle.base_numbers.specs.Limit as Limit
 use Rattle.base_ordered.specs.Lines.{pad}
 use Rattle.row_work.specs.Laid.{laid-part}
 use Rattle.row_work.specs.Work.{workParts, workWidths, workOf, Sized}
@@ -28,23 +30,23 @@ unfolding fresh
 fresh-free m = all-free m (m .entities) (bare m)
 
 -- WHAT IS FREE stands at words 8 to 39.
-free-part : (s : State) → Sized s → cut 8 32 (workOf s) ≡ pad 32 (s .free)
+free-part : (s : State) → Sized s → cut Row.FREE Limit.THINGS (workOf s) ≡ pad Limit.THINGS (s .free)
 unfolding workOf
 free-part s h = laid-part (workParts s) workWidths (work-wide s h) 1 (omega arith)
 
 pub fresh-things : {m : Model} {resources bins syncs variables : ℕ} → Fit m → Nested m → Rounds m
     → Counted m resources bins syncs variables → (x : List ℕ) → x ≡ workOf (fresh m)
-    → Things m (cut 8 32 x) resources bins syncs
+    → Things m (cut Row.FREE Limit.THINGS x) resources bins syncs
 fresh-things {m} {resources} f n r c x e =
     let h : Sized (fresh m) = sound-sized m f n r (fresh m) (fresh-sound m f) in
-    let a : cut 8 32 x ≡ pad 32 (m .totals) =
-    ap (cut 8 32) e ∙ free-part (fresh m) h ∙ ap (pad 32) (fresh-free m) in
-    let l = pad-length 32 (m .totals) (f .few-totals) in
+    let a : cut Row.FREE Limit.THINGS x ≡ pad Limit.THINGS (m .totals) =
+    ap (cut Row.FREE Limit.THINGS) e ∙ free-part (fresh m) h ∙ ap (pad Limit.THINGS) (fresh-free m) in
+    let l = pad-length Limit.THINGS (m .totals) (f .few-totals) in
     record {
       resources-are = sym (c .resources-are);
       bins-are = sym (c .bins-are);
       syncs-are = sym (c .syncs-are);
       totals-many = omega (arith, ap length a, l, c .resources-are, f .few-totals);
       totals-are = λ i k.
-          ap (λ t. getD t i 0) a ∙ pad-at 32 (m .totals) i (omega (arith, c .resources-are));
+          ap (λ t. getD t i 0) a ∙ pad-at Limit.THINGS (m .totals) i (omega (arith, c .resources-are));
     }

@@ -55,7 +55,7 @@ asked limit j = record { limit = limit; room = roomIn j }
 
 -- What the code tells of a run that is turned away.
 abbrev pub away : Ran
-away = record { answer = Fault 20; steps = 0; lines = 0 }
+away = record { answer = Fault No.STATE; steps = 0; lines = 0 }
 
 -- The code's r, the row w′ and the journal, j before and j′ after, tell the call d.
 pub record TellsCall (d : Called) (r : Ran) (w′ j j′ : List ℕ) : Type 0 where

@@ -9,6 +9,7 @@ use Rattle.semantics.specs.Words.{if_then_else_}
 use Rattle.semantics.specs.Model.{Model}
 use Rattle.semantics.specs.Decode.{Checked, refused, accepted, decode}
 use Rattle.semantics.specs.State.{fresh}
+use Rattle.base_numbers.specs.Row as Row
 use Rattle.row_work.specs.Work.{workOf}
 use Rattle.file_check.specs.declared.Refusal.{Refusal}
 
@@ -24,7 +25,7 @@ openedAs n p w = record { number = n; place = p; row = w }
 -- A fresh run, in a row of 10,696 words. A row of any other length has no run in it, and is left as it was.
 abbrev pub opensAs : List ℕ → Checked Model → Opened
 opensAs w (refused n p) = openedAs n p w
-opensAs w (accepted m) = if eqb (length w) 10_696 then openedAs 0 0 (workOf (fresh m)) else openedAs No.STATE 0 w
+opensAs w (accepted m) = if eqb (length w) Row.WORDS then openedAs 0 0 (workOf (fresh m)) else openedAs No.STATE 0 w
 
 unfoldable pub openRow : List ℕ → List ℕ → Opened
 unfolding decode workOf

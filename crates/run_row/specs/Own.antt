@@ -16,6 +16,7 @@ use Rattle.promises.specs.Decides.{sound-yes, sound-back}
 use Rattle.promises.specs.Sound.{Sound}
 use Rattle.promises.specs.Accepted.{accepted-fit, accepted-nested}
 use Rattle.promises.specs.Calls.{call-is, run-sound, calls-sound, never-20}
+use Rattle.base_numbers.specs.Row as Row
 use Rattle.row_work.specs.Work.{workOf, Sized}
 use Rattle.row_work.specs.Sized.{IsByte, accepted-rounds, sound-sized}
 use Rattle.row_work.specs.Shown.{work-long}
@@ -87,7 +88,7 @@ row-turned bs a w z = by (decode bs) refl
     by (accepted m) e = unsound-called bs m e a w z
 
 -- A ROW OF ANOTHER LENGTH is no state's.
-pub other-length : (bs w : List ℕ) → AllOf IsByte bs → (length w ≡ 10_696 → ⊥) → soundRow bs w ≡ false
+pub other-length : (bs w : List ℕ) → AllOf IsByte bs → (length w ≡ Row.WORDS → ⊥) → soundRow bs w ≡ false
 unfolding soundRow
 other-length bs w h n = by (decode bs) refl
   where

@@ -4,6 +4,7 @@ use mathlib.Core.List.{[], _∷_, _++_}
 use Prim.Native.Nat.{_+_}
 use native.Mathlib.Omega.{arith}
 use lib.ListN.{length-set}
+use Rattle.plan_text.specs.Text.{ascii}
 use Rattle.plan_text.specs.Put.{Put}
 use Rattle.plan_text.proofs.Puts.{put-on, put-as, put-length}
 use Rattle.plan_text.proofs.Signs.{not-negative, negative}
@@ -47,7 +48,7 @@ returns-2 c = let put = c .before .before in
     let test = put .before .before in
     let a = test .before .before .args in
     let same = negative (a .n) (test .if1 .left) in
-    let minus : Put (45 ∷ []) (a .out .now) (a .at) _ (a .at + 1) = record { behind = refl; bytes = refl } in (
+    let minus : Put (ascii "-") (a .out .now) (a .at) _ (a .at + 1) = record { behind = refl; bytes = refl } in (
       put-as (sym (ap (λ t. t ++ a .mark ∷ []) same)) (put-on minus (put .field2 .ensures .0)),
       omega (arith, put .field2 .ensures .1),
     )

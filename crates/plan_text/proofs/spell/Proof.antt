@@ -5,7 +5,7 @@ use native.Mathlib.Omega.{arith}
 use borrow.Author.Needs.{needs}
 use lib.ListN.{length, set, length-set}
 use lib.Seq.{sets}
-use Rattle.plan_text.specs.Text.{decimal}
+use Rattle.plan_text.specs.Text.{BASE, ZERO, decimal}
 use Rattle.plan_text.specs.Laws.{decimal-digit, decimal-more, length-digit, length-more}
 use Rattle.plan_text.proofs.Puts.{sets-last}
 use Rattle.plan_text.proofs.spell.Statement.{statement}
@@ -38,12 +38,12 @@ loop-again c = let l = c .before .before .loop in
     let at = c .before .before .before .before .args .at in
     let ten = c .before .loop-test .taken in
     let j = l .i - 1 in
-    let before : j ≡ at + length (decimal (l .rest / 10)) = omega (arith, l .inv .0, length-more (l .rest) ten) in (
+    let before : j ≡ at + length (decimal (l .rest / BASE)) = omega (arith, l .inv .0, length-more (l .rest) ten) in (
       before,
       simp length-set (omega arith),
       simp length-set (l .inv .2),
-      ap (λ d. sets (set (l .out) j d) at (decimal (l .rest / 10))) (c .digit .ensures)
-          ∙ sets-last (decimal (l .rest / 10)) (l .out) at j (48 + l .rest % 10) before
+      ap (λ d. sets (set (l .out) j d) at (decimal (l .rest / BASE))) (c .digit .ensures)
+          ∙ sets-last (decimal (l .rest / BASE)) (l .out) at j (ZERO + l .rest % BASE) before
           ∙ sym (ap (λ t. sets (l .out) at t) (decimal-more (l .rest) ten)) ∙ l .inv .3,
     )
 
@@ -59,8 +59,8 @@ same-length c = simp length-set (c .before .before .loop .inv .2)
 returns : tie.Need-returns Inv-loop μ-loop
 returns c = let l = c .before .before .loop in
     let at = c .before .before .before .before .args .at in
-    let one : l .rest < 10 = c .before .loop-test .left in
-    let last : c .digit2 .result ≡ 48 + l .rest = omega (arith, c .digit2 .ensures) in
+    let one : l .rest < BASE = c .before .loop-test .left in
+    let last : c .digit2 .result ≡ ZERO + l .rest = omega (arith, c .digit2 .ensures) in
     ap (λ d. set (l .out) at d) last ∙ sym (ap (λ t. sets (l .out) at t) (decimal-digit (l .rest) one)) ∙ l .inv .3
 
 pub spell-spec : {M : Type 1} → statement M

@@ -4,12 +4,13 @@ use mathlib.Core.Path.{_≡_}
 use native.Mathlib.Omega.{arith}
 use lib.ListN.{length}
 use Rattle.plan_text.specs.Text.{decimal}
+use Rattle.plan_text.specs.Width as Width
 use Rattle.plan_text.specs.Laws.{length-digit, length-more, decimal-length}
 use Rattle.plan_text.proofs.width.Statement.{statement}
 use Rattle.plan_text.proofs.width.Tie as tie
 
 abbrev Inv-loop : tie.InvT-loop
-Inv-loop n rest₀ k₀ rest k = (k + length (decimal rest) ≡ length (decimal n) + 1) × (length (decimal n) ≤ 20)
+Inv-loop n rest₀ k₀ rest k = (k + length (decimal rest) ≡ length (decimal n) + 1) × (length (decimal n) ≤ Width.DIGITS)
 
 abbrev μ-loop : tie.MeasureT-loop
 μ-loop n rest₀ k₀ rest k = rest
