@@ -1,8 +1,8 @@
 -- What was printed so far, and what comes next: the text of the whole plan, piece by piece. Assumes nothing.
 use Prim.Native.Nat.{ℕ, _+_, _*_, _-_, _≤_, _<_, min}
 use native.Mathlib.Omega.{arith}
-use mathlib.Core.Path.{_≡_, refl, sym, _∙_, ap}
 use native.Mathlib.Nat.{zero-add, add-zero, add-assoc}
+use mathlib.Core.Path.{_≡_, refl, sym, _∙_, ap}
 use mathlib.Core.List.{List, [], _++_, map, map-append, append-nil, append-assoc}
 use mathlib.Core.Bool.{Bool, true, false, _&&_}
 use lib.Dec.{eqb, leb, ltb}
@@ -13,7 +13,7 @@ use Rattle.semantics.specs.Words.{if_then_else_}
 use Rattle.semantics.specs.Model.{Model}
 use Rattle.semantics.specs.State.{State, fresh}
 use Rattle.semantics.specs.Walk.{Line}
-use Rattle.semantics.specs.Decode.{Checked, refused, accepted, decode}
+use Rattle.semantics.specs.Decode.{refused, accepted, decode}
 use Rattle.semantics.specs.Bound.{NONE, OVER, AT, loops, bound, boundIs}
 use Rattle.semantics.specs.Desk.{boundFile}
 use Rattle.semantics.specs.Run.{LIMIT, Ran, stopped, endless, run}
@@ -39,18 +39,16 @@ use Rattle.plan.proofs.Turns.{leftOver, turnAt, turned}
 abbrev textOf : List Line → List ℕ
 textOf ls = linesText (map printLine ls)
 
-abbrev endOf : Model → Ran → List ℕ
-endOf m r = endText (r .answer) (r .steps) (boundIs m)
-
 abbrev ranText : Model → Ran → List ℕ
-ranText m r = textOf (r .lines) ++ endOf m r
-
-text-append : (ls ks : List Line) → textOf (ls ++ ks) ≡ textOf ls ++ textOf ks
-text-append ls ks = ap linesText (map-append printLine ls ks) ∙ lines-append (map printLine ls) (map printLine ks)
+ranText m r = textOf (r .lines) ++ endText (r .answer) (r .steps) (boundIs m)
 
 abbrev wholeRun : Model → Ran
 wholeRun m = run m 1_000_000 endless (fresh m)
 
+text-append : (ls ks : List Line) → textOf (ls ++ ks) ≡ textOf ls ++ textOf ks
+text-append ls ks = ap linesText (map-append printLine ls ks) ∙ lines-append (map printLine ls) (map printLine ks)
+
+-- THE PLAN of a file that is refused, and of one that is accepted.
 module _ (bs : List ℕ) where
   refused-plan : (n p : ℕ) → decode bs ≡ refused n p → plan bs ≡ refusedAt n p
   unfolding plan planFor
@@ -70,7 +68,7 @@ module _ (bs : List ℕ) where
   accepted-text m e = ap printedText (accepted-plan m e)
 
 -- A FRONT of lent bytes, cut off, is the text that was put there.
-pub cut : {t out out′ : List ℕ} {r : ℕ} → Front t out out′ r → take r out′ ≡ t
+cut : {t out out′ : List ℕ} {r : ℕ} → Front t out out′ r → take r out′ ≡ t
 cut {t} {out} f = rw (f .bytes, f .count) (take-append-seam t _)
 
 -- UNDERWAY. `steps` were made and their lines printed, which are `at` bytes; what is left makes up the whole. What was printed
@@ -85,6 +83,7 @@ pub record Underway (bs map w : List ℕ) (answer steps at : ℕ) : Type 0 where
       (leftOver (running .model) (running .is) answer steps)
   pub few-bytes : at ≤ 163_840 * (steps + (if eqb answer 2 then 0 else 1))
 
+-- Nothing is printed of a fresh run.
 pub begin : {bs map w : List ℕ} (o : Open bs map w) → decode bs ≡ accepted (o .model) → o .is ≡ fresh (o .model)
     → {at : ℕ} → at ≡ 0 → Underway bs map w 2 0 at
 unfolding linesText
