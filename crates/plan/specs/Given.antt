@@ -4,8 +4,16 @@ use mathlib.Core.Path.{_≡_}
 use mathlib.Core.List.{List}
 use Rattle.semantics.specs.Model.{Model}
 use Rattle.semantics.specs.Decode.{accepted, decode}
+use Rattle.file_bound.specs.declared.Bounded.{Bounded}
 
 -- It was checked and passed.
 pub record Accepted (bs : List ℕ) : Type 0 where
   pub model : Model
   pub passes : decode bs ≡ accepted model
+
+-- The bound in one word, as `boundOf` reads it. A file that is refused has none: its word isn't used.
+abbrev pub boundWord : Bounded → ℕ
+boundWord (Bounded.At n) = n
+boundWord Bounded.None = 4_294_967_296
+boundWord Bounded.Over = 8_589_934_592
+boundWord (Bounded.Refused n p) = 8_589_934_592
