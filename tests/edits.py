@@ -20,7 +20,7 @@ import sys
 ROOT = pathlib.Path(__file__).resolve().parent.parent
 PAPER = ROOT / 'docs' / 'EDITS.md'
 TRIED = ROOT / 'target' / 'must-fail'
-LIBRARY, PROGRAM = 'src/lib.rt', 'src/main.rt'
+SOURCE, PROGRAM = 'src/lib.rt', 'src/main.rt'
 HEAD = '''# Must-fail edits
 
 One wrong answer each. The gate applies the edits of a file to a copy of its crate, and passes only if the check then refuses the
@@ -77,7 +77,7 @@ class Source:
 
     def __init__(self, crate):
         folder = ROOT / 'crates' / crate
-        self.file = PROGRAM if (folder / PROGRAM).exists() else LIBRARY
+        self.file = PROGRAM if (folder / PROGRAM).exists() else SOURCE
         self.text = (folder / self.file).read_text() if (folder / self.file).exists() else ''
         found = list(ITEM.finditer(self.text))
         self.items = [(m.start(), m[3]) for m in found]
