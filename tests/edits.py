@@ -20,7 +20,7 @@ import sys
 ROOT = pathlib.Path(__file__).resolve().parent.parent
 PAPER = ROOT / 'docs' / 'EDITS.md'
 TRIED = ROOT / 'target' / 'must-fail'
-SOURCE = 'src/lib.rt'
+SOURCE, PROGRAM = 'src/lib.rt', 'src/main.rt'
 HEAD = '''# Must-fail edits
 
 One wrong answer each. The gate applies the edits of a file to a copy of its crate, and passes only if the check then refuses the
@@ -76,8 +76,9 @@ class Source:
     """The functions and constants of a crate's source, and which of them come to which."""
 
     def __init__(self, crate):
-        file = ROOT / 'crates' / crate / SOURCE
-        self.text = file.read_text() if file.exists() else ''
+        folder = ROOT / 'crates' / crate
+        self.file = PROGRAM if (folder / PROGRAM).exists() else SOURCE
+        self.text = (folder / self.file).read_text() if (folder / self.file).exists() else ''
         found = list(ITEM.finditer(self.text))
         self.items = [(m.start(), m[3]) for m in found]
         self.public = {m[3] for m in found if m[1]}
@@ -122,6 +123,11 @@ class Source:
         over = met | {other for other, named in self.names.items() if named & (met - self.public)}
         return [other for _, other in self.items if other in over & self.public]
 
+    def told_of(self, edit):
+        """The functions that an edit is one of: a program has no public ones, so there it is the one that it changes."""
+        name = self.item_of(edit.pairs[0])
+        return [name] if self.file == PROGRAM else self.public_over(name)
+
 
 class Log:
     """What the gate's check said of a copy with the edits of a file: where it refused a fact, and where there were others."""
@@ -139,7 +145,7 @@ class Log:
 
     def functions(self, file, line, source):
         """Those that a file of the copy speaks of; an empty name for a file that speaks of none."""
-        if file == SOURCE:
+        if file == source.file:
             return {source.item_on(line)}
         return set(file.split('/')[1].split('+')) if file.endswith('/Proof.antt') else {''}
 
@@ -148,7 +154,7 @@ def together(source, edits):
     """Faults of the edits of one file: those that could hide behind one another."""
     if len(edits) == 1:
         return []
-    wrong = [f'{edit.name}: not of code alone' for edit in edits if edit.file != SOURCE or not source.in_code(edit)]
+    wrong = [f'{edit.name}: not of code alone' for edit in edits if edit.file != source.file or not source.in_code(edit)]
     for i, edit in enumerate(edits if not wrong else []):
         for other in edits[i + 1:]:
             pairs = [(f, g) for f in source.shown_in(edit) for g in source.shown_in(other)]
@@ -160,7 +166,7 @@ def together(source, edits):
 def refused(source, edits):
     """Faults of the edits of one file as they were tried: those that were not refused for themselves."""
     log = Log(edits[0].crate, edits[0].tried, source)
-    if len(edits) == 1 and (edits[0].file != SOURCE or not source.in_code(edits[0])):
+    if len(edits) == 1 and (edits[0].file != source.file or not source.in_code(edits[0])):
         return [] if log.refused else [f'{edits[0].name}: refused at no fact']
     return [f'{edit.name}: not refused in its own proof, or not at a fact' for edit in edits
             if log.other & source.shown_in(edit) or not log.refused & source.shown_in(edit)]
@@ -171,8 +177,7 @@ def rows():
     for crate in crates():
         source = Source(crate)
         edits = sorted(edits_of(crate), key=lambda edit: source.text.find(edit.pairs[0]))
-        yield crate, source, [(edit, source.public_over(source.item_of(edit.pairs[0])) if edit.file == SOURCE else [])
-                              for edit in edits]
+        yield crate, source, [(edit, source.told_of(edit) if edit.file == source.file else []) for edit in edits]
 
 
 def faults(source, told):
