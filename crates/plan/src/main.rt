@@ -13,6 +13,7 @@ ghost use mathlib.Core.Path.{_≡_};
 ghost use Prim.Native.Nat.{min};
 ghost use lib.ListN.{length};
 ghost use Rattle.plan.specs.Given.{Accepted};
+ghost use Rattle.plan.specs.Room.{TEXT, TURN};
 
 // The lines that the journal has room for, its bytes, and those of the lines as text.
 const LINES: usize = 4096;
@@ -40,7 +41,7 @@ fn print(text: &[u8]) {
 
 // How many steps the next turn may make.
 fn turn_steps(left: u32) -> u32
-    ensures { λ r. ⌜ r ≡ min left 62 ⌝ }
+    ensures { λ r. ⌜ r ≡ min left TURN ⌝ }
 {
     if left < TURN { left } else { TURN }
 }
@@ -48,7 +49,7 @@ fn turn_steps(left: u32) -> u32
 // Runs an accepted model, and prints its lines and its last line.
 fn print_run(s: &[u8], bound: u64, out: &mut [u8])
     requires { ⌜ Accepted (now s) ⌝ }
-    requires { ⌜ length (now out) ≡ 163840 ⌝ }
+    requires { ⌜ length (now out) ≡ TEXT ⌝ }
 {
     let map = file_map::map_of(s);
     let mut w = [0u64; row::WORDS];
@@ -70,7 +71,7 @@ fn print_run(s: &[u8], bound: u64, out: &mut [u8])
 
 // Prints the plan of the model file s, or its refusal.
 fn plan(s: &[u8], out: &mut [u8])
-    requires { ⌜ length (now out) ≡ 163840 ⌝ }
+    requires { ⌜ length (now out) ≡ TEXT ⌝ }
 {
     let refusal = file_check::check(s);
     if refusal.number != 0 {

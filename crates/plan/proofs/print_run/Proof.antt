@@ -4,10 +4,12 @@ use native.Mathlib.Omega.{arith}
 use mathlib.Core.Path.{_≡_, sym, _∙_}
 use lib.ListN.{length, length-replicate}
 use lib.Seq.{length-take-le}
+use Rattle.semantics.specs.Numbers as No
 use Rattle.act_floor.specs.Acting.{Open}
 use Rattle.act_floor.specs.Running.{runs}
 use Rattle.act_floor.specs.Floor.{run-long}
 use Rattle.plan_turn.proofs.Turned.{still-open, few-steps, all-steps}
+use Rattle.plan.specs.Room.{JOURNAL, TEXT}
 use Rattle.plan.proofs.Opening.{reads, loaded, opened, leftOf, falls}
 use borrow.Author.Needs.{needs}
 use Rattle.plan.proofs.print_run.Statement.{statement}
@@ -15,7 +17,7 @@ use Rattle.plan.proofs.print_run.Tie as tie
 
 abbrev Inv-loop : tie.InvT-loop
 Inv-loop s bound out₀ map w₀ journal₀ steps₀ answer₀ out w journal steps answer =
-    Open s (map .words) w × ((length out ≡ 163_840) × ((steps ≤ 1_000_000) × (length journal ≡ 65_536)))
+    Open s (map .words) w × ((length out ≡ TEXT) × ((steps ≤ No.planSteps) × (length journal ≡ JOURNAL)))
 
 abbrev μ-loop : tie.MeasureT-loop
 μ-loop s bound out₀ map w₀ journal₀ steps₀ answer₀ out w journal steps answer = leftOf answer steps
@@ -41,7 +43,7 @@ loop-holds c =
     let start = at-shared-slice-known .before in (
       opened (start .pre .0) (at-shared-slice-known .shared-slice-known .given) (at-map-of .map-of .ensures)
           (at-fresh .fresh .ensures),
-      (start .pre .1, (omega arith, length-replicate {A = ℕ} 65_536 0)),
+      (start .pre .1, (omega arith, length-replicate {A = ℕ} JOURNAL 0)),
     )
 
 sub-turn-steps : tie.Need-sub-turn-steps Inv-loop μ-loop
