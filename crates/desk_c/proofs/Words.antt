@@ -17,6 +17,8 @@ use Rattle.semantics.specs.Run.{Answer, CLOSED, IDLE, LIMIT, FAULT}
 use Rattle.semantics.specs.Journal.{written}
 use Rattle.semantics.specs.Desk.{Told, checkFile, boundFile, runFile}
 use Rattle.promises.specs.Laws.{AllOf}
+use Rattle.base_numbers.specs.Row as Row
+use Rattle.base_numbers.specs.Bound as Bound
 use Rattle.file_check.specs.Check.{refusalOf}
 use Rattle.file_check.specs.declared.Refusal.{Refusal}
 use Rattle.file_check.proofs.Pass.{Number}
@@ -39,13 +41,13 @@ use Rattle.run_by_value.specs.declared.Moved.{Moved}
 use Rattle.run_by_value.specs.Moved.{ranOf, TellsMoved}
 use Rattle.run_lent.specs.declared.Opened.{Opened}
 use Rattle.run_lent.specs.Opened.{TellsOpened}
-use Rattle.desk_c.specs.Word.{refusal, checkWord, boundWord, toldWord, runWord, openWord, moveWord}
+use Rattle.desk_c.specs.Word.{refusal, REFUSED, checkWord, boundWord, toldWord, runWord, openWord, moveWord}
 
 -- The number and the place of a refusal fit into its word, and so does 20.
 abbrev pub Fit : ℕ → ℕ → Type 0
-Fit n p = (n ≤ 20) × (p ≤ 65_535)
+Fit n p = (n ≤ No.STATE) × (p ≤ No.longestFile)
 
-stated-fit : (n p : ℕ) → Number n × (p ≤ 65_535) → Fit n p
+stated-fit : (n p : ℕ) → Number n × (p ≤ No.longestFile) → Fit n p
 stated-fit n p h = (omega (arith, h .0 .1), h .1)
 
 -- CHECK, r.
@@ -53,7 +55,7 @@ module _ (bs : List ℕ) (r : Refusal) (e : r ≡ refusalOf (decode bs)) where
   pub check-small : Fit (r .number) (r .place)
   check-small = go (decode bs) (decode-stated bs) e
     where
-      go : (p : Checked Model) → Stated 65_535 p → r ≡ refusalOf p → Fit (r .number) (r .place)
+      go : (p : Checked Model) → Stated No.longestFile p → r ≡ refusalOf p → Fit (r .number) (r .place)
       go (refused n p) q e = rw e (stated-fit n p q)
       go (accepted m) q e = rw e (omega arith, omega arith)
 
@@ -66,17 +68,17 @@ module _ (bs : List ℕ) (r : Refusal) (e : r ≡ refusalOf (decode bs)) where
       go (accepted m) e = rw e
 
 -- A REFUSAL is as decode states it, whatever is told of an accepted model.
-told-stated : {A : Type 0} (p : Checked Model) (f : Model → A) → Stated 65_535 p
-    → Stated 65_535 (ifAccepted p λ m. accepted (f m))
+told-stated : {A : Type 0} (p : Checked Model) (f : Model → A) → Stated No.longestFile p
+    → Stated No.longestFile (ifAccepted p λ m. accepted (f m))
 told-stated (refused n p) f h = h
 told-stated (accepted m) f h = tt
 
 -- BOUND, b.
 abbrev pub word : Bounded → ℕ
 word (Bounded.At n) = n
-word Bounded.None = 4_294_967_296
-word Bounded.Over = 8_589_934_592
-word (Bounded.Refused n p) = 12_884_901_888 + refusal n p
+word Bounded.None = Bound.NONE
+word Bounded.Over = Bound.OVER
+word (Bounded.Refused n p) = REFUSED + refusal n p
 
 abbrev pub Small : Bounded → Type 0
 Small (Bounded.At n) = Unit {0}
@@ -90,7 +92,7 @@ answer-word (accepted NONE) = refl
 answer-word (accepted OVER) = refl
 answer-word (accepted (AT n)) = refl
 
-answer-small : (p : Checked definition.Bounded) → Stated 65_535 p → Small (boundedOf p)
+answer-small : (p : Checked definition.Bounded) → Stated No.longestFile p → Small (boundedOf p)
 answer-small (refused n p) h = stated-fit n p h
 answer-small (accepted NONE) h = tt
 answer-small (accepted OVER) h = tt
@@ -107,7 +109,7 @@ module _ (bs : List ℕ) (b : Bounded) (e : b ≡ boundedOf (boundFile bs)) wher
 -- RUN, w.
 abbrev pub ranWord : Whole → ℕ
 ranWord (Whole.Ran a steps) = toldWord (answerOf a) steps
-ranWord (Whole.Refused n p) = 12_884_901_888 + refusal n p
+ranWord (Whole.Refused n p) = REFUSED + refusal n p
 
 abbrev pub RanSmall : Whole → Type 0
 RanSmall (Whole.Ran a steps) = Unit {0}
@@ -124,7 +126,7 @@ whole-word : (p : Checked Told) → ranWord (wholeOf p) ≡ runWord p
 whole-word (refused n p) = refl
 whole-word (accepted t) = ap (λ a. toldWord a (t .steps)) (told-same (t .answer))
 
-whole-small : (p : Checked Told) → Stated 65_535 p → RanSmall (wholeOf p)
+whole-small : (p : Checked Told) → Stated No.longestFile p → RanSmall (wholeOf p)
 whole-small (refused n p) h = stated-fit n p h
 whole-small (accepted t) h = tt
 
@@ -155,21 +157,21 @@ module _ (bs : List ℕ) (r : Opened) (t : TellsOpened (decode bs) r) where
         go (accepted m) u = absurd (n (u .number-is))
 
     module _ (z : r .number ≡ 0) where
-      accepts : (d : Checked Model) → Stated 65_535 d → TellsOpened d r → (b : Bool) → eqb (length w) 10_696 ≡ b
+      accepts : (d : Checked Model) → Stated No.longestFile d → TellsOpened d r → (b : Bool) → eqb (length w) Row.WORDS ≡ b
           → opensAs w d ≡ (if b then handed.openedAs 0 0 (rowOf (r .state)) else handed.openedAs No.STATE 0 w)
       accepts (refused k p) h u b e = absurd (omega (arith, h .0 .0, u .number-is, z))
       accepts (accepted m) h u b e = rw (e, u .row-is) refl
 
-      pub open-no-room : (length w ≡ 10_696 → ⊥) → Opens (refusal No.STATE 0) w
+      pub open-no-room : (length w ≡ Row.WORDS → ⊥) → Opens (refusal No.STATE 0) w
       unfolding openRow
       open-no-room n =
-          let e = accepts (decode bs) (decode-stated bs) t false (ne-eqb (length w) 10_696 n) in
+          let e = accepts (decode bs) (decode-stated bs) t false (ne-eqb (length w) Row.WORDS n) in
           (ap openWord (sym e), ap (λ d. d .row) (sym e))
 
-      pub open-fresh : length w ≡ 10_696 → (w′ : List ℕ) → w′ ≡ rowOf (r .state) → Opens 0 w′
+      pub open-fresh : length w ≡ Row.WORDS → (w′ : List ℕ) → w′ ≡ rowOf (r .state) → Opens 0 w′
       unfolding openRow
       open-fresh l w′ x =
-          let e = accepts (decode bs) (decode-stated bs) t true (eq-eqb (length w) 10_696 l) in
+          let e = accepts (decode bs) (decode-stated bs) t true (eq-eqb (length w) Row.WORDS l) in
           (ap openWord (sym e), x ∙ ap (λ d. d .row) (sym e))
 
 -- MOVING ON: the word, the row w′ and the journal, j before and j′ after, tell the call d.
@@ -188,7 +190,7 @@ module _ (bs : List ℕ) (limit : ℕ) (j w : List ℕ) where
   called x = callRow bs (asked limit j) x
 
   -- A row of another length.
-  pub move-away : AllOf IsByte bs → (length w ≡ 10_696 → ⊥) → Moves (called w) (toldWord (FAULT No.STATE) 0) w j j
+  pub move-away : AllOf IsByte bs → (length w ≡ Row.WORDS → ⊥) → Moves (called w) (toldWord (FAULT No.STATE) 0) w j j
   move-away h n = move-says (called w) _ w j j away (turned-says bs w limit j away refl (other-length bs w h n)) refl
 
   -- A row of its length is that of a struct, s; r is what is told of that.

@@ -6,6 +6,7 @@ use run_file::Whole;
 use run_limit::Answer;
 ghost use mathlib.Core.Path.{_≡_};
 ghost use Prim.Native.Nat.{_≤_};
+ghost use Rattle.semantics.specs.Numbers as No;
 ghost use Rattle.semantics.specs.Desk.{checkFile, boundFile, runFile};
 ghost use Rattle.run_limit.specs.Ran.{answerOf};
 ghost use Rattle.semantics.specs.Journal.{written};
@@ -28,8 +29,8 @@ const OVER: u64 = 2 * HIGH;
 const REFUSED: u64 = 3 * HIGH;
 
 fn refusal(number: u32, place: usize) -> u32
-    requires { ⌜ number ≤ 20 ⌝ }
-    requires { ⌜ place ≤ 65535 ⌝ }
+    requires { ⌜ number ≤ No.STATE ⌝ }
+    requires { ⌜ place ≤ No.longestFile ⌝ }
     ensures { λ r. ⌜ r ≡ refusalWord number place ⌝ }
 {
     number * PLACES + (place as u32)

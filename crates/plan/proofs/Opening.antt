@@ -10,6 +10,7 @@ use mir.Syntax.{w8}
 use mir.Val.{Fits}
 use lib.ListN.{getD, replicate}
 use Rattle.semantics.specs.Words.{if_then_else_}
+use Rattle.semantics.specs.Numbers as No
 use Rattle.semantics.specs.Bytes.{recordsFrom}
 use Rattle.semantics.specs.State.{fresh}
 use Rattle.semantics.specs.Decode.{decode}
@@ -17,6 +18,7 @@ use Rattle.file_check.specs.Check.{refusalOf}
 use Rattle.file_check.specs.declared.Refusal.{Refusal}
 use Rattle.file_check.proofs.Answer.{accepts}
 use Rattle.promises.specs.Laws.{and-true}
+use Rattle.base_numbers.specs.Row as Row
 use Rattle.file_index.specs.Index.{Readable}
 use Rattle.file_index.proofs.Standing.{accepted-by}
 use Rattle.row_work.specs.Work.{workOf}
@@ -28,6 +30,7 @@ use Rattle.act_floor.specs.Acting.{Open}
 use Rattle.act_floor.proofs.Fresh.{fresh-open}
 use Rattle.run_file.proofs.Says.{all-bytes}
 use Rattle.plan.specs.Given.{Accepted}
+use Rattle.plan.specs.Room.{TURN}
 
 -- A file that the check doesn't refuse is accepted.
 pub accepted-as : {bs : List ℕ} (r : Refusal) → r ≡ refusalOf (decode bs) → r .number ≡ 0 → Accepted bs
@@ -44,28 +47,28 @@ module _ {bs : List ℕ} (a : Accepted bs) where
     pub maps : Mapped bs (a .model) map
     maps = rw f (begun .mapped)
 
-    abbrev pub loaded : Loaded bs map (replicate 10_696 0)
+    abbrev pub loaded : Loaded bs map (replicate Row.WORDS 0)
     loaded = record { model = a .model; is-accepted = a .passes; is-mapped = maps; is-empty = refl }
 
-    abbrev pub opened : {w : List ℕ} → ((d : Loaded bs map (replicate 10_696 0)) → w ≡ workOf (fresh (d .model))) → Open bs map w
+    abbrev pub opened : {w : List ℕ} → ((d : Loaded bs map (replicate Row.WORDS 0)) → w ≡ workOf (fresh (d .model))) → Open bs map w
     opened g =
         let o = begun in
         record { run = in-state (o .run) (fresh (a .model)) (g loaded); mapped = maps; sound = o .sound }
 
 -- A turn that answers LIMIT, which is 2, has made all its steps; so what is left of a million steps falls.
 abbrev pub leftOf : (answer steps : ℕ) → ℕ
-leftOf a n = (if eqb a 2 then 1 else 0) + (1_000_000 - n)
+leftOf a n = (if eqb a 2 then 1 else 0) + (No.planSteps - n)
 
-pub falls : (a b n k : ℕ) → eqb a 2 && ltb n 1_000_000 ≡ true → (b ≡ 2 → k ≡ min (1_000_000 - n) 62)
+pub falls : (a b n k : ℕ) → eqb a 2 && ltb n No.planSteps ≡ true → (b ≡ 2 → k ≡ min (No.planSteps - n) TURN)
     → leftOf b (n + k) < leftOf a n
 falls a b n k e h = rw (both .0) (by (eqb b 2) refl)
   where
-    both : (eqb a 2 ≡ true) × (ltb n 1_000_000 ≡ true)
-    both = and-true (eqb a 2) (ltb n 1_000_000) e
+    both : (eqb a 2 ≡ true) × (ltb n No.planSteps ≡ true)
+    both = and-true (eqb a 2) (ltb n No.planSteps) e
 
-    l : n < 1_000_000
-    l = ltb-true n 1_000_000 (both .1)
+    l : n < No.planSteps
+    l = ltb-true n No.planSteps (both .1)
 
-    by : (t : Bool) → eqb b 2 ≡ t → (if t then 1 else 0) + (1_000_000 - (n + k)) < 1 + (1_000_000 - n)
+    by : (t : Bool) → eqb b 2 ≡ t → (if t then 1 else 0) + (No.planSteps - (n + k)) < 1 + (No.planSteps - n)
     by true d = let g = h (eqb-true b 2 d) in omega (arith, l)
     by false d = omega arith

@@ -10,6 +10,7 @@ use lib.ListN.{length, take, length-append}
 use lib.Seq.{take-append-seam, length-take-le}
 use borrow.Author.Tests.{eqb-true, leb-true, ltb-true}
 use Rattle.semantics.specs.Words.{if_then_else_}
+use Rattle.semantics.specs.Numbers as No
 use Rattle.semantics.specs.Model.{Model}
 use Rattle.semantics.specs.State.{State, fresh}
 use Rattle.semantics.specs.Walk.{Line}
@@ -33,6 +34,7 @@ use Rattle.plan_turn.proofs.Turned.{still-open, all-steps}
 use Rattle.file_bound.specs.Answer.{boundedOf}
 use Rattle.plan.specs.Given.{boundWord}
 use Rattle.plan.specs.Printed.{planText, Next}
+use Rattle.plan.specs.Room.{JOURNAL, TEXT, TURN}
 use Rattle.plan.proofs.Turns.{leftOver, turnAt, turned}
 
 -- THE TEXT of lines, and that of a run and its end.
@@ -43,7 +45,7 @@ abbrev ranText : Model → Ran → List ℕ
 ranText m r = textOf (r .lines) ++ endText (r .answer) (r .steps) (boundIs m)
 
 abbrev wholeRun : Model → Ran
-wholeRun m = run m 1_000_000 endless (fresh m)
+wholeRun m = run m No.planSteps endless (fresh m)
 
 text-append : (ls ks : List Line) → textOf (ls ++ ks) ≡ textOf ls ++ textOf ks
 text-append ls ks = ap linesText (map-append printLine ls ks) ∙ lines-append (map printLine ls) (map printLine ks)
@@ -71,21 +73,21 @@ module _ (bs : List ℕ) where
 cut : {t out out′ : List ℕ} {r : ℕ} → Front t out out′ r → take r out′ ≡ t
 cut {t} {out} f = rw (f .bytes, f .count) (take-append-seam t _)
 
--- UNDERWAY. `steps` were made and their lines printed, which are `at` bytes; what is left makes up the whole. What was printed
+-- SO FAR `steps` were made and their lines printed, which are `at` bytes; what is left makes up the whole. What was printed
 -- is at most one full text for each step, and one more in a turn that ended the run.
-pub record Underway (bs map w : List ℕ) (answer steps at : ℕ) : Type 0 where
+pub record PrintedSoFar (bs map w : List ℕ) (answer steps at : ℕ) : Type 0 where
   pub running : Open bs map w
-  pub passes : decode bs ≡ accepted (running .model)
+  pub passes : decode bs ≡ accepted (running .run .model)
   pub lines : List Line
   pub place : at ≡ length (textOf lines)
-  pub whole : wholeRun (running .model)
-      ≡ behind (record { answer = LIMIT; steps = steps; state = running .is; lines = lines })
-      (leftOver (running .model) (running .is) answer steps)
-  pub few-bytes : at ≤ 163_840 * (steps + (if eqb answer 2 then 0 else 1))
+  pub whole : wholeRun (running .run .model)
+      ≡ behind (record { answer = LIMIT; steps = steps; state = running .run .is; lines = lines })
+      (leftOver (running .run .model) (running .run .is) answer steps)
+  pub few-bytes : at ≤ TEXT * (steps + (if eqb answer 2 then 0 else 1))
 
 -- Nothing is printed of a fresh run.
-pub begin : {bs map w : List ℕ} (o : Open bs map w) → decode bs ≡ accepted (o .model) → o .is ≡ fresh (o .model)
-    → {at : ℕ} → at ≡ 0 → Underway bs map w 2 0 at
+pub begin : {bs map w : List ℕ} (o : Open bs map w) → decode bs ≡ accepted (o .run .model) → o .run .is ≡ fresh (o .run .model)
+    → {at : ℕ} → at ≡ 0 → PrintedSoFar bs map w 2 0 at
 unfolding linesText
 begin o e f z =
     record {
@@ -101,12 +103,12 @@ begin o e f z =
 behind-assoc : (x y z : Ran) → behind x (behind y z) ≡ behind (behind x y) z
 behind-assoc x y z = rw (add-assoc, append-assoc) refl
 
-module _ {bs map w : List ℕ} {a n at : ℕ} (u : Underway bs map w a n at) where
+module _ {bs map w : List ℕ} {a n at : ℕ} (u : PrintedSoFar bs map w a n at) where
   abbrev m : Model
-  m = u .running .model
+  m = u .running .run .model
 
   abbrev s : State
-  s = u .running .is
+  s = u .running .run .is
 
   abbrev done : Ran
   done = record { answer = LIMIT; steps = n; state = s; lines = u .lines }
@@ -120,11 +122,11 @@ module _ {bs map w : List ℕ} {a n at : ℕ} (u : Underway bs map w a n at) whe
       ∙ append-assoc (textOf (u .lines)) (textOf (x .lines)) _
 
   -- What is printed can be counted in 64 bits.
-  few-in-all : (b : Bool) → n ≤ 1_000_000 → at ≤ 163_840 * (n + (if b then 0 else 1)) → at ≤ 163_840 * 1_000_001
+  few-in-all : (b : Bool) → n ≤ No.planSteps → at ≤ TEXT * (n + (if b then 0 else 1)) → at ≤ TEXT * (No.planSteps + 1)
   few-in-all true l h = omega (arith, l, h)
   few-in-all false l h = omega (arith, l, h)
 
-  pub countable : n ≤ 1_000_000 → (xs : List ℕ) → length xs ≡ 163_840 → (r : ℕ) → r ≤ length xs
+  pub countable : n ≤ No.planSteps → (xs : List ℕ) → length xs ≡ TEXT → (r : ℕ) → r ≤ length xs
       → at + length (take r xs) < 18_446_744_073_709_551_616
   countable l xs long r h =
       omega (arith, few-in-all (eqb a 2) l (u .few-bytes), long, h, length-take-le r xs h)
@@ -133,13 +135,13 @@ module _ {bs map w : List ℕ} {a n at : ℕ} (u : Underway bs map w a n at) whe
   abbrev after : Ran → Ran
   after d = leftOver m (d .state) (numberOf (d .answer)) (n + d .steps)
 
-  module _ (goes : eqb a 2 && ltb n 1_000_000 ≡ true) (limit : ℕ) (l : limit ≡ min (1_000_000 - n) 62)
-      (j : List ℕ) (room : length j ≡ 65_536) where
+  module _ (goes : eqb a 2 && ltb n No.planSteps ≡ true) (limit : ℕ) (l : limit ≡ min (No.planSteps - n) TURN)
+      (j : List ℕ) (room : length j ≡ JOURNAL) where
     answer-limit : a ≡ 2
     answer-limit = eqb-true a 2 (and-true (eqb a 2) _ goes .0)
 
-    under : n < 1_000_000
-    under = ltb-true n 1_000_000 (and-true (eqb a 2) _ goes .1)
+    under : n < No.planSteps
+    under = ltb-true n No.planSteps (and-true (eqb a 2) _ goes .1)
 
     abbrev d : Ran
     d = run m limit (roomIn j) s
@@ -150,8 +152,8 @@ module _ {bs map w : List ℕ} {a n at : ℕ} (u : Underway bs map w a n at) whe
     goes-on : wholeRun m ≡ behind done (behind d (after d))
     goes-on =
         u .whole
-        ∙ ap (λ b. behind done (if b then run m (1_000_000 - n) endless s else stopped (answerOf a) s)) goes
-        ∙ ap (behind done) (turned (u .running .fits) n under s (u .running .sound))
+        ∙ ap (λ b. behind done (if b then run m (No.planSteps - n) endless s else stopped (answerOf a) s)) goes
+        ∙ ap (behind done) (turned (u .running .run .fits) n under s (u .running .sound))
         ∙ ap (λ x. behind done (behind x (after x))) same-turn
 
     abbrev last : List ℕ
@@ -174,7 +176,7 @@ module _ {bs map w : List ℕ} {a n at : ℕ} (u : Underway bs map w a n at) whe
       next-turn = rw (cut (t .text-is)) next-lines
 
       -- It is underway again, with the lines of the turn printed.
-      module _ (long : length out′ ≡ 163_840) {at′ : ℕ} (moved : at′ ≡ at + length (take (r .bytes) out′)) where
+      module _ (long : length out′ ≡ TEXT) {at′ : ℕ} (moved : at′ ≡ at + length (take (r .bytes) out′)) where
         length-is : at′ ≡ length (textOf (u .lines ++ d .lines))
         length-is =
             moved ∙ ap (λ k. k + length (take (r .bytes) out′)) (u .place)
@@ -192,19 +194,19 @@ module _ {bs map w : List ℕ} {a n at : ℕ} (u : Underway bs map w a n at) whe
             (record { answer = LIMIT; steps = n + k; state = d .state; lines = u .lines ++ d .lines })
             (leftOver m (d .state) (r .answer) (n + k))) (sym (t .steps-are))
 
-        full : at′ ≤ 163_840 * n + 163_840
+        full : at′ ≤ TEXT * n + TEXT
         full =
             let f = t .text-is .fits in
             let c = length-take-le (r .bytes) out′ f in
             let b = rw answer-limit at (u .few-bytes) in
             omega (arith, moved, long)
 
-        few-again : (b : Bool) → eqb (r .answer) 2 ≡ b → at′ ≤ 163_840 * ((n + r .steps) + (if b then 0 else 1))
+        few-again : (b : Bool) → eqb (r .answer) 2 ≡ b → at′ ≤ TEXT * ((n + r .steps) + (if b then 0 else 1))
         few-again true e =
             let k = all-steps (u .running) limit j t (eqb-true (r .answer) 2 e) in omega (arith, full, k, l, under)
         few-again false e = omega (arith, full)
 
-        pub turn-on : Underway bs map w′ (r .answer) (n + r .steps) at′
+        pub turn-on : PrintedSoFar bs map w′ (r .answer) (n + r .steps) at′
         turn-on =
             record {
               running = still-open (u .running) limit j t;
@@ -216,14 +218,14 @@ module _ {bs map w : List ℕ} {a n at : ℕ} (u : Underway bs map w a n at) whe
             }
 
   -- THE LAST LINE, in front of which no turn is left.
-  module _ (stops : eqb a 2 && ltb n 1_000_000 ≡ false) (b : ℕ) (e : boundOf b ≡ boundIs m) {out out′ : List ℕ} {r : ℕ}
+  module _ (stops : eqb a 2 && ltb n No.planSteps ≡ false) (b : ℕ) (e : boundOf b ≡ boundIs m) {out out′ : List ℕ} {r : ℕ}
       (f : Front (endText (answerOf a) n (boundOf b)) out out′ r) where
     end-is : planText bs ≡ textOf (u .lines) ++ take r out′
     unfolding linesText
     end-is =
         text-is (stopped (answerOf a) s)
         (u .whole
-        ∙ ap (λ b. behind done (if b then run m (1_000_000 - n) endless s else stopped (answerOf a) s)) stops)
+        ∙ ap (λ b. behind done (if b then run m (No.planSteps - n) endless s else stopped (answerOf a) s)) stops)
         ∙ ap (λ k. textOf (u .lines) ++ endText (answerOf a) k (boundIs m)) (add-zero n)
         ∙ ap (λ x. textOf (u .lines) ++ endText (answerOf a) n x) (sym e)
         ∙ ap (λ x. textOf (u .lines) ++ x) (sym (cut f))
@@ -252,7 +254,7 @@ module _ (bs : List ℕ) {n p : ℕ} (e : decode bs ≡ refused n p) {out out′
   next-refusal z =
       record { front = []; rest = []; place = z; is = refusal-is ∙ sym (append-nil (take r out′)) }
 
-  pub refusal-countable : length out′ ≡ 163_840 → 0 + length (take r out′) < 18_446_744_073_709_551_616
+  pub refusal-countable : length out′ ≡ TEXT → 0 + length (take r out′) < 18_446_744_073_709_551_616
   refusal-countable long = let c = length-take-le r out′ (f .fits) in omega (arith, long, f .fits)
 
   pub refusal-printed : length (take r out′) ≡ length (planText bs)

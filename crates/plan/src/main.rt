@@ -19,6 +19,7 @@ ghost use Rattle.semantics.specs.Desk.{boundFile};
 ghost use Rattle.file_bound.specs.Answer.{boundedOf};
 ghost use Rattle.plan.specs.Given.{Accepted, boundWord};
 ghost use Rattle.plan.specs.Printed.{planText, Next};
+ghost use Rattle.plan.specs.Room.{TEXT, TURN};
 
 // The lines that the journal has room for, its bytes, and those of the lines as text.
 const LINES: usize = 4096;
@@ -55,7 +56,7 @@ fn print<'a>(s: &'a [u8], text: &'a [u8], at: &'a mut usize)
 
 // How many steps the next turn may make.
 fn turn_steps(left: u32) -> u32
-    ensures { λ r. ⌜ r ≡ min left 62 ⌝ }
+    ensures { λ r. ⌜ r ≡ min left TURN ⌝ }
 {
     if left < TURN { left } else { TURN }
 }
@@ -64,7 +65,7 @@ fn turn_steps(left: u32) -> u32
 fn print_run<'a>(s: &'a [u8], bound: u64, out: &'a mut [u8], at: &'a mut usize)
     requires { ⌜ Accepted (now s) ⌝ }
     requires { ⌜ bound ≡ boundWord (boundedOf (boundFile (now s))) ⌝ }
-    requires { ⌜ length (now out) ≡ 163840 ⌝ }
+    requires { ⌜ length (now out) ≡ TEXT ⌝ }
     requires { ⌜ now at ≡ 0 ⌝ }
     ensures { λ _. ⌜ now (at .exit) ≡ length (planText (now (s .entry))) ⌝ }
 {
@@ -88,7 +89,7 @@ fn print_run<'a>(s: &'a [u8], bound: u64, out: &'a mut [u8], at: &'a mut usize)
 
 // Prints the plan of the model file s, or its refusal; answers how many bytes that is.
 fn plan<'a>(s: &'a [u8], out: &'a mut [u8]) -> usize
-    requires { ⌜ length (now out) ≡ 163840 ⌝ }
+    requires { ⌜ length (now out) ≡ TEXT ⌝ }
     ensures { λ r. ⌜ r ≡ length (planText (now (s .entry))) ⌝ }
 {
     let mut at = 0;

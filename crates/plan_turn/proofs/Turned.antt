@@ -17,6 +17,7 @@ use Rattle.promises.specs.Calls.{run-sound}
 use Rattle.promises.specs.Answers.{steps-within, lines-fit}
 use Rattle.promises.specs.Answers.{Why, was-closed, was-idle, at-limit, at-fault, no-room, run-why}
 use Rattle.promises.specs.Safe.{step-safe, safe-fault}
+use Rattle.base_numbers.specs.Line as Line
 use Rattle.row_work.specs.Underway.{in-state}
 use Rattle.act_floor.specs.Acting.{Open}
 use Rattle.run_limit.specs.declared.Ran.{Ran}
@@ -29,15 +30,15 @@ use Rattle.plan_turn.specs.Turn.{AnsweredAs}
 
 module _ {bs map w : List ℕ} (v : Open bs map w) (limit : ℕ) (j : List ℕ) {x : Ran} {w′ j′ : List ℕ}
     (t : RanAs (run (v .run .model) limit (roomIn j) (v .run .is)) x w′ j j′) where
-  few : x .lines ≤ length j / 16
+  few : x .lines ≤ length j / Line.BYTES
   few =
-      let a = leb-true _ (length j / 16) (lines-fit (v .run .model) limit (roomIn j) (v .run .is)) in
+      let a = leb-true _ (length j / Line.BYTES) (lines-fit (v .run .model) limit (roomIn j) (v .run .is)) in
       omega (arith, t .lines-are)
 
-  pub fits-journal : length j′ ≡ length j → 16 * x .lines ≤ length j′
+  pub fits-journal : length j′ ≡ length j → Line.BYTES * x .lines ≤ length j′
   fits-journal e = omega (arith, few)
 
-  pub fits-text : {n : ℕ} → 40 * (length j / 16) ≤ n → 40 * x .lines ≤ n
+  pub fits-text : {n : ℕ} → Line.TEXT * (length j / Line.BYTES) ≤ n → Line.TEXT * x .lines ≤ n
   fits-text h = omega (arith, few)
 
 -- IT TELLS the run d, whose lines can be written.

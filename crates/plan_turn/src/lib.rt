@@ -4,6 +4,7 @@ ghost use Prim.Native.Nat.{_*_, _/_, _≤_};
 ghost use lib.ListN.{length};
 ghost use Rattle.semantics.specs.Run.{run as runOf};
 ghost use Rattle.semantics.specs.Journal.{roomIn};
+ghost use Rattle.base_numbers.specs.Line as Line;
 ghost use Rattle.act_floor.specs.Acting.{Open};
 ghost use Rattle.plan_turn.specs.Turn.{AnsweredAs};
 
@@ -24,7 +25,7 @@ pub fn turn<'a>(
     out: &'a mut [u8],
 ) -> Answered
     requires { ⌜ Open (now s) (now map) (now w) ⌝ }
-    requires { ⌜ 40 * (length (now journal) / 16) ≤ length (now out) ⌝ }
+    requires { ⌜ Line.TEXT * (length (now journal) / Line.BYTES) ≤ length (now out) ⌝ }
     ensures { λ r. ⌜ ((v : Open (now (s .entry)) (now (map .entry)) (now (w .entry))) →
         AnsweredAs (runOf (v .run .model) limit (roomIn (now (journal .entry))) (v .run .is)) r (now (w .exit))
         (now (journal .entry)) (now (journal .exit)) (now (out .entry)) (now (out .exit))) ⌝ }

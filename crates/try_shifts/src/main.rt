@@ -14,6 +14,7 @@ use row_struct::State;
 ghost use Prim.Native.Nat.{_*_, _/_, _≤_};
 ghost use mathlib.Core.Path.{_≡_};
 ghost use lib.ListN.{length};
+ghost use Rattle.base_numbers.specs.Line as Line;
 
 // The lines that the journal has room for, its bytes, and those of the lines as text.
 const LINES: usize = 2;
@@ -71,7 +72,7 @@ fn one_shift<'a>(
     journal: &'a mut [u8],
     out: &'a mut [u8],
 ) -> Shift
-    requires { ⌜ 40 * (length (now journal) / 16) ≤ length (now out) ⌝ }
+    requires { ⌜ Line.TEXT * (length (now journal) / Line.BYTES) ≤ length (now out) ⌝ }
     ensures { λ r. ⌜ (r .steps ≤ limit) × (r .bytes ≤ length (now (out .exit))) ⌝ }
 {
     let moved = run_lent::moved_on(s, run, limit, journal);
@@ -89,7 +90,7 @@ fn one_shift<'a>(
 
 // Moves the run on until it has ended or made 1,000,000 steps, and prints its lines and its last line.
 fn print_run(s: &[u8], opened: State, bound: u64, out: &mut [u8])
-    requires { ⌜ length (now out) ≡ 80 ⌝ }
+    requires { ⌜ length (now out) ≡ 2 * Line.TEXT ⌝ }
 {
     let mut journal = [0u8; JOURNAL];
     let mut run = opened;
@@ -114,7 +115,7 @@ fn print_run(s: &[u8], opened: State, bound: u64, out: &mut [u8])
 
 // Opens a run of the model file s and prints its plan, or its refusal.
 fn plan(s: &[u8], out: &mut [u8])
-    requires { ⌜ length (now out) ≡ 80 ⌝ }
+    requires { ⌜ length (now out) ≡ 2 * Line.TEXT ⌝ }
 {
     let opened = run_lent::open_run(s);
     if opened.number != 0 {

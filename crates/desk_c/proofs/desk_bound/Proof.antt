@@ -2,6 +2,7 @@
 use Prim.Native.Nat.{_+_}
 use borrow.Author.Needs.{needs}
 use mathlib.Core.Path.{sym, _∙_, ap}
+use Rattle.desk_c.specs.Word.{REFUSED}
 use Rattle.desk_c.proofs.Words.{word, bound-says, bound-small}
 use Rattle.desk_c.proofs.desk_bound.Statement.{statement}
 use Rattle.desk_c.proofs.desk_bound.Tie as tie
@@ -52,7 +53,7 @@ returns-3 c = let b = c .before .before .bound in
 
 returns-4 : tie.Need-returns-4
 returns-4 c = let b = c .before .before .before .before .bound in
-    ap (λ x. 12_884_901_888 + x) (c .refusal .ensures)
+    ap (λ x. REFUSED + x) (c .refusal .ensures)
     ∙ (sym (ap word (c .before .before .number .given .1)) ∙ bound-says
     (c .before .before .before .before .before .before .args .file .now) (b .result) (b .ensures))
 

@@ -1,6 +1,7 @@
 -- `desk_c::desk_run` meets its contract: the whole run's answer in one number. Assumes nothing.
 use mathlib.Core.Path.{sym, _∙_, ap}
 use Prim.Native.Nat.{_+_}
+use Rattle.desk_c.specs.Word.{REFUSED}
 use Rattle.desk_c.proofs.Words.{ranWord, run-says, run-small}
 use borrow.Author.Needs.{needs}
 use Rattle.desk_c.proofs.desk_run.Statement.{statement}
@@ -41,7 +42,7 @@ same-length-2 c = search needs
 
 returns-2 : tie.Need-returns-2
 returns-2 c = let w = c .before .before .before .before .before .before .run-whole in (
-  ap (λ x. 12_884_901_888 + x) (c .refusal .ensures)
+  ap (λ x. REFUSED + x) (c .refusal .ensures)
       ∙ (sym (ap ranWord (c .before .before .number .given .1)) ∙ run-says _ _ _ (w .result) (w .ensures .0)),
   w .ensures .1,
 )

@@ -5,12 +5,14 @@ use native.Mathlib.Omega.{arith}
 use mathlib.Core.Path.{_≡_, refl, sym, _∙_, ap}
 use lib.ListN.{length, length-replicate}
 use lib.Seq.{length-take-le}
+use Rattle.semantics.specs.Numbers as No
 use Rattle.act_floor.specs.Running.{runs}
 use Rattle.act_floor.specs.Floor.{run-long}
 use Rattle.plan_text.specs.Codes.{boundOf}
 use Rattle.plan_turn.proofs.Turned.{few-steps, all-steps}
+use Rattle.plan.specs.Room.{JOURNAL, TEXT}
 use Rattle.plan.proofs.Opening.{reads, loaded, opened, leftOf, falls}
-use Rattle.plan.proofs.Printing.{Underway, begin, countable, next-turn, turn-on, next-end, all-printed}
+use Rattle.plan.proofs.Printing.{PrintedSoFar, begin, countable, next-turn, turn-on, next-end, all-printed}
 use Rattle.plan.proofs.Printing.{bound-is}
 use borrow.Author.Needs.{needs}
 use Rattle.plan.proofs.print_run.Statement.{statement}
@@ -18,7 +20,7 @@ use Rattle.plan.proofs.print_run.Tie as tie
 
 abbrev Inv-loop : tie.InvT-loop
 Inv-loop s bound out₀ at₀ map w₀ journal₀ steps₀ answer₀ out at w journal steps answer =
-    Underway s (map .words) w answer steps at × ((length out ≡ 163_840) × ((steps ≤ 1_000_000) × (length journal ≡ 65_536)))
+    PrintedSoFar s (map .words) w answer steps at × ((length out ≡ TEXT) × ((steps ≤ No.planSteps) × (length journal ≡ JOURNAL)))
 
 abbrev μ-loop : tie.MeasureT-loop
 μ-loop s bound out₀ at₀ map w₀ journal₀ steps₀ answer₀ out at w journal steps answer = leftOf answer steps
@@ -45,7 +47,7 @@ loop-holds c =
       begin
           (opened (start .pre .0) (at-shared-slice-known .shared-slice-known .given) (at-map-of .map-of .ensures)
           (at-fresh .fresh .ensures)) (start .pre .0 .passes) refl (start .pre .1 .1 .1),
-      (start .pre .1 .1 .0, (omega arith, length-replicate {A = ℕ} 65_536 0)),
+      (start .pre .1 .1 .0, (omega arith, length-replicate {A = ℕ} JOURNAL 0)),
     )
 
 sub-turn-steps : tie.Need-sub-turn-steps Inv-loop μ-loop

@@ -1,9 +1,11 @@
 -- `try_shifts::print_run` meets its contract: what is left of a million steps falls. Assumes nothing.
-use Prim.Native.Nat.{ℕ, _≤_}
+use Prim.Native.Nat.{ℕ, _*_, _≤_}
 use native.Mathlib.Omega.{arith}
 use mathlib.Core.Path.{_≡_, sym, _∙_}
 use lib.ListN.{length, length-replicate}
 use lib.Seq.{length-take-le}
+use Rattle.semantics.specs.Numbers as No
+use Rattle.base_numbers.specs.Line as Line
 use Rattle.try_shifts.proofs.Falls.{leftOf, falls}
 use borrow.Author.Needs.{needs}
 use Rattle.try_shifts.proofs.print_run.Statement.{statement}
@@ -11,13 +13,13 @@ use Rattle.try_shifts.proofs.print_run.Tie as tie
 
 abbrev Inv-loop : tie.InvT-loop
 Inv-loop s bound out₀ journal₀ run₀ steps₀ answer₀ limit₀ going₀ out journal run steps answer limit going =
-    (length out ≡ 80) × ((steps ≤ 1_000_000) × (length journal ≡ 32))
+    (length out ≡ 2 * Line.TEXT) × ((steps ≤ No.planSteps) × (length journal ≡ 2 * Line.BYTES))
 
 abbrev μ-loop : tie.MeasureT-loop
 μ-loop s bound out₀ journal₀ run₀ steps₀ answer₀ limit₀ going₀ out journal run steps answer limit going = leftOf going steps
 
 loop-holds : tie.Need-loop-holds Inv-loop μ-loop
-loop-holds c = (c .before .before .pre, (omega arith, length-replicate {A = ℕ} 32 0))
+loop-holds c = (c .before .before .pre, (omega arith, length-replicate {A = ℕ} (2 * Line.BYTES) 0))
 
 sub-lesser : tie.Need-sub-lesser Inv-loop μ-loop
 sub-lesser c = c .before .loop .inv .1 .0
