@@ -2,8 +2,9 @@
 
     python3 -B tests/house.py           fails if crates.txt lists for a crate something else than what it uses, or a crate that
                                         stands below it in the list; if docs/ARCHITECTURE.md lacks a crate, or has one that isn't
-                                        there; or if a literal above 9 stands in code, or in specs and contracts, that its tables
-                                        of exceptions don't have
+                                        there; if a name of its glossary doesn't stand in the file that is given with it; or if a
+                                        literal above 9 stands in code, or in specs and contracts, that its tables of exceptions
+                                        don't have
     python3 -B tests/house.py write     writes the lists of crates.txt, in the order of its lines
 
 A crate uses another if its sources, specs or proofs name it, or if it holds a value of a type that the other declares (REACHED).
@@ -89,6 +90,20 @@ def excepted(part):
     return {crate: {int(number.replace(',', '')) for number in re.findall(r'[\d,]*\d', cell)} for crate, cell in ROW.findall(part)}
 
 
+def misplaced(paper):
+    """What of the glossary isn't so: each word has, in brackets at its end, names and the file in crates in which they stand."""
+    part = paper.partition('## Words')[2].partition('\n## ')[0].replace('\n  ', ' ')
+    for line in re.findall(r'(?m)^- .*', part):
+        *names, file = re.search(r'\(([^()]*)\)$', line)[1].split(', ')
+        path = ROOT / 'crates' / file
+        if not path.exists():
+            yield f'docs/ARCHITECTURE.md: there is no {file}'
+            continue
+        for name in names:
+            if not re.search(r'(?<![\w-])%s(?![\w-])' % re.escape(name.strip('`')), path.read_text()):
+                yield f'docs/ARCHITECTURE.md: {name} does not stand in {file}'
+
+
 def faults():
     table, paper = native.listed(), PAPER.read_text()
     if LIST.read_text() != '\n'.join(lists(table)) + '\n':
@@ -101,6 +116,7 @@ def faults():
     told = set(re.findall(r'(?m)^\| `(\w+)` \|', paper.partition('## The floors')[2].partition('\n## ')[0]))
     yield from (f'docs/ARCHITECTURE.md does not say what {crate} is' for crate in order if crate not in told)
     yield from (f'docs/ARCHITECTURE.md speaks of {crate}' for crate in sorted(told - set(order)) if not crate.endswith('_'))
+    yield from misplaced(paper)
     part = paper.partition('## Literals that stay')[2].partition('\n## ')[0]
     in_code, _, in_specs = part.partition('In specs and contracts')
     for found, where, stays in ((literals, 'code', excepted(in_code)), (said, 'specs and contracts', excepted(in_specs))):
