@@ -133,7 +133,7 @@ def main(words):
     wrong = list(faults())
     if wrong:
         sys.exit('\n'.join(wrong))
-    print(len(native.listed()), 'crates: what each uses, what it is, and no number in its code, specs and contracts without a name')
+    print(len(native.listed()), 'crates: what each uses, what it is, and no number in code, specs and contracts without a name')
 
 
 if __name__ == '__main__':
