@@ -23,7 +23,7 @@ KIT = ['bytes', 'io', 'libc', 'os']
 # Types that a crate holds without naming them; `rt` says where one is missing.
 REACHED = {'try_shifts': ['run_by_value'], 'desk_c': ['run_by_value', 'row_struct']}
 # Crates whose specs and contracts still have numbers without a name.
-UNNAMED = ['semantics', 'promises', 'row_grant', 'act_floor', 'act_puts_start', 'act_return', 'act_step', 'act_walk']
+UNNAMED = ['semantics', 'promises']
 ROW = re.compile(r'(?m)^\| `(\w+)` \| (.*?) \|')
 
 

@@ -17,6 +17,7 @@ use Rattle.semantics.specs.Claim.{standsIn}
 use Rattle.semantics.specs.Walk.{line, quiet, after}
 use Rattle.semantics.specs.Step.{comesBack, leave, ends, exhausted}
 use Rattle.semantics.specs.Sound.{entersAt, chained}
+use Rattle.base_numbers.specs.Code as Code
 use Rattle.promises.specs.Laws.{no-way, and-true, AllOf, all-map, all-hold, all-get, empty-is}
 use Rattle.promises.specs.Sound.{al, slaved, Sound, Held}
 use Rattle.promises.specs.Moves.{remove}
@@ -70,7 +71,8 @@ module _ (m : Model) (s : State) (p : ℕ) (t : Bool)
   owing h = rw (sym e ∙ h)
 
   pub owing-nothing : t ≡ true
-      → ends m s p ≡ ok (after (line s (process s p .number) 2 (valueOf 2_147_483_648)) (quiet (with-floor (put p nobody s) empty)))
+      → ends m s p
+      ≡ ok (after (line s (process s p .number) No.ended (valueOf Code.ZERO)) (quiet (with-floor (put p nobody s) empty)))
   unfolding ends _>>_ need valueOf
   owing-nothing h = rw (sym e ∙ h)
 

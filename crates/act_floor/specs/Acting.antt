@@ -11,6 +11,8 @@ use Rattle.semantics.specs.Claim.{standsIn}
 use Rattle.semantics.specs.Walk.{Next}
 use Rattle.semantics.specs.Run.{goesOn, before}
 use Rattle.promises.specs.Sound.{Sound}
+use Rattle.base_numbers.specs.Limit as Limit
+use Rattle.base_numbers.specs.Line as Line
 use Rattle.row_work.specs.Work.{workOf}
 use Rattle.row_work.specs.Underway.{Underway}
 use Rattle.file_map.specs.Map.{Mapped}
@@ -35,7 +37,7 @@ pub record Acting (bs map w : List ℕ) (p : ℕ) (x : Action) : Type 0 where
 
 -- Room for a line for each of the 64 places and two more.
 abbrev pub Roomy : ℕ → List ℕ → Type 0
-Roomy at out = 16 * (at + 66) ≤ length out
+Roomy at out = Line.BYTES * (at + Limit.STEP_LINES) ≤ length out
 
 -- The step o was made: `fault` is 0 or its fault, `lines` is how many lines it wrote, from line `at` on. A fault leaves all as
 -- it was.

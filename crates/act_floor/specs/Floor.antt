@@ -4,10 +4,12 @@ use native.Mathlib.Omega.{arith}
 use mathlib.Core.Path.{_≡_, _∙_, ap}
 use mathlib.Core.List.{List}
 use lib.ListN.{length}
+use Rattle.semantics.specs.Numbers as No
 use Rattle.semantics.specs.State.{State, heldBy, process}
 use Rattle.promises.specs.Laws.{once, once-self}
 use Rattle.promises.specs.Sound.{onFloor, Fine}
 use Rattle.promises.specs.Moves.{hand-fine}
+use Rattle.base_numbers.specs.Row as Row
 use Rattle.row_work.specs.Work.{Sized}
 use Rattle.row_work.specs.Sized.{sound-sized}
 use Rattle.row_work.specs.Shown.{work-long}
@@ -23,7 +25,7 @@ module _ {w : List ℕ} (r : Runs w) where
   abbrev pub shown : {P : State → Type 0} → P (r .run .is) → Shown w P
   shown g = record { is = r .run .is; shows = r .run .shows; sized = is-sized; given = g }
 
-  pub run-long : length w ≡ 10_696
+  pub run-long : length w ≡ Row.WORDS
   run-long = ap length (r .run .shows) ∙ work-long (r .run .is) is-sized
 
   -- THE FLOOR is had by the process in place p.
@@ -40,7 +42,7 @@ module _ {w : List ℕ} (r : Runs w) where
     pub lives : Lives p (r .run .is)
     lives = hand-lives (r .sound) p in-hand
 
-    pub low : p < 64
+    pub low : p < No.places
     low = lives .in-places
 
     pub fine : Fine (r .run .model) (r .run .is .last) (process (r .run .is) p)

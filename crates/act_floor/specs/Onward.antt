@@ -4,6 +4,7 @@ use native.Mathlib.Omega.{arith}
 use mathlib.Core.Path.{_≡_, refl, sym, _∙_, ap}
 use mathlib.Core.List.{List}
 use lib.ListN.{getD}
+use Rattle.semantics.specs.Numbers as No
 use Rattle.semantics.specs.Model.{Action, Model}
 use Rattle.semantics.specs.State.{State, Process, process, put, past}
 use Rattle.promises.specs.Laws.{once}
@@ -55,7 +56,7 @@ module _ {w : List ℕ} {p : ℕ} {x : Action} (v : On w p x) where
   pub lives : Lives p s
   lives = Floor.lives (v .running) p (v .on-floor)
 
-  pub low : p < 64
+  pub low : p < No.places
   low = Floor.low (v .running) p (v .on-floor)
 
   pub fine : Fine m (s .last) q

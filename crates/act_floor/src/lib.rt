@@ -3,8 +3,11 @@ ghost use mathlib.Core.Path.{_≡_};
 ghost use mathlib.Core.List.{[], _∷_};
 ghost use Prim.Native.Nat.{_+_, _*_, _≤_, _<_};
 ghost use lib.ListN.{length};
+ghost use Rattle.semantics.specs.Numbers as No;
 ghost use Rattle.semantics.specs.State.{process, empty, with-floor};
 ghost use Rattle.semantics.specs.Walk.{line};
+ghost use Rattle.base_numbers.specs.Line as Line;
+ghost use Rattle.base_numbers.specs.Byte as Byte;
 ghost use Rattle.base_i32.specs.Code.{valueOf};
 ghost use Rattle.base_journal.specs.Wrote.{wroteAt};
 ghost use Rattle.row_work.specs.Work.{Doing, Done};
@@ -20,7 +23,7 @@ pub struct Went {
 
 pub fn clock_of(w: &[u64]) -> u64
     requires { ⌜ Shown (now w) Any ⌝ }
-    ensures { λ r. ⌜ ((v : Shown (now (w .entry)) Any) → r ≡ v .is .clock) × (r ≤ 2000000000) ⌝ }
+    ensures { λ r. ⌜ ((v : Shown (now (w .entry)) Any) → r ≡ v .is .clock) × (r ≤ No.latest) ⌝ }
 {
     w[row::CLOCK]
 }
@@ -35,8 +38,8 @@ pub fn leave_floor(w: &mut [u64])
 
 // A line of the process in place p.
 pub fn note<'a>(w: &'a [u64], p: usize, out: &'a mut [u8], at: usize, kind: u32, value: u32)
-    requires { ⌜ Shown (now w) (λ _. p < 64) × ((16 * at + 16 ≤ length (now out)) × (kind < 65536)) ⌝ }
-    ensures { λ _. ⌜ ((v : Shown (now (w .entry)) (λ _. p < 64)) → now (out .exit)
+    requires { ⌜ Shown (now w) (λ _. p < No.places) × ((Line.BYTES * at + Line.BYTES ≤ length (now out)) × (kind < Byte.TWO)) ⌝ }
+    ensures { λ _. ⌜ ((v : Shown (now (w .entry)) (λ _. p < No.places)) → now (out .exit)
         ≡ wroteAt at (line (v .is) (process (v .is) p .number) kind (valueOf value) ∷ []) (now (out .entry))) ⌝ }
 {
     let clock = clock_of(w) as u32;

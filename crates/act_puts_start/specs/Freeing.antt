@@ -5,6 +5,7 @@ use mathlib.Core.List.{List}
 use lib.ListN.{length, take}
 use Rattle.promises.specs.Laws.{over, once}
 use Rattle.promises.specs.Sound.{onFloor, Held}
+use Rattle.base_numbers.specs.Limit as Limit
 use Rattle.row_work.specs.Work.{FloorSized}
 use Rattle.row_work.specs.Underway.{Underway}
 
@@ -17,4 +18,4 @@ pub record Freeing (w : List ℕ) (i : ℕ) (places : List ℕ) (n : ℕ) : Type
   pub many : length gone ≡ n
   pub inside : n ≤ length places
   pub places-are : take n places ≡ gone
-  pub sync-low : i < 32
+  pub sync-low : i < Limit.THINGS

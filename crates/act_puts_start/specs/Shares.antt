@@ -6,6 +6,7 @@ use mathlib.Core.List.{List, [], _∷_, map}
 use mathlib.Core.Bool.{Bool, true, false}
 use lib.Dec.{leb}
 use lib.ListN.{length, getD, set, drop}
+use Rattle.semantics.specs.Numbers as No
 use Rattle.semantics.specs.Model.{Share}
 use Rattle.semantics.specs.Bytes.{u16, parts}
 use Rattle.semantics.specs.Record.{shareOf}
@@ -30,7 +31,7 @@ has q x = leb (x .amount) (getD (q .held) (x .of) 0)
 pub record Offering (body w : List ℕ) (p : ℕ) : Type 0 where
   pub shares : List Share
   pub told : SharesAt body shares
-  pub shown : Shown w (λ s. (p < 64) × Known (process s p .held) shares)
+  pub shown : Shown w (λ s. (p < No.places) × Known (process s p .held) shares)
 
 -- ONE SHARE is given away, or taken up: what there is then of an amount, and what is held; and what there must be.
 abbrev pub moved : Bool → ℕ → ℕ → ℕ
@@ -42,7 +43,7 @@ without away x l = set l (x .of) (moved away (x .amount) (getD l (x .of) 0))
 
 abbrev pub Room : Bool → Share → ℕ → Type 0
 Room true x v = x .amount ≤ v
-Room false x v = v + x .amount ≤ 1_000_000
+Room false x v = v + x .amount ≤ No.topAmount
 
 pub record Moves (p : ℕ) (away : Bool) (x : Share) (s : State) : Type 0 where
   pub lives : Lives p s

@@ -6,6 +6,7 @@ ghost use Prim.Native.Nat.{_+_, _*_, _≤_, _<_};
 ghost use lib.Dec.{ltb};
 ghost use lib.ListN.{length, getD};
 ghost use lib.IntN.{pos};
+ghost use Rattle.semantics.specs.Numbers as No;
 ghost use Rattle.semantics.specs.Model.{PUTS};
 ghost use Rattle.semantics.specs.Words.{all};
 ghost use Rattle.semantics.specs.Bytes.{u32};
@@ -13,6 +14,10 @@ ghost use Rattle.semantics.specs.Record.{shareOf};
 ghost use Rattle.semantics.specs.State.{process, living, wake};
 ghost use Rattle.semantics.specs.Walk.{line};
 ghost use Rattle.semantics.specs.Step.{freeAll, puts, start};
+ghost use Rattle.base_numbers.specs.Map as Map;
+ghost use Rattle.base_numbers.specs.Limit as Limit;
+ghost use Rattle.base_numbers.specs.Line as Line;
+ghost use Rattle.base_numbers.specs.Byte as Byte;
 ghost use Rattle.base_journal.specs.Wrote.{wroteAt};
 ghost use Rattle.row_work.specs.Work.{workOf, Doing, Done};
 ghost use Rattle.row_process.specs.Process.{Shown, Lives};
@@ -39,7 +44,7 @@ const PLACES: u32 = limit::PLACES as u32;
 // The last number given.
 fn last_of(w: &[u64]) -> u64
     requires { ⌜ Shown (now w) Any ⌝ }
-    ensures { λ r. ⌜ ((v : Shown (now (w .entry)) Any) → r ≡ v .is .last) × (r ≤ 2147483647) ⌝ }
+    ensures { λ r. ⌜ ((v : Shown (now (w .entry)) Any) → r ≡ v .is .last) × (r ≤ No.lastNumber) ⌝ }
 {
     w[row::LAST]
 }
@@ -48,8 +53,10 @@ fn last_of(w: &[u64]) -> u64
 
 // Whether the process in place p has the share whose 6 bytes are i.
 fn has_share<'a>(i: &'a [u8], w: &'a [u64], p: usize) -> bool
-    requires { ⌜ Shown (now w) (λ s. (p < 64) × (shareOf (now i) .of < length (process s p .held))) × (6 ≤ length (now i)) ⌝ }
-    ensures { λ r. ⌜ ((v : Shown (now (w .entry)) (λ s. (p < 64) × (shareOf (now (i .entry)) .of < length (process s p .held))))
+    requires { ⌜ Shown (now w) (λ s. (p < No.places) × (shareOf (now i) .of < length (process s p .held)))
+        × (6 ≤ length (now i)) ⌝ }
+    ensures { λ r. ⌜ ((v : Shown (now (w .entry))
+        (λ s. (p < No.places) × (shareOf (now (i .entry)) .of < length (process s p .held))))
         → r ≡ has (process (v .is) p) (shareOf (now (i .entry)))) ⌝ }
 {
     let of = file_fields::u16_at(i, 0) as usize;
@@ -117,14 +124,15 @@ fn time_of<'a>(body: &'a [u8], w: &'a [u64]) -> u64
 // Whether one more can begin: there is a place and a number for it.
 fn can_begin(w: &[u64]) -> bool
     requires { ⌜ Shown (now w) Any ⌝ }
-    ensures { λ r. ⌜ ((v : Shown (now (w .entry)) Any) → r ≡ (ltb (living (v .is)) 64 && ltb (v .is .last) 2147483647)) ⌝ }
+    ensures { λ r. ⌜ ((v : Shown (now (w .entry)) Any)
+        → r ≡ (ltb (living (v .is)) No.places && ltb (v .is .last) No.lastNumber)) ⌝ }
 {
     (base_places::living_count(w[row::LIVING]) < PLACES) & (last_of(w) < limit::LAST_NUMBER)
 }
 
 // The line of the one that begins next.
 fn note_start<'a>(w: &'a [u64], out: &'a mut [u8], at: usize, class: u32)
-    requires { ⌜ Shown (now w) Any × ((16 * at + 16 ≤ length (now out)) × (class < 65536)) ⌝ }
+    requires { ⌜ Shown (now w) Any × ((Line.BYTES * at + Line.BYTES ≤ length (now out)) × (class < Byte.TWO)) ⌝ }
     ensures { λ _. ⌜ ((v : Shown (now (w .entry)) Any) → now (out .exit)
         ≡ wroteAt at (line (v .is) (v .is .last + 1) 1 (pos class) ∷ []) (now (out .entry))) ⌝ }
 {
@@ -135,8 +143,8 @@ fn note_start<'a>(w: &'a [u64], out: &'a mut [u8], at: usize, class: u32)
 
 // The body block of a class.
 fn body_of(map: &[u32], class: u32) -> u64
-    requires { ⌜ 1281 + class < length (now map) ⌝ }
-    ensures { λ r. ⌜ r ≡ getD (now (map .entry)) (1281 + class) 0 ⌝ }
+    requires { ⌜ Map.BODY + class < length (now map) ⌝ }
+    ensures { λ r. ⌜ r ≡ getD (now (map .entry)) (Map.BODY + class) 0 ⌝ }
 {
     base_wide::wide(map[map::BODY + class as usize])
 }
@@ -188,7 +196,8 @@ pub fn start<'a>(
 
 // The one in place r, which was a slave of sync i, enters the event list now.
 fn free_one<'a>(w: &'a mut [u64], out: &'a mut [u8], at: usize, i: u64, r: usize)
-    requires { ⌜ Doing (now w) (Lives r) (λ s. wake (s .clock) r s) × ((16 * at + 16 ≤ length (now out)) × (i < 32)) ⌝ }
+    requires { ⌜ Doing (now w) (Lives r) (λ s. wake (s .clock) r s)
+        × ((Line.BYTES * at + Line.BYTES ≤ length (now out)) × (i < Limit.THINGS)) ⌝ }
     ensures { λ _. ⌜ Done (now (w .entry)) (Lives r) (λ s. wake (s .clock) r s) (now (w .exit)) ⌝ }
     ensures { λ _. ⌜ ((d : Doing (now (w .entry)) (Lives r) (λ s. wake (s .clock) r s)) → now (out .exit)
         ≡ wroteAt at (line (d .is) (process (d .is) r .number) 8 (pos i) ∷ []) (now (out .entry))) ⌝ }
@@ -209,7 +218,7 @@ fn free_one<'a>(w: &'a mut [u64], out: &'a mut [u8], at: usize, i: u64, r: usize
 // The first n of `places`, one after the other.
 fn free_all<'a>(w: &'a mut [u64], out: &'a mut [u8], at: usize, i: u64, places: &'a [u64], n: usize)
     requires { ⌜ Freeing (now w) i (now places) n ⌝ }
-    requires { ⌜ 16 * (at + n) ≤ length (now out) ⌝ }
+    requires { ⌜ Line.BYTES * (at + n) ≤ length (now out) ⌝ }
     ensures { λ _. ⌜ ((v : Freeing (now (w .entry)) i (now (places .entry)) n)
         → (now (w .exit) ≡ workOf (freeAll i (v .gone) (v .run .is) .state))
         × (now (out .exit) ≡ wroteAt at (freeAll i (v .gone) (v .run .is) .lines) (now (out .entry)))) ⌝ }

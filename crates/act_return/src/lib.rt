@@ -2,8 +2,10 @@
 ghost use mathlib.Core.Path.{_≡_};
 ghost use Prim.Native.Nat.{_+_, _≤_, _<_};
 ghost use lib.ListN.{length, getD, set};
+ghost use Rattle.semantics.specs.Numbers as No;
 ghost use Rattle.semantics.specs.State.{returnsR, returnsB};
 ghost use Rattle.semantics.specs.Step.{occurs};
+ghost use Rattle.base_numbers.specs.Byte as Byte;
 ghost use Rattle.row_process.specs.Process.{Shown};
 ghost use Rattle.act_floor.specs.Acting.{Roomy, Stepped};
 ghost use Rattle.act_return.specs.Returning.{Returning};
@@ -17,14 +19,14 @@ use base_numbers::row;
 fn bin_of(w: &[u64], i: usize) -> u64
     requires { ⌜ Shown (now w) (λ s. i < length (s .bins)) ⌝ }
     ensures { λ r. ⌜ ((v : Shown (now (w .entry)) (λ s. i < length (s .bins))) → r ≡ getD (v .is .bins) i 0)
-        × (r ≤ 1000000000) ⌝ }
+        × (r ≤ No.fullBin) ⌝ }
 {
     w[row::BINS + i]
 }
 
 // The number at `at` becomes n more.
 fn add_at(w: &mut [u64], at: usize, n: u64)
-    requires { ⌜ (at < length (now w)) × (getD (now w) at 0 + n < 18446744073709551616) ⌝ }
+    requires { ⌜ (at < length (now w)) × (getD (now w) at 0 + n < Byte.EIGHT) ⌝ }
     ensures { λ _. ⌜ now (w .exit) ≡ set (now (w .entry)) at (getD (now (w .entry)) at 0 + n) ⌝ }
 {
     let there = w[at];

@@ -2,8 +2,10 @@
 ghost use mathlib.Core.Path.{_≡_};
 ghost use Prim.Native.Nat.{_+_, _≤_, _<_};
 ghost use lib.ListN.{length, getD, set};
+ghost use Rattle.semantics.specs.Kinds as K;
 ghost use Rattle.semantics.specs.State.{heldBy, with-floor};
 ghost use Rattle.semantics.specs.Step.{moves, occurs, step};
+ghost use Rattle.base_numbers.specs.Row as Row;
 ghost use Rattle.act_floor.specs.Acting.{Going, Roomy, Stepped};
 ghost use Rattle.act_step.specs.Steps.{Floored, Stands, Meets, MeetsAt, acted, doing, Waking, Occurring};
 use act_floor::Went;
@@ -25,7 +27,7 @@ fn act_on_value<'a>(
     p: usize,
 ) -> Went
     requires { ⌜ Meets (now body) (now s) (now map) (now w) p kind ⌝ }
-    requires { ⌜ (kind < 20) × Roomy at (now out) ⌝ }
+    requires { ⌜ (kind < K.DO) × Roomy at (now out) ⌝ }
     ensures { λ r. ⌜ ((v : Meets (now (body .entry)) (now (s .entry)) (now (map .entry)) (now (w .entry)) p kind)
         → Stepped (doing v) (r .fault) (r .lines)
         (now (w .entry)) (now (w .exit)) at (now (out .entry)) (now (out .exit))) ⌝ }
@@ -56,7 +58,7 @@ fn act_on_number<'a>(
     p: usize,
 ) -> Went
     requires { ⌜ Meets (now body) (now s) (now map) (now w) p kind ⌝ }
-    requires { ⌜ ((20 ≤ kind) × (kind < 25)) × Roomy at (now out) ⌝ }
+    requires { ⌜ ((K.DO ≤ kind) × (kind < K.REQ)) × Roomy at (now out) ⌝ }
     ensures { λ r. ⌜ ((v : Meets (now (body .entry)) (now (s .entry)) (now (map .entry)) (now (w .entry)) p kind)
         → Stepped (doing v) (r .fault) (r .lines)
         (now (w .entry)) (now (w .exit)) at (now (out .entry)) (now (out .exit))) ⌝ }
@@ -93,7 +95,7 @@ fn act_on_claim<'a>(
     a: usize,
 ) -> Went
     requires { ⌜ MeetsAt (now body) (now s) (now map) (now w) p kind a ⌝ }
-    requires { ⌜ (25 ≤ kind) × Roomy at (now out) ⌝ }
+    requires { ⌜ (K.REQ ≤ kind) × Roomy at (now out) ⌝ }
     ensures { λ r. ⌜ ((v : MeetsAt (now (body .entry)) (now (s .entry)) (now (map .entry)) (now (w .entry)) p kind a)
         → Stepped (doing (v .meets)) (r .fault) (r .lines)
         (now (w .entry)) (now (w .exit)) at (now (out .entry)) (now (out .exit))) ⌝ }
@@ -192,7 +194,7 @@ fn moves<'a>(
 
 // The floor is had by the process in place f - 1; 0 for nobody.
 fn set_floor(w: &mut [u64], f: u64)
-    requires { ⌜ length (now w) ≡ 10696 ⌝ }
+    requires { ⌜ length (now w) ≡ Row.WORDS ⌝ }
     ensures { λ _. ⌜ now (w .exit) ≡ set (now (w .entry)) 3 f ⌝ }
 {
     w[row::FLOOR] = f;

@@ -7,12 +7,15 @@ use mathlib.Core.Option.{some}
 use lib.Dec.{eqb}
 use lib.ListN.{length, getD, getElem?, take}
 use lib.IntN.{pos}
+use Rattle.semantics.specs.Kinds as K
 use Rattle.semantics.specs.Numbers as No
 use Rattle.semantics.specs.Model.{Action, kindOf, Model}
 use Rattle.semantics.specs.State.{State, process, wake}
 use Rattle.semantics.specs.Claim.{Offer, asks, Choice, waits, goes, choice, grant}
 use Rattle.semantics.specs.Walk.{Next, Line, line, quiet, after}
 use Rattle.promises.specs.Sound.{Held}
+use Rattle.base_numbers.specs.Map as Map
+use Rattle.base_numbers.specs.Limit as Limit
 use Rattle.base_journal.specs.Wrote.{wroteAt}
 use Rattle.file_index.specs.Ties.{ActionAt}
 use Rattle.row_work.specs.Work.{workOf, FloorSized}
@@ -69,12 +72,12 @@ pub record Going (bs map w : List ℕ) (k p n : ℕ) (enters : Bool) : Type 0 wh
 -- Action a of the map, and whether its branches enter a block: all but a REQ's do.
 pub record AtAction (bs map : List ℕ) (a : ℕ) : Type 0 where
   pub action : Action
-  pub long : length map ≡ 18_754
-  pub low : a < 1_024
-  pub there : ActionAt bs (getD map (257 + a) 0) action
+  pub long : length map ≡ Map.WORDS
+  pub low : a < Limit.ACTIONS
+  pub there : ActionAt bs (getD map (Map.PLACE + a) 0) action
 
 abbrev pub enteredBy : Action → Bool
-enteredBy x = not (eqb (kindOf x) 25)
+enteredBy x = not (eqb (kindOf x) K.REQ)
 
 -- THE WALK by visits: n are still to be visited, from k on.
 unfoldable pub visits : Model → ℕ → ℕ → State → Next

@@ -4,7 +4,11 @@ ghost use mathlib.Core.List.{[], _∷_};
 ghost use Prim.Native.Nat.{_+_, _*_, _≤_, _<_};
 ghost use lib.ListN.{length};
 ghost use lib.IntN.{pos};
+ghost use Rattle.semantics.specs.Numbers as No;
 ghost use Rattle.semantics.specs.Walk.{line, walk};
+ghost use Rattle.base_numbers.specs.Line as Line;
+ghost use Rattle.base_numbers.specs.Byte as Byte;
+ghost use Rattle.base_numbers.specs.Code as Code;
 ghost use Rattle.base_journal.specs.Wrote.{wroteAt};
 ghost use Rattle.row_work.specs.Work.{workOf};
 ghost use Rattle.row_process.specs.Process.{Shown};
@@ -21,7 +25,7 @@ use row_claim::Choice;
 // How many are blocked.
 fn blocked_count(w: &[u64]) -> usize
     requires { ⌜ Shown (now w) Any ⌝ }
-    ensures { λ r. ⌜ ((v : Shown (now (w .entry)) Any) → r ≡ length (v .is .blocked)) × (r ≤ 64) ⌝ }
+    ensures { λ r. ⌜ ((v : Shown (now (w .entry)) Any) → r ≡ length (v .is .blocked)) × (r ≤ No.places) ⌝ }
 {
     w[row::BLOCKED] as usize
 }
@@ -39,8 +43,8 @@ fn enters_at<'a>(s: &'a [u8], map: &'a [u32], a: usize) -> bool
 
 // A line of the process of this number, now.
 pub fn note<'a>(w: &'a [u64], out: &'a mut [u8], at: usize, kind: u32, number: u64, value: usize)
-    requires { ⌜ Shown (now w) Any × ((16 * at + 16 ≤ length (now out)) × (kind < 65536)) ⌝ }
-    requires { ⌜ (number < 4294967296) × (value < 2147483648) ⌝ }
+    requires { ⌜ Shown (now w) Any × ((Line.BYTES * at + Line.BYTES ≤ length (now out)) × (kind < Byte.TWO)) ⌝ }
+    requires { ⌜ (number < Byte.FOUR) × (value < Code.ZERO) ⌝ }
     ensures { λ _. ⌜ ((v : Shown (now (w .entry)) Any) → now (out .exit)
         ≡ wroteAt at (line (v .is) number kind (pos value) ∷ []) (now (out .entry))) ⌝ }
 {
@@ -87,7 +91,7 @@ fn visit<'a>(
     k: usize,
 ) -> usize
     requires { ⌜ Visiting (now s) (now map) (now w) k ⌝ }
-    requires { ⌜ 16 * at + 16 ≤ length (now out) ⌝ }
+    requires { ⌜ Line.BYTES * at + Line.BYTES ≤ length (now out) ⌝ }
     ensures { λ r. ⌜ ((v : Visiting (now (s .entry)) (now (map .entry)) (now (w .entry)) k)
         → Visited (v .walking .run .is) k (chooses (v .walking .run .model) (v .walking .run .is) k) r
         (now (w .entry)) (now (w .exit)) at (now (out .entry)) (now (out .exit))) × (r ≤ 1) ⌝ }
@@ -115,9 +119,10 @@ pub fn walk<'a>(
     at: usize,
 ) -> usize
     requires { ⌜ Walking (now s) (now map) (now w) ⌝ }
-    requires { ⌜ 16 * (at + 64) ≤ length (now out) ⌝ }
+    requires { ⌜ Line.BYTES * (at + No.places) ≤ length (now out) ⌝ }
     ensures { λ r. ⌜ ((v : Walking (now (s .entry)) (now (map .entry)) (now (w .entry)))
-        → Walked (walk (v .run .model) (v .run .is)) r (now (w .exit)) at (now (out .entry)) (now (out .exit))) × (r ≤ 64) ⌝ }
+        → Walked (walk (v .run .model) (v .run .is)) r (now (w .exit)) at (now (out .entry)) (now (out .exit)))
+        × (r ≤ No.places) ⌝ }
 {
     let mut left = blocked_count(w);
     let mut k = 0;

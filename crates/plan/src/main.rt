@@ -13,9 +13,10 @@ use base_numbers::line;
 use base_numbers::row;
 use file_bound::Bounded;
 ghost use mathlib.Core.Path.{_≡_};
-ghost use Prim.Native.Nat.{_+_, _^_, _<_, min};
+ghost use Prim.Native.Nat.{_+_, _<_, min};
 ghost use lib.ListN.{length};
 ghost use Rattle.semantics.specs.Desk.{boundFile};
+ghost use Rattle.base_numbers.specs.Byte as Byte;
 ghost use Rattle.file_bound.specs.Answer.{boundedOf};
 ghost use Rattle.plan.specs.Given.{Accepted, boundWord};
 ghost use Rattle.plan.specs.Printed.{planText, Next};
@@ -47,7 +48,7 @@ fn bound_word(bounded: Bounded) -> u64
 // Prints the next piece of the plan of the file s, of which `at` bytes were printed before.
 fn print<'a>(s: &'a [u8], text: &'a [u8], at: &'a mut usize)
     requires { ⌜ Next (planText (now s)) (now at) (now text) ⌝ }
-    requires { ⌜ now at + length (now text) < 2 ^ 64 ⌝ }
+    requires { ⌜ now at + length (now text) < Byte.EIGHT ⌝ }
     ensures { λ _. ⌜ now (at .exit) ≡ now (at .entry) + length (now (text .entry)) ⌝ }
 {
     io::write_all(libc::STDOUT_FILENO, text);

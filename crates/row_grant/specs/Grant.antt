@@ -10,6 +10,7 @@ use Rattle.semantics.specs.State.{State, process}
 use Rattle.semantics.specs.Claim.{itemMet, met, Then, pass, enterBlock, Offer, offers, standsIn}
 use Rattle.promises.specs.Fit.{ClaimFit, ActFit}
 use Rattle.promises.specs.Sound.{Held}
+use Rattle.base_numbers.specs.Limit as Limit
 use Rattle.row_work.specs.Work.{FloorSized}
 use Rattle.row_work.specs.Underway.{Underway}
 use Rattle.file_map.specs.Map.{OfferAt, OffersAt, Mapped}
@@ -76,7 +77,7 @@ pub record Facing (bs map w : List ℕ) (a k : ℕ) : Type 0 where
   pub ahead : k ≤ length (run .is .blocked)
   pub asked : Action
   pub asked-at : OffersAt bs map a (offers asked)
-  pub asked-low : a < 1_024
+  pub asked-low : a < Limit.ACTIONS
   pub asked-fit : ActFit (run .model) asked
 
 -- .. in some file.

@@ -13,6 +13,7 @@ use Rattle.semantics.specs.Sound.{asksAt}
 use Rattle.promises.specs.Laws.{no-way, AllOf}
 use Rattle.promises.specs.Fit.{Fit}
 use Rattle.promises.specs.Sound.{Stands, Held}
+use Rattle.base_numbers.specs.Limit as Limit
 use Rattle.file_map.specs.Map.{OffersAt, Mapped}
 use Rattle.file_map.specs.Low as Low
 use Rattle.row_process.specs.Process.{Lives}
@@ -36,7 +37,7 @@ module _ {m : Model} {p : ℕ} {s : State} (t : Standing m p s) where
     pub offers-there : OffersAt bs row (numberIn row) (offers (t .action))
     offers-there = v .offers-at (t .lives .innermost .block) (t .lives .innermost .at) (t .action) (t .acts)
 
-    pub number-low : Fit m → numberIn row < 1_024
+    pub number-low : Fit m → numberIn row < Limit.ACTIONS
     number-low f = Low.number-low v f (t .lives .innermost .block) (t .lives .innermost .at) (t .action) (t .acts)
 
 -- THE BLOCKED ask at an action.

@@ -7,6 +7,7 @@ ghost use Rattle.semantics.specs.Model.{resource, get};
 ghost use Rattle.semantics.specs.Record.{itemOf};
 ghost use Rattle.semantics.specs.State.{with-bins};
 ghost use Rattle.semantics.specs.Claim.{takeItem, takeAll, grant, offers, bars, asks, barred, choice};
+ghost use Rattle.base_numbers.specs.Map as Map;
 ghost use Rattle.row_work.specs.Work.{workOf, Doing, Done};
 ghost use Rattle.row_process.specs.Process.{Shown, Lives};
 ghost use Rattle.row_claim.specs.Choices.{choiceIn};
@@ -110,7 +111,7 @@ pub fn grant<'a>(s: &'a [u8], map: &'a [u32], w: &'a mut [u64], p: usize, n: usi
 
 // The number of the action where the process in place p stands.
 pub fn action_at<'a>(map: &'a [u32], w: &'a [u64], p: usize) -> usize
-    requires { ⌜ Shown (now w) (Lives p) × (length (now map) ≡ 18754) ⌝ }
+    requires { ⌜ Shown (now w) (Lives p) × (length (now map) ≡ Map.WORDS) ⌝ }
     ensures { λ r. ⌜ ((v : Shown (now (w .entry)) (Lives p))
         → r ≡ getD (now (map .entry)) (v .given .innermost .block) 0 + v .given .innermost .at) ⌝ }
 {
