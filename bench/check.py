@@ -2,7 +2,8 @@
 
     python3 -B bench/check.py     prints a table for docs/FIGURES.md
 
-It needs target/bin/try_cases (`rt check try_cases`), an x86-64 machine and valgrind.
+It needs target/bin/try_cases (`rt check try_cases`), an x86-64 machine and valgrind: on another machine valgrind would count the
+instructions of the emulator.
 
 The program is run on one file many times over, in three forms: the file; the file behind a record whose kind isn't in the table,
 which is refused at once, so that only reading it is left; and that record alone. The program does a check and a bound of each
@@ -10,8 +11,10 @@ file, and the bound checks again. Reading takes a millionth of a second, too lit
 instructions, which valgrind counts. The time is the processor's, the least of five runs.
 """
 import pathlib
+import platform
 import re
 import resource
+import shutil
 import subprocess
 import sys
 import tempfile
@@ -64,6 +67,8 @@ def once(command, records, times):
 
 
 def main():
+    if platform.machine() != 'x86_64' or not shutil.which('valgrind'):
+        sys.exit('bench/check.py: this needs an x86-64 machine with valgrind: apt-get install valgrind')
     command = [str(ROOT / 'target' / 'bin' / 'try_cases')]
     print('| File | Bytes | Check and bound, ms | Instructions | Reading once | Ratio |')
     print('|---|---|---|---|---|---|')

@@ -1,6 +1,6 @@
 """The C program desk on good and bad files: what it tells and its exit status.
 
-    python3 -B tests/desk.py PROGRAM    e.g. target/desk/desk
+    python3 -B tests/desk.py COMMAND ...    runs the program, e.g. target/desk/desk, or bin/run and a program for x86-64
 
 What it must tell of a model is known elsewhere as numbers: examples/*.plan, tests/plans.py and tests/cases.py. So its words are
 turned back into the lines of `plan`. The words themselves, WORDS and KINDS, were copied from document 01 by hand.
@@ -70,13 +70,13 @@ IDLE, steps done 4, clock 6
 class Desk:
     """The program, on files of a folder of its own; it counts what was tried and prints what was wrong."""
 
-    def __init__(self, program, folder):
-        self.program = program
+    def __init__(self, command, folder):
+        self.command = command
         self.file = pathlib.Path(folder, 'model')
         self.tried = self.failed = 0
 
     def asks(self, *words):
-        done = subprocess.run([self.program, *words], capture_output=True, check=False)
+        done = subprocess.run([*self.command, *words], capture_output=True, check=False)
         return done.returncode, done.stdout.decode(), done.stderr.decode()
 
     def tells(self, command, model):
@@ -195,7 +195,7 @@ def usage(desk):
 
 def main(words):
     with tempfile.TemporaryDirectory() as folder:
-        desk = Desk(words[0], folder)
+        desk = Desk(words, folder)
         runs(desk)
         moves(desk)
         checks(desk)
