@@ -1,5 +1,5 @@
-/* In place of libFuzzer: gives each file named to the fuzzer, and prints the addresses of the counters that none of them met,
- * as they stand in the program's file. Linked without a place of its own, so that they are those (fuzz/never.py). */
+/* In place of libFuzzer: gives each file to the fuzzer whose name is a line of standard input. Then prints of each counter whether
+ * one of them met it, 1 or 0, and its address, which is that in the program's file (fuzz/never.py). */
 #include <stddef.h>
 #include <stdint.h>
 #include <stdio.h>
@@ -46,15 +46,12 @@ static void give(const char *name, uint8_t *room) {
     LLVMFuzzerTestOneInput(room, size);
 }
 
-/* The names of the files, one to a line, come from standard input. */
 int main(void) {
     static uint8_t room[MOST_BYTES];
     static char name[4096];
     while (scanf("%4095[^\n]%*c", name) == 1)
         give(name, room);
-    printf("%td\n", many);
     for (ptrdiff_t i = 0; i < many; i++)
-        if (first[i])
-            printf("%zx\n", (size_t)places[2 * i]);
+        printf("%d %zx\n", !first[i], (size_t)places[2 * i]);
     return 0;
 }

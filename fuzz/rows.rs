@@ -8,8 +8,12 @@ use crate::second::left;
 use handed::row::{row_of, state_of, PARTS, WORDS};
 use handed::sound::is_sound;
 use reference::model::{Action, Model};
-use reference::run::{Entered, Event, Process, Returned, Standing, State};
+use reference::run::{Entered, Event, Process, Returned, Standing, State, PLACES};
 
+/// The word of the living places; the words of a process, and where each part of them begins.
+const LIVING: usize = 4;
+const OWN_WORDS: usize = 128;
+const OWN_PARTS: [usize; 8] = [0, 1, 2, 3, 4, 12, 44, 52];
 /// What one more of a part adds to a word that holds several.
 const UNITS: [u64; 8] = [1, 1, 4, 64, 256, 1 << 16, 1 << 28, 1 << 32];
 const LATEST: u32 = 2_000_000_000;
@@ -51,7 +55,30 @@ fn other_word(row: &[u64], at: usize, part: &[u64], chance: &mut Chance) -> u64 
     }
 }
 
-/// One word of some part becomes another, mostly one that is in use; at times the one behind those, or all of them.
+/// A word of some part, mostly one that is in use; at times the one behind those.
+fn some_word(row: &[u64], from: usize, to: usize, chance: &mut Chance) -> usize {
+    let plain = if chance.one_in(4) { 0 } else { 1 << 31 };
+    let used: Vec<usize> = (from..to)
+        .filter(|at| row[*at] != 0 && row[*at] != plain)
+        .collect();
+    match used.last() {
+        Some(last) if chance.one_in(8) => (last + 1).min(to - 1),
+        Some(_) => used[chance.below(used.len())],
+        None => from + chance.below(to - from),
+    }
+}
+
+/// The first word of some part of a process's row, or the one behind it.
+fn some_own_word(row: &[u64], chance: &mut Chance) -> usize {
+    let living: Vec<usize> = (0..PLACES)
+        .filter(|at| row[LIVING] >> at & 1 == 1)
+        .collect();
+    let place = living.get(chance.below(living.len())).unwrap_or(&0);
+    let own = OWN_PARTS[chance.below(OWN_PARTS.len())];
+    PARTS[0].0 + OWN_WORDS * place + own + chance.below(2)
+}
+
+/// One word of some part becomes another; at times all words do.
 pub fn change_word(input: &mut Input, chance: &mut Chance) {
     let Some((_, row)) = handed(input) else {
         return;
@@ -59,14 +86,10 @@ pub fn change_word(input: &mut Input, chance: &mut Chance) {
     let part = chance.below(PARTS.len());
     let from = PARTS[part].0;
     let to = part.checked_sub(1).map_or(WORDS, |next| PARTS[next].0);
-    let plain = if chance.one_in(4) { 0 } else { 1 << 31 };
-    let used: Vec<usize> = (from..to)
-        .filter(|at| row[*at] != 0 && row[*at] != plain)
-        .collect();
-    let at = match used.last() {
-        Some(last) if chance.one_in(8) => (last + 1).min(to - 1),
-        Some(_) => used[chance.below(used.len())],
-        None => from + chance.below(to - from),
+    let at = if chance.one_in(4) {
+        some_own_word(&row, chance)
+    } else {
+        some_word(&row, from, to, chance)
     };
     let word = other_word(&row, at, &row[from..to], chance);
     let at = if chance.one_in(64) { WORDS } else { at };
@@ -111,12 +134,15 @@ fn lift_times(_: &Model, state: &mut State, chance: &mut Chance) -> Option<()> {
     Some(())
 }
 
-/// Few numbers left to give, full bins, or a run that is closed.
+/// Few numbers left to give, bins that are full or nearly, or too full, or a run that is closed.
 fn fill(_: &Model, state: &mut State, chance: &mut Chance) -> Option<()> {
     let less = chance.below(3) as u32;
     match chance.below(3) {
         0 => state.last_given = LAST_NUMBER - less,
-        1 => state.bins.iter_mut().for_each(|bin| *bin = FULL_BIN - less),
+        1 => state
+            .bins
+            .iter_mut()
+            .for_each(|bin| *bin = FULL_BIN + 1 - less),
         _ => state.closed = !state.closed,
     }
     Some(())
@@ -188,7 +214,7 @@ fn hand_over(model: &Model, state: &mut State, chance: &mut Chance) -> Option<()
     Some(())
 }
 
-/// A process stands elsewhere in one of its blocks, or has other rounds left.
+/// A process stands elsewhere in one of its blocks, or in another block, or has other rounds left.
 fn stand(model: &Model, state: &mut State, chance: &mut Chance) -> Option<()> {
     let blocks = &mut process(state, chance)?.blocks;
     let many = blocks.len();
@@ -198,9 +224,10 @@ fn stand(model: &Model, state: &mut State, chance: &mut Chance) -> Option<()> {
         chance.below(many)
     }];
     let actions = model.blocks.get(usize::from(standing.block))?.len();
-    match chance.below(4) {
+    match chance.below(5) {
         0 => standing.rounds_left = chance.below(5) as u16,
-        1 => standing.place = actions + chance.below(2),
+        1 => standing.block = chance.below(model.blocks.len() + 1) as u16,
+        2 => standing.place = actions + chance.below(2),
         _ => standing.place = chance.below(actions + 1),
     }
     Some(())
