@@ -115,7 +115,7 @@ fn judge_calls(desk: &Desk, calls: &[Call], file: &[u8], run: &mut [u64], journa
     }
 }
 
-/// A row of so many words, and the words in front of it, which may not be written.
+/// The words in front of a row, which may not be written, and the row of so many words.
 fn with_front(run: &mut Lent, words: usize) -> (&mut [u64], &mut [u64]) {
     let (front, row) = run
         .last_words(FRONT_WORDS + words)

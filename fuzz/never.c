@@ -1,5 +1,5 @@
-/* In place of libFuzzer: gives each file to the fuzzer whose name is a line of standard input. Then prints of each counter whether
- * one of them met it, 1 or 0, and its address, which is that in the program's file (fuzz/never.py). */
+/* In place of libFuzzer: gives each file to the fuzzer whose name is a line of standard input. Then prints of each counter
+ * whether one of them met it, 1 or 0, and its address, which is that in the program's file (fuzz/never.py). */
 #include <stddef.h>
 #include <stdint.h>
 #include <stdio.h>

@@ -4,7 +4,8 @@
 
 The fuzzer is compiled for this as its sources stand, with nothing inlined and sums not tested (fuzz/build.sh, NEVER=1), so that
 each counter is that of one place in a source. Left out are those of a panic, which would stop the fuzzer; those of the standard
-library's code; and those whose block the compiler dropped. Needs objdump and llvm-symbolizer.
+library's code, and of a derived `Eq`, which is never called; and those whose block the compiler dropped. Needs objdump and
+llvm-symbolizer.
 """
 import collections
 import os
@@ -18,6 +19,7 @@ FUZZ = ROOT / 'target' / 'fuzz'
 PROGRAM = FUZZ / 'never' / 'fuzz'
 # The sources in which counters are counted, by a part of their path.
 SOURCES = ('parts/engine.rs', 'reference/src/', 'driver/src/')
+DERIVED = 'assert_fields_are_eq'
 # What a dropped block has for an address.
 DROPPED = 1
 CALLS = ('bl', 'call')
@@ -28,7 +30,8 @@ TARGET = re.compile(r'([0-9a-f]+) <')
 
 
 def said(words, text=''):
-    return subprocess.run([str(word) for word in words], input=text, stdout=subprocess.PIPE, text=True, check=True, cwd=ROOT).stdout
+    words = [str(word) for word in words]
+    return subprocess.run(words, input=text, stdout=subprocess.PIPE, text=True, check=True, cwd=ROOT).stdout
 
 
 def counters(folders):
@@ -80,7 +83,7 @@ def main(folders):
     shown = collections.Counter()
     for (address, met), (function, file, line) in zip(rows, sources([address for address, _ in rows])):
         source = next((part for part in SOURCES if part in file), None)
-        if source and not code.panics(address):
+        if source and DERIVED not in function and not code.panics(address):
             shown[source, met] += 1
             if not met:
                 print('%s: %s' % (function, text_at(file, line)))

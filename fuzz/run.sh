@@ -2,8 +2,8 @@
 # Fuzzes check, bound, run and the open run for so many seconds: fuzz/run.sh SECONDS [EDIT]. The corpus and what is found stay
 # in target/fuzz.
 # With EDIT, a must-fail edit of the source, CRATE/NAME, the engine's source has that edit, and a difference must come out.
-# Needs clang and its libFuzzer (Debian 12: clang and libclang-rt-14-dev, both 14.0.6), rustc and Python 3; and an x86-64 machine,
-# or else the proved library is left out.
+# Needs clang and its libFuzzer (Debian 12: clang and libclang-rt-14-dev, both 14.0.6), rustc and Python 3. Where the machine is
+# not x86-64, the proved library is left out.
 set -eu
 cd "$(dirname "$0")/.."
 seconds=${1:?usage: fuzz/run.sh SECONDS [EDIT]}
