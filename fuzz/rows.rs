@@ -279,7 +279,7 @@ fn join(state: &State, list: &[usize], place: usize) -> usize {
     list.partition_point(|other| priority(state, *other) >= priority(state, place))
 }
 
-/// Lists a process somewhere, by its priority.
+/// Lists a process somewhere, by its priority; at times as a slave of a sync that isn't there.
 fn put_in(state: &mut State, place: usize, chance: &mut Chance) -> Option<()> {
     let sync = chance.below(state.waiting_lists.len());
     match chance.below(5) {
@@ -293,8 +293,8 @@ fn put_in(state: &mut State, place: usize, chance: &mut Chance) -> Option<()> {
             state.waiting_lists[sync].insert(at, place);
         }
         3 => {
-            state.waiting_lists.get(sync)?;
-            process(state, chance)?.slaves.push((sync as u16, place));
+            let sync = chance.below(state.waiting_lists.len() + 1) as u16;
+            process(state, chance)?.slaves.push((sync, place));
         }
         _ => {
             let time = state.clock.saturating_add(chance.below(3) as u32);
