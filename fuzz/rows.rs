@@ -233,31 +233,42 @@ fn stand(model: &Model, state: &mut State, chance: &mut Chance) -> Option<()> {
     Some(())
 }
 
-/// A process goes into a block of the action where it stands, or out of its innermost one.
+/// The block that an action enters, and its rounds.
+fn entered_by(action: &Action, chance: &mut Chance) -> Option<(u16, u16)> {
+    match action {
+        Action::Do { rounds, block } => Some((*block, *rounds)),
+        Action::Try { blocks, .. } => Some((blocks[chance.below(blocks.len())], 1)),
+        Action::While { block, .. } => Some((*block, 1)),
+        _ => None,
+    }
+}
+
+/// A process goes into a block that an action of its innermost one enters, or out of that; at times into another, or for one
+/// round too many or too few.
 fn go_in_or_out(model: &Model, state: &mut State, chance: &mut Chance) -> Option<()> {
     let blocks = &mut process(state, chance)?.blocks;
-    let innermost = blocks.last()?;
-    let action = model
-        .blocks
-        .get(usize::from(innermost.block))?
-        .get(innermost.place);
-    let (block, rounds_left) = match action {
-        Some(Action::Do { rounds, block }) => {
-            (*block, rounds.saturating_sub(chance.below(2) as u16))
-        }
-        Some(Action::Try { blocks, .. }) => (blocks[chance.below(blocks.len())], 1),
-        Some(Action::While { block, .. }) => (*block, 1),
-        _ => (chance.below(model.blocks.len()) as u16, 1),
-    };
-    if chance.one_in(3) && blocks.len() > 1 {
+    if chance.one_in(4) && blocks.len() > 1 {
         blocks.pop();
-    } else {
-        blocks.push(Standing {
-            block,
-            place: 0,
-            rounds_left,
-        });
+        return Some(());
     }
+    let innermost = blocks.last_mut()?;
+    let actions = model.blocks.get(usize::from(innermost.block))?;
+    let entries: Vec<_> = (0..actions.len())
+        .filter_map(|place| Some((place, entered_by(&actions[place], chance)?)))
+        .collect();
+    let (place, (block, rounds)) = *entries.get(chance.below(entries.len()))?;
+    innermost.place = place;
+    let (block, rounds_left) = match chance.below(8) {
+        0 => (chance.below(model.blocks.len()) as u16, rounds),
+        1 => (block, rounds.saturating_add(1)),
+        2 | 3 => (block, rounds.saturating_sub(1)),
+        _ => (block, rounds),
+    };
+    blocks.push(Standing {
+        block,
+        place: 0,
+        rounds_left,
+    });
     Some(())
 }
 
