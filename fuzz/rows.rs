@@ -156,14 +156,15 @@ fn enter(state: &mut State, event: Event) {
     state.event_list.insert(at, event);
 }
 
-/// Returns of a bin: one, or as many as may wait in all, or one more.
+/// Returns of a bin: one, or as many as may wait in all, or one more; at times of a giver that can't be.
 fn give_to_bin(model: &Model, state: &mut State, chance: &mut Chance) -> Option<()> {
     let is_notice = |event: &&Event| matches!(event.entered, Entered::Notice { .. });
     let there = state.event_list.iter().filter(is_notice).count();
     let most = [there + 1, 63, 64, 65][chance.below(4)];
+    let last = if chance.one_in(4) { 0 } else { state.last_given };
     for _ in there..most {
         let entered = Entered::Notice {
-            giver: 1 + chance.below(state.last_given as usize) as u32,
+            giver: last.min(1 + chance.below(last as usize) as u32),
             returned: Returned::Bin,
             number: chance.below(model.bins.len()) as u16,
             amount: 1,
