@@ -161,10 +161,11 @@ fn give_to_bin(model: &Model, state: &mut State, chance: &mut Chance) -> Option<
     let is_notice = |event: &&Event| matches!(event.entered, Entered::Notice { .. });
     let there = state.event_list.iter().filter(is_notice).count();
     let most = [there + 1, 63, 64, 65][chance.below(4)];
-    let last = if chance.one_in(4) { 0 } else { state.last_given };
+    let last = state.last_given as usize;
+    let any = u32::from(!chance.one_in(4));
     for _ in there..most {
         let entered = Entered::Notice {
-            giver: last.min(1 + chance.below(last as usize) as u32),
+            giver: any * (1 + chance.below(last)) as u32,
             returned: Returned::Bin,
             number: chance.below(model.bins.len()) as u16,
             amount: 1,
@@ -333,7 +334,7 @@ fn list_elsewhere(_: &Model, state: &mut State, chance: &mut Chance) -> Option<(
     match chance.below(4) {
         0 => own.priority = chance.number() as i32,
         1 => own.priority = -10_000 - chance.below(2) as i32,
-        2 => own.number = 1 + chance.below(last as usize) as u32,
+        2 => own.number = chance.below(last as usize + 2) as u32,
         _ => {}
     }
     take_out(state, place);
