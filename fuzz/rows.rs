@@ -162,10 +162,10 @@ fn give_to_bin(model: &Model, state: &mut State, chance: &mut Chance) -> Option<
     let there = state.event_list.iter().filter(is_notice).count();
     let most = [there + 1, 63, 64, 65][chance.below(4)];
     let last = state.last_given as usize;
-    let any = u32::from(!chance.one_in(4));
+    let known = u32::from(!chance.one_in(4));
     for _ in there..most {
         let entered = Entered::Notice {
-            giver: any * (1 + chance.below(last)) as u32,
+            giver: known * (1 + chance.below(last)) as u32,
             returned: Returned::Bin,
             number: chance.below(model.bins.len()) as u16,
             amount: 1,
@@ -326,7 +326,7 @@ fn put_in(state: &mut State, place: usize, chance: &mut Chance) -> Option<()> {
     Some(())
 }
 
-/// A process is listed elsewhere; at times with another priority, or another number.
+/// A process is listed elsewhere, or once more; at times with another priority, or another number.
 fn list_elsewhere(_: &Model, state: &mut State, chance: &mut Chance) -> Option<()> {
     let place = living(state, chance)?;
     let last = state.last_given;
@@ -337,7 +337,9 @@ fn list_elsewhere(_: &Model, state: &mut State, chance: &mut Chance) -> Option<(
         2 => own.number = chance.below(last as usize + 2) as u32,
         _ => {}
     }
-    take_out(state, place);
+    if !chance.one_in(8) {
+        take_out(state, place);
+    }
     put_in(state, place, chance)
 }
 
