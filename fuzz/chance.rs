@@ -38,4 +38,9 @@ impl Chance {
             _ => self.below(40) as i64 - 4,
         }
     }
+
+    /// A word of a row, with bits anywhere.
+    pub fn word(&mut self) -> u64 {
+        self.next() << 32 ^ self.next()
+    }
 }

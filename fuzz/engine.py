@@ -6,6 +6,7 @@ It goes the way of tests/native.py: the source without its contracts, nothing el
 functions of `desk_c` keep their names as plain functions, so that they stand beside those of the proved library.
 """
 import pathlib
+import re
 import sys
 
 ROOT = pathlib.Path(__file__).resolve().parent.parent
@@ -24,9 +25,14 @@ def edited(texts, name):
     sys.exit('%s: not an edit of the source' % name)
 
 
+def inside(text):
+    """The modules with all but `desk_c` for these alone: what is called nowhere has no counters then."""
+    return re.sub(r'(?m)^pub mod (?!desk_c )', 'pub(crate) mod ', text)
+
+
 def main(out, edit=None):
     texts = native.sources('desk_c')
-    pathlib.Path(out).write_text(native.modules(edited(texts, edit) if edit else texts))
+    pathlib.Path(out).write_text(inside(native.modules(edited(texts, edit) if edit else texts)))
 
 
 if __name__ == '__main__':

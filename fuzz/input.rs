@@ -1,8 +1,7 @@
-//! An input as the mutator sees it: the limit and the room, and the records of a model, each with its length.
+//! An input as the mutator sees it: its head, and the records of a model, each with its length.
 
 use crate::chance::Chance;
-
-pub const HEAD: usize = 4;
+use crate::head::Head;
 
 pub const RES: u16 = 1;
 pub const BIN: u16 = 2;
@@ -26,19 +25,16 @@ pub const WHILE: u16 = 27;
 pub const START: u16 = 28;
 pub const TRACE: u16 = 29;
 
-/// The limit and the room, the records, each with its length, and the bytes that are no record.
+/// The head, the records, each with its length, and the bytes that are no record.
 pub struct Input {
-    pub head: [u8; HEAD],
+    pub head: Head,
     pub records: Vec<Vec<u8>>,
     pub rest: Vec<u8>,
 }
 
 impl Input {
     pub fn read(bytes: &[u8]) -> Input {
-        let mut head = [255; HEAD];
-        let many = bytes.len().min(HEAD);
-        head[..many].copy_from_slice(&bytes[..many]);
-        let mut rest = &bytes[many..];
+        let (head, mut rest) = Head::read(bytes).unwrap_or((Head::most(), &[]));
         let mut records = Vec::new();
         while rest.len() >= 4 {
             let size = 2 + usize::from(u16::from_le_bytes([rest[0], rest[1]]));
@@ -55,8 +51,12 @@ impl Input {
         }
     }
 
+    pub fn model(&self) -> Vec<u8> {
+        [&self.records.concat()[..], &self.rest].concat()
+    }
+
     pub fn bytes(&self) -> Vec<u8> {
-        [&self.head[..], &self.records.concat(), &self.rest].concat()
+        [self.head.bytes(), self.model()].concat()
     }
 
     pub fn count(&self, kind: u16) -> usize {

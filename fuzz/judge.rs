@@ -1,195 +1,53 @@
 //! What libFuzzer calls: check, bound and run of the library desk, and of its source as Rust, are judged by the second program;
-//! and so is a run that is opened and moved on in calls.
+//! and so is a run that is opened, moved on in calls, changed, and handed in again.
 //!
-//! An input is a u16 limit, a u16 room in bytes, and a model file. Any difference in a refusal, its place, a bound, an answer,
-//! its steps or a byte of what was lent is told, and the program aborts.
+//! An input is a head (`head.rs`) and a model file. Any difference in a refusal, its place, a bound, an answer, its steps or a
+//! byte of what was lent is told, and the program aborts.
 
 mod chance;
+mod desks;
+mod head;
 mod input;
 mod lent;
 mod mutate;
+mod rows;
+mod second;
 mod write;
 
+use desks::{Desk, DESKS};
+use handed::row::{part, WORDS};
+use head::{Head, LONGEST};
 use lent::Lent;
-use reference::bound::Bound;
-use reference::model::Refusal;
-use reference::run::{Answer, Outcome, State};
+use second::{Call, Judgement, UNTOUCHED, UNTOUCHED_WORD};
 use std::cell::RefCell;
 use std::fmt::Debug;
 
-/// A call makes at most so many steps, so that many calls are made.
-const MOST_STEPS: u32 = 4095;
-/// An open run is moved on by so many calls, each with at most so many steps and bytes: so few that several end by LIMIT or 30.
-const CALLS: usize = 4;
-const FEW_STEPS: u32 = 15;
-const FEW_BYTES: usize = 127;
-/// What is lent to be written holds this byte everywhere, and so do the bytes in front of it.
-const UNTOUCHED: u8 = 0xa5;
-const UNTOUCHED_WORD: u64 = u64::from_le_bytes([UNTOUCHED; 8]);
-/// The words of an open run.
-const WORDS: usize = 10_696;
 const IN_FRONT: usize = 64;
+const FRONT_WORDS: usize = IN_FRONT / 8;
 const MOST_BYTES: usize = 1 << 20;
 
-extern "C" {
-    fn desk_check(file: *const u8, length: usize) -> u32;
-    fn desk_bound(file: *const u8, length: usize) -> u64;
-    fn desk_run(file: *const u8, length: usize, limit: u32, journal: *mut u8, room: usize) -> u64;
-    fn desk_open(file: *const u8, length: usize, run: *mut u64, words: usize) -> u32;
-    fn desk_move(
-        file: *const u8,
-        length: usize,
-        run: *mut u64,
-        words: usize,
-        limit: u32,
-        journal: *mut u8,
-        room: usize,
-    ) -> u64;
+/// What is lent to those who are judged.
+struct Bench {
+    file: Lent,
+    journal: Lent,
+    run: Lent,
 }
 
-/// One who is judged.
-struct Desk {
-    name: &'static str,
-    check: fn(&[u8]) -> u32,
-    bound: fn(&[u8]) -> u64,
-    run: fn(&[u8], u32, &mut [u8]) -> u64,
-    open: fn(&[u8], &mut [u64]) -> u32,
-    move_on: fn(&[u8], &mut [u64], u32, &mut [u8]) -> u64,
-}
-
-// SAFETY, five times: a slice is its pointer and its length, which is what the header asks for.
-const DESKS: [Desk; 2] = [
-    Desk {
-        name: "the library",
-        check: |file| unsafe { desk_check(file.as_ptr(), file.len()) },
-        bound: |file| unsafe { desk_bound(file.as_ptr(), file.len()) },
-        run: |file, limit, journal| unsafe {
-            desk_run(
-                file.as_ptr(),
-                file.len(),
-                limit,
-                journal.as_mut_ptr(),
-                journal.len(),
-            )
-        },
-        open: |file, run| unsafe {
-            desk_open(file.as_ptr(), file.len(), run.as_mut_ptr(), run.len())
-        },
-        move_on: |file, run, limit, journal| unsafe {
-            desk_move(
-                file.as_ptr(),
-                file.len(),
-                run.as_mut_ptr(),
-                run.len(),
-                limit,
-                journal.as_mut_ptr(),
-                journal.len(),
-            )
-        },
-    },
-    Desk {
-        name: "its source as Rust",
-        check: engine::desk_c::desk_check,
-        bound: engine::desk_c::desk_bound,
-        run: engine::desk_c::desk_run,
-        open: engine::desk_c::desk_open,
-        move_on: engine::desk_c::desk_move,
-    },
-];
-
-/// What a run or a call tells, and its lines.
-struct Told {
-    word: u64,
-    journal: Vec<u8>,
-}
-
-/// What the second program says, in the numbers of desk/desk.h; of a refused file there are no calls.
-struct Judgement {
-    check: u32,
-    bound: u64,
-    run: Told,
-    calls: Vec<Told>,
-}
-
-fn refusal(refusal: Refusal) -> u32 {
-    u32::from(refusal.number) << 16 | refusal.place as u32
-}
-
-fn refused(told: Refusal) -> u64 {
-    3 << 32 | u64::from(refusal(told))
-}
-
-fn number(answer: Answer) -> u16 {
-    match answer {
-        Answer::Closed => 0,
-        Answer::Idle => 1,
-        Answer::Limit => 2,
-        Answer::Fault(number) => number,
+impl Bench {
+    fn new() -> Bench {
+        Bench {
+            file: Lent::new(MOST_BYTES),
+            journal: Lent::new(IN_FRONT + usize::from(u16::MAX)),
+            run: Lent::new(8 * (FRONT_WORDS + LONGEST)),
+        }
     }
 }
 
-fn told(outcome: Outcome) -> Told {
-    Told {
-        word: u64::from(number(outcome.answer)) << 32 | u64::from(outcome.steps),
-        journal: outcome.journal,
-    }
-}
-
-/// What is asked of each: a model, a limit, and room for a journal.
-struct Request<'a> {
-    model: &'a [u8],
-    limit: u32,
-    room: usize,
-}
-
-impl Request<'_> {
-    /// From the bytes of an input; too few of them ask nothing.
-    fn read(input: &[u8]) -> Option<Request<'_>> {
-        let (head, model) = input.split_at_checked(4)?;
-        let limit = u32::from(u16::from_le_bytes([head[0], head[1]])) & MOST_STEPS;
-        let room = usize::from(u16::from_le_bytes([head[2], head[3]]));
-        Some(Request { model, limit, room })
-    }
-
-    /// The limit and the room of a call on an open run.
-    fn few(&self) -> (u32, usize) {
-        (self.limit & FEW_STEPS, self.room & FEW_BYTES)
-    }
-}
-
-/// The calls on an open run, as the second program makes them.
-fn calls(asked: &Request) -> Vec<Told> {
-    let Ok(model) = reference::model::decode(asked.model) else {
-        return Vec::new();
-    };
-    let (limit, room) = asked.few();
-    let mut run = State::fresh(&model);
-    (0..CALLS)
-        .map(|_| told(run.run(&model, limit, room)))
-        .collect()
-}
-
-fn judgement(asked: &Request) -> Judgement {
-    let bound = match reference::bound(asked.model) {
-        Ok(Bound::Number(number)) => u64::from(number),
-        Ok(Bound::None) => 1 << 32,
-        Ok(Bound::Over) => 2 << 32,
-        Err(told) => refused(told),
-    };
-    let run = match reference::run(asked.model, asked.limit, asked.room) {
-        Ok(outcome) => told(outcome),
-        Err(refusal) => Told {
-            word: refused(refusal),
-            journal: Vec::new(),
-        },
-    };
-    let check = reference::check(asked.model).map_or_else(refusal, |()| 0);
-    Judgement {
-        check,
-        bound,
-        run,
-        calls: calls(asked),
-    }
+/// A journal of this room that is untouched, with 64 bytes in front of it.
+fn untouched(journal: &mut Lent, room: usize) -> &mut [u8] {
+    let journal = journal.last(IN_FRONT + room);
+    journal.fill(UNTOUCHED);
+    journal
 }
 
 fn same<T: Debug + PartialEq>(desk: &Desk, what: &str, found: T, expected: T) {
@@ -202,125 +60,129 @@ fn same<T: Debug + PartialEq>(desk: &Desk, what: &str, found: T, expected: T) {
     }
 }
 
-/// Two rows of bytes or of words; where they differ, the first place is told.
-fn same_row<T: Debug + PartialEq>(desk: &Desk, what: &str, found: &[T], expected: &[T]) {
+/// Two rows of bytes; where they differ, the first place is told.
+fn same_bytes(desk: &Desk, what: &str, found: &[u8], expected: &[u8]) {
     if found != expected {
         let both = found.iter().zip(expected).enumerate();
         both.for_each(|(at, (one, other))| same(desk, what, (at, one), (at, other)));
     }
 }
 
+/// Two rows of a run; of the first word that differs it is told what it says.
+fn same_row(desk: &Desk, what: &str, found: &[u64], expected: &[u64]) {
+    if found != expected {
+        let mut both = found.iter().zip(expected).enumerate();
+        let differs = both.find(|(_, (one, other))| one != other);
+        let (at, (one, other)) = differs.expect("rows of one length");
+        let what = format!("{} after {what}", part(at as isize));
+        same(desk, &what, one, other);
+    }
+}
+
 /// That the journal holds the lines told and nothing else was written.
-fn same_journal(desk: &Desk, found: &[u8], lines: &[u8]) {
+fn same_journal(desk: &Desk, what: &str, found: &[u8], lines: &[u8]) {
     let mut left = vec![UNTOUCHED; found.len()];
     left[IN_FRONT..IN_FRONT + lines.len()].copy_from_slice(lines);
-    same_row(
-        desk,
-        "the journal, with 64 bytes in front of it",
-        found,
-        &left,
-    );
+    let what = format!("the journal, with 64 bytes in front of it, after {what}");
+    same_bytes(desk, &what, found, &left);
 }
 
-fn judge(desk: &Desk, asked: &Request, expected: &Judgement, file: &mut [u8], journal: &mut [u8]) {
-    file.copy_from_slice(asked.model);
-    journal.fill(UNTOUCHED);
+fn judge(desk: &Desk, head: &Head, expected: &Judgement, file: &[u8], journal: &mut Lent) {
     same(desk, "check", (desk.check)(file), expected.check);
     same(desk, "bound", (desk.bound)(file), expected.bound);
-    same(
-        desk,
-        "run",
-        (desk.run)(file, asked.limit, &mut journal[IN_FRONT..]),
-        expected.run.word,
-    );
-    same_journal(desk, journal, &expected.run.journal);
+    let few = head.whole();
+    let journal = untouched(journal, few.room);
+    let told = (desk.run)(file, few.limit, &mut journal[IN_FRONT..]);
+    same(desk, "run", told, expected.run.word);
+    same_journal(desk, "run", journal, &expected.run.journal);
 }
 
-/// A run opened in the row and moved on. A refused file leaves the row as it was.
-fn judge_open_run(
+/// Opening in a row of this length, and what it leaves there.
+fn judge_open(desk: &Desk, told: u32, left: &[u64], file: &[u8], run: &mut [u64]) {
+    run.fill(UNTOUCHED_WORD);
+    same(desk, "open", (desk.open)(file, run), told);
+    same_row(desk, "open", run, left);
+}
+
+/// These calls on the row as it is.
+fn judge_calls(desk: &Desk, calls: &[Call], file: &[u8], run: &mut [u64], journal: &mut Lent) {
+    for call in calls {
+        let journal = untouched(journal, call.few.room);
+        let told = (desk.move_on)(file, run, call.few.limit, &mut journal[IN_FRONT..]);
+        same(desk, "move on", told, call.told.word);
+        same_journal(desk, "move on", journal, &call.told.journal);
+        same_row(desk, "move on", run, &call.row);
+    }
+}
+
+/// The words in front of a row, which may not be written, and the row of so many words.
+fn with_front(run: &mut Lent, words: usize) -> (&mut [u64], &mut [u64]) {
+    let (front, row) = run
+        .last_words(FRONT_WORDS + words)
+        .split_at_mut(FRONT_WORDS);
+    front.fill(UNTOUCHED_WORD);
+    (front, row)
+}
+
+fn same_front(desk: &Desk, front: &[u64]) {
+    let untouched = &[UNTOUCHED_WORD; FRONT_WORDS][..];
+    same(desk, "the words in front of a row", front, untouched);
+}
+
+fn judge_opened(
     desk: &Desk,
-    asked: &Request,
     expected: &Judgement,
     file: &[u8],
-    run: &mut [u64],
-    journal: &mut [u8],
+    run: &mut Lent,
+    journal: &mut Lent,
 ) {
-    let limit = asked.few().0;
-    run.fill(UNTOUCHED_WORD);
-    same(desk, "open", (desk.open)(file, run), expected.check);
-    if expected.calls.is_empty() {
-        same_row(
-            desk,
-            "a row with no run in it",
-            run,
-            &[UNTOUCHED_WORD; WORDS],
-        );
+    let (front, row) = with_front(run, WORDS);
+    judge_open(desk, expected.check, &expected.opened, file, row);
+    judge_calls(desk, &expected.calls, file, row, journal);
+    same_front(desk, front);
+}
+
+fn judge_handed(
+    desk: &Desk,
+    expected: &Judgement,
+    file: &[u8],
+    run: &mut Lent,
+    journal: &mut Lent,
+) {
+    let (front, row) = with_front(run, expected.handed.len());
+    if row.len() != WORDS {
+        let untouched = vec![UNTOUCHED_WORD; row.len()];
+        judge_open(desk, expected.no_room, &untouched, file, row);
     }
-    for call in &expected.calls {
-        journal.fill(UNTOUCHED);
-        same(
-            desk,
-            "move on",
-            (desk.move_on)(file, run, limit, &mut journal[IN_FRONT..]),
-            call.word,
-        );
-        same_journal(desk, journal, &call.journal);
+    row.copy_from_slice(&expected.handed);
+    judge_calls(desk, &expected.handed_calls, file, row, journal);
+    same_front(desk, front);
+}
+
+fn judge_all(model: &[u8], head: &Head, expected: &Judgement, bench: &mut Bench) {
+    let Bench { file, journal, run } = bench;
+    let file = file.last(model.len());
+    for desk in DESKS {
+        file.copy_from_slice(model);
+        judge(desk, head, expected, file, journal);
+        judge_opened(desk, expected, file, run, journal);
+        judge_handed(desk, expected, file, run, journal);
+        same_bytes(desk, "the file, which may not be written", file, model);
     }
-    same_row(
-        desk,
-        "the file, which may not be written",
-        file,
-        asked.model,
-    );
 }
 
 thread_local! {
-    static FILE: RefCell<Lent> = RefCell::new(Lent::new(MOST_BYTES));
-    static JOURNAL: RefCell<Lent> = RefCell::new(Lent::new(IN_FRONT + usize::from(u16::MAX)));
-    static RUN: RefCell<Lent> = RefCell::new(Lent::new(8 * WORDS));
-}
-
-fn judge_all(
-    asked: &Request,
-    expected: &Judgement,
-    file: &mut Lent,
-    journal: &mut Lent,
-    run: &mut Lent,
-) {
-    let file = file.last(asked.model.len());
-    // SAFETY: any bytes are numbers; they end where a page does, so all of them are whole words.
-    let (_, run, _) = unsafe { run.last(8 * WORDS).align_to_mut::<u64>() };
-    for desk in &DESKS {
-        judge(
-            desk,
-            asked,
-            expected,
-            file,
-            journal.last(IN_FRONT + asked.room),
-        );
-        judge_open_run(
-            desk,
-            asked,
-            expected,
-            file,
-            run,
-            journal.last(IN_FRONT + asked.few().1),
-        );
-    }
+    static BENCH: RefCell<Bench> = RefCell::new(Bench::new());
 }
 
 /// # Safety
 /// libFuzzer lends `size` bytes at `data`.
 #[no_mangle]
 pub unsafe extern "C" fn LLVMFuzzerTestOneInput(data: *const u8, size: usize) -> i32 {
-    let Some(asked) = Request::read(std::slice::from_raw_parts(data, size)) else {
+    let Some((head, model)) = Head::read(std::slice::from_raw_parts(data, size)) else {
         return 0;
     };
-    let expected = judgement(&asked);
-    FILE.with_borrow_mut(|file| {
-        JOURNAL.with_borrow_mut(|journal| {
-            RUN.with_borrow_mut(|run| judge_all(&asked, &expected, file, journal, run))
-        })
-    });
+    let expected = second::judgement(model, &head);
+    BENCH.with_borrow_mut(|bench| judge_all(model, &head, &expected, bench));
     0
 }

@@ -2,7 +2,8 @@
 
 use std::ffi::c_void;
 
-const PAGE: usize = 4096;
+/// The largest page of a machine: smaller ones end there too.
+const PAGE: usize = 65_536;
 const READ_WRITE: i32 = 3;
 const NOTHING: i32 = 0;
 const PRIVATE_ANONYMOUS: i32 = 0x22;
@@ -53,5 +54,12 @@ impl Lent {
         assert!(length <= self.most);
         // SAFETY: these bytes are ours, written by nobody else, and lent for as long as `self` is.
         unsafe { std::slice::from_raw_parts_mut(self.end.sub(length), length) }
+    }
+
+    /// The last `many` words.
+    pub fn last_words(&mut self, many: usize) -> &mut [u64] {
+        // SAFETY: any bytes are numbers; they end where a page does, so all of them are whole words.
+        let (_, words, _) = unsafe { self.last(8 * many).align_to_mut::<u64>() };
+        words
     }
 }

@@ -1,20 +1,22 @@
 #!/usr/bin/env bash
-# Fuzzes check, bound and run for so many seconds: fuzz/run.sh SECONDS [EDIT]. The corpus and what is found stay in target/fuzz.
+# Fuzzes check, bound, run and the open run for so many seconds: fuzz/run.sh SECONDS [EDIT]. The corpus and what is found stay
+# in target/fuzz.
 # With EDIT, a must-fail edit of the source, CRATE/NAME, the engine's source has that edit, and a difference must come out.
-# Needs an x86-64 machine, clang and its libFuzzer (Debian 12: clang and libclang-rt-14-dev, both 14.0.6), rustc and Python 3.
+# Needs clang and its libFuzzer (Debian 12: clang and libclang-rt-14-dev, both 14.0.6), rustc and Python 3. Where the machine is
+# not x86-64, the proved library is left out.
 set -eu
 cd "$(dirname "$0")/.."
 seconds=${1:?usage: fuzz/run.sh SECONDS [EDIT]}
 edit=${2:-}
 
-library=$(clang -print-file-name=libclang_rt.fuzzer-x86_64.a 2>/dev/null || true)
-if [ "$(uname -m)" != x86_64 ] || [ ! -e "$library" ]; then
-  echo "fuzz: this needs an x86-64 machine with clang and its libFuzzer: apt-get install clang libclang-rt-14-dev" >&2
+library=$(clang -print-file-name="libclang_rt.fuzzer-$(uname -m).a" 2>/dev/null || true)
+if [ ! -e "$library" ]; then
+  echo "fuzz: this needs clang and its libFuzzer: apt-get install clang libclang-rt-14-dev" >&2
   exit 2
 fi
 place=target/fuzz/$(basename "${edit:-unedited}")
 mkdir -p "$place/corpus" "$place/found"
 bash fuzz/build.sh "$place/fuzz" ${edit:+"$edit"}
 python3 -B fuzz/seeds.py target/fuzz/seeds
-exec "$place/fuzz" -max_total_time="$seconds" -max_len=8192 -timeout=60 -print_final_stats=1 -artifact_prefix="$place/found/" \
+exec "$place/fuzz" -max_total_time="$seconds" -max_len=70000 -timeout=60 -print_final_stats=1 -artifact_prefix="$place/found/" \
   "$place/corpus" target/fuzz/seeds

@@ -1,12 +1,14 @@
-"""Inputs to begin with: the models of the tests, each behind a limit and a room of the greatest size.
+"""Inputs to begin with: the models of the tests, each behind a head (fuzz/head.rs) of the greatest limits and rooms.
 
     python3 -B fuzz/seeds.py FOLDER
 
 They are the examples, the plans, one for each fault, the files of tests/cases.py and those of bench/steps.py, as far as they
-have at most 4,096 bytes.
+have at most 4,096 bytes, and one that is too long for a model. Each is moved on by two calls. Of the examples the row is then
+handed in changed, in some ways.
 """
 import hashlib
 import pathlib
+import struct
 import sys
 
 ROOT = pathlib.Path(__file__).resolve().parent.parent
@@ -18,8 +20,13 @@ import examples  # noqa: E402
 import plans     # noqa: E402
 import steps     # noqa: E402
 
-HEAD = b'\xff\xff\xff\xff'
 MOST = 4096
+TOO_LONG = 65536
+CALLS = 2
+WORDS = 10696
+# Rows handed in that no call left so, each as its length (0: as it should be) and its changes, a word's place and the word.
+CHANGED = [(0, [(0, 2 * 10 ** 9)]), (0, [(0, 2 * 10 ** 9 + 1)]), (0, [(1, 1)]), (0, [(2, 2 ** 31 - 1)]), (0, [(3, 1)]),
+           (0, [(7, 1)]), (0, [(WORDS, 0)]), (0, [(WORDS, 2 ** 64 - 1)]), (1, []), (WORDS, []), (WORDS + 2, [])]
 
 
 def models():
@@ -30,12 +37,22 @@ def models():
     yield from (model for _, model in steps.MODELS)
 
 
+def head(length, changes):
+    first = struct.pack('<HHBHB', 65535, 65535, CALLS, length, len(changes))
+    return first + b''.join(struct.pack('<HQ', *one) for one in changes)
+
+
+def inputs():
+    yield from (head(0, []) + model for model in models() if len(model) <= MOST)
+    yield head(0, []) + bytes(TOO_LONG)
+    yield from (head(*changed) + example() for example in examples.EXAMPLES for changed in CHANGED)
+
+
 def main(folder):
     folder = pathlib.Path(folder)
     folder.mkdir(parents=True, exist_ok=True)
-    for model in models():
-        if len(model) <= MOST:
-            (folder / hashlib.sha1(model).hexdigest()).write_bytes(HEAD + model)
+    for one in inputs():
+        (folder / hashlib.sha1(one).hexdigest()).write_bytes(one)
     print('%d seeds' % len(list(folder.iterdir())))
 
 

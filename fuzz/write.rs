@@ -1,6 +1,7 @@
 //! New records, written by chance: well formed, and of things that the model has, mostly.
 
 use crate::chance::Chance;
+use crate::head::{Head, CALLS};
 use crate::input::*;
 
 /// An amount, mostly a small one that is right.
@@ -99,7 +100,15 @@ fn action(input: &Input, chance: &mut Chance, kind: u16, own: usize) -> Vec<u8> 
     }
 }
 
-/// A REQ, a HOLD, and all that was claimed given back in some order: what a job does, and what lets a run go on.
+/// A START that hands over this much of a resource.
+fn hand_over(input: &Input, chance: &mut Chance, resource: &[u8], amount: i64) -> Vec<u8> {
+    let offset = i32_bytes(chance.below(4) as i64);
+    let class = input.name(chance, CLASS);
+    let share = [resource, &i32_bytes(amount)].concat();
+    record(START, &[class, offset, u16_bytes(1), share].concat())
+}
+
+/// A REQ, a HOLD, and all that was claimed given back in some order, or handed over: what a job does, and what lets a run go on.
 fn job(input: &Input, chance: &mut Chance) -> Vec<Vec<u8>> {
     let items = 1 + chance.below(3);
     let mut claim = u16_bytes(items);
@@ -110,9 +119,13 @@ fn job(input: &Input, chance: &mut Chance) -> Vec<Vec<u8>> {
         let amount = 1 + chance.below(2) as i64;
         claim.extend([vec![kind as u8, 0], name.clone(), i32_bytes(amount)].concat());
         let size = if kind == 2 { 2 } else { 4 };
-        let put = [name, i32_bytes(amount)[..size].to_vec()].concat();
+        let put = [&name[..], &i32_bytes(amount)[..size]].concat();
         let at = chance.below(puts.len() + 1);
-        puts.insert(at, record([PUTR, PUTB, PUTS][kind], &put));
+        let given = match kind {
+            0 if chance.one_in(4) => hand_over(input, chance, &name, amount),
+            _ => record([PUTR, PUTB, PUTS][kind], &put),
+        };
+        puts.insert(at, given);
     }
     let hold = [u16_bytes(0), i32_bytes(chance.below(4) as i64)].concat();
     [vec![record(REQ, &claim), record(HOLD, &hold)], puts].concat()
@@ -171,7 +184,8 @@ fn add_slaves(input: &mut Input, sync: usize) {
 
 /// A whole new model: a few of each thing, a class for each of its first blocks, some processes, and what they do.
 pub fn write_all(input: &mut Input, chance: &mut Chance) {
-    input.head = [255; HEAD];
+    input.head = Head::most();
+    input.head.calls = chance.below(CALLS + 1) as u8;
     input.rest.clear();
     let classes = 1 + chance.below(4);
     let mut records: Vec<_> = (0..classes)

@@ -23,7 +23,7 @@ const BLOCKS: usize = 44;
 const SLAVES: usize = 52;
 
 /// Where each part of a row begins, from the last to the first.
-const PARTS: [(usize, &str); 17] = [
+pub const PARTS: [(usize, &str); 17] = [
     (PROCESSES, "the processes"),
     (WAITING, "the waiting lists"),
     (EVENT_WORDS, "what the events do"),
