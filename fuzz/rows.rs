@@ -78,7 +78,7 @@ fn some_own_word(row: &[u64], chance: &mut Chance) -> usize {
     PARTS[0].0 + OWN_WORDS * place + own + chance.below(2)
 }
 
-/// One word of some part becomes another; at times all words do.
+/// One word of some part becomes another, often one that was changed before; at times all words do.
 pub fn change_word(input: &mut Input, chance: &mut Chance) {
     let Some((_, row)) = handed(input) else {
         return;
@@ -86,10 +86,12 @@ pub fn change_word(input: &mut Input, chance: &mut Chance) {
     let part = chance.below(PARTS.len());
     let from = PARTS[part].0;
     let to = part.checked_sub(1).map_or(WORDS, |next| PARTS[next].0);
-    let at = if chance.one_in(4) {
-        some_own_word(&row, chance)
-    } else {
-        some_word(&row, from, to, chance)
+    let changes = &input.head.changes;
+    let changed = changes.get(chance.below(changes.len()));
+    let at = match changed.map(|change| usize::from(change.at)) {
+        Some(at) if at < WORDS && chance.one_in(2) => at,
+        _ if chance.one_in(4) => some_own_word(&row, chance),
+        _ => some_word(&row, from, to, chance),
     };
     let word = other_word(&row, at, &row[from..to], chance);
     let at = if chance.one_in(64) { WORDS } else { at };
