@@ -11,12 +11,12 @@ use Rattle.semantics.specs.Words.{if_then_else_, Outcome, ok, fails, Pas
 use Rattle.semantics.specs.Words.{largest, more}
 use Rattle.semantics.specs.Numbers as No
 use Rattle.semantics.specs.Kinds as K
-use Rattle.semantics.specs.Model.{Entity, Model, block, Action, HOLD, PRIO, TRACE, SET, LSET, DO, PUTR, PUTB, PUTS}
+use Rattle.semantics.specs.Model.{Entity, Sampler, Model, block, Action, HOLD, PRIO, TRACE, SET, LSET, DO, PUTR, PUTB, PUTS}
 use Rattle.semantics.specs.Model.{BECOME, REQ, TRY, WHILE, START, CLOSE}
 use Rattle.semantics.specs.Bytes.{u8, u16, u32, Raw, raw, torn, recordsFrom, parts}
 use Rattle.semantics.specs.Record.{nodes, Part, item, share, partsOf, branchesFrom, Tail, nothing, expression, branches}
 use Rattle.semantics.specs.Record.{listOf, Naming, nameless, names, namesLocal, Entry, RES, BIN, SYNC, VAR, CLASS, BLOCK}
-use Rattle.semantics.specs.Record.{ENTITY, ACTION, rowOf, bodyJudged}
+use Rattle.semantics.specs.Record.{ENTITY, SAMPLER, ACTION, rowOf, bodyJudged}
 
 pub data Checked (A : Type 0) : Type 0 where
   refused : ℕ → ℕ → Checked A  -- number, place
@@ -49,9 +49,11 @@ abbrev pub noneSeen : List ℕ
 noneSeen = replicate K.groups 0
 
 -- THEN, RECORD BY RECORD: 8 and 9. `n` has, at each group, how many records of it the file has.
--- In an expression, op 1 names a global and op 2 a local.
-abbrev pub nodeKnown : ℕ → List ℕ → Bool
-nodeKnown vars d = (not (eqb (u16 d 0) 1) || ltb (u32 d 2) vars) && (not (eqb (u16 d 0) 2) || ltb (u32 d 2) No.locals)
+-- In an expression, op 1 names a global, op 2 a local and op 10 a sampler.
+abbrev pub nodeKnown : ℕ → ℕ → List ℕ → Bool
+nodeKnown vars samplers d =
+    (not (eqb (u16 d 0) 1) || ltb (u32 d 2) vars)
+    && ((not (eqb (u16 d 0) 2) || ltb (u32 d 2) No.locals) && (not (eqb (u16 d 0) 10) || ltb (u32 d 2) samplers))
 
 -- The item kinds 0 to 3 name a RES, BIN, SYNC, VAR, which are the groups 1 to 4; a share names a RES.
 abbrev pub partKnown : Part → List ℕ → List ℕ → Bool
@@ -61,7 +63,7 @@ partKnown share n h = ltb (u16 h 0) (getD n K.RES 0)
 unfoldable pub tailKnown : List ℕ → Tail → List ℕ → Bool
 unfolding branchesFrom parts
 tailKnown n nothing bs = true
-tailKnown n expression bs = all (nodeKnown (getD n K.VAR 0)) (nodes bs)
+tailKnown n expression bs = all (nodeKnown (getD n K.VAR 0) (getD n K.SAMPLER 0)) (nodes bs)
 tailKnown n (listOf p) bs = all (partKnown p n) (partsOf p bs)
 tailKnown n branches bs =
     all (λ b. ltb (u16 b 0) (getD n K.BLOCK 0) && all (partKnown item n) (partsOf item (drop 2 b)))
@@ -98,6 +100,7 @@ innerOf (VAR v) = []
 innerOf (CLASS b) = []
 innerOf BLOCK = []
 innerOf (ENTITY e) = []
+innerOf (SAMPLER x) = []
 innerOf (ACTION a) = inner a
 
 -- `own` is how many BLOCKs stand before, so an action's own block is own - 1.
@@ -126,8 +129,8 @@ pub record Gathered : Type 0 where
   pub loose : List Action
 
 module _ (g : Gathered) where
-  abbrev declaring : List ℕ → List ℕ → ℕ → List ℤ → List ℕ → List Entity → Gathered
-  declaring t n k v c e =
+  abbrev declaring : List ℕ → List ℕ → ℕ → List ℤ → List ℕ → List Entity → List Sampler → Gathered
+  declaring t n k v c e x =
       record {
         model = record {
           totals = t ++ g .model .totals;
@@ -136,6 +139,7 @@ module _ (g : Gathered) where
           vars = v ++ g .model .vars;
           classes = c ++ g .model .classes;
           entities = e ++ g .model .entities;
+          samplers = x ++ g .model .samplers;
           blocks = g .model .blocks;
         };
         loose = g .loose;
@@ -151,23 +155,25 @@ module _ (g : Gathered) where
           vars = g .model .vars;
           classes = g .model .classes;
           entities = g .model .entities;
+          samplers = g .model .samplers;
           blocks = g .loose ∷ g .model .blocks;
         };
         loose = [];
       }
 
   abbrev pub adds : Entry → Gathered
-  adds (RES n) = declaring (n ∷ []) [] 0 [] [] []
-  adds (BIN n) = declaring [] (n ∷ []) 0 [] [] []
-  adds SYNC = declaring [] [] 1 [] [] []
-  adds (VAR v) = declaring [] [] 0 (v ∷ []) [] []
-  adds (CLASS b) = declaring [] [] 0 [] (b ∷ []) []
-  adds (ENTITY x) = declaring [] [] 0 [] [] (x ∷ [])
+  adds (RES n) = declaring (n ∷ []) [] 0 [] [] [] []
+  adds (BIN n) = declaring [] (n ∷ []) 0 [] [] [] []
+  adds SYNC = declaring [] [] 1 [] [] [] []
+  adds (VAR v) = declaring [] [] 0 (v ∷ []) [] [] []
+  adds (CLASS b) = declaring [] [] 0 [] (b ∷ []) [] []
+  adds (ENTITY x) = declaring [] [] 0 [] [] (x ∷ []) []
+  adds (SAMPLER x) = declaring [] [] 0 [] [] [] (x ∷ [])
   adds BLOCK = opening
   adds (ACTION x) = record { model = g .model; loose = x ∷ g .loose }
 
 abbrev pub noModel : Model
-noModel = record { totals = []; amounts = []; syncs = 0; vars = []; classes = []; entities = []; blocks = [] }
+noModel = record { totals = []; amounts = []; syncs = 0; vars = []; classes = []; entities = []; samplers = []; blocks = [] }
 
 unfoldable pub gather : List Raw → Gathered
 unfolding rowOf

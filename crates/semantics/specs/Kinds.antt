@@ -1,4 +1,4 @@
--- The kinds of a record by their names, and their groups (document 01, "The model file").
+-- The kinds of a record by their names, and their groups (document 01, "The model file"; SAMPLER: document 02, One).
 -- Assumes nothing.
 use Prim.Native.Nat.{ℕ}
 
@@ -22,6 +22,9 @@ BLOCK = 6
 
 abbrev pub ENTITY : ℕ
 ENTITY = 7
+
+abbrev pub SAMPLER : ℕ
+SAMPLER = 8
 
 abbrev pub HOLD : ℕ
 HOLD = 16

@@ -6,6 +6,7 @@ pub mod Bytes
 pub mod Record
 pub mod Decode
 pub mod State
+pub mod Generator
 pub mod Value
 pub mod Claim
 pub mod Walk

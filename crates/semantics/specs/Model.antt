@@ -3,16 +3,17 @@
 use Prim.Native.Nat.{ℕ}
 use mathlib.Core.List.{List, []}
 use lib.ListN.{getD}
-use lib.IntN.{ℤ}
+use lib.IntN.{ℤ, pos}
 use Rattle.semantics.specs.Kinds as K
 
--- 0 literal, 1 global, 2 local, 3 add, 4 subtract, 5 multiply, 6 lesser, 7 greater, 8 clock, 9 negate
+-- 0 literal, 1 global, 2 local, 3 add, 4 subtract, 5 multiply, 6 lesser, 7 greater, 8 clock, 9 negate, 10 draw
 pub data Expr : Type 0 where
   literal : ℤ → Expr
   global local : ℕ → Expr
   add subtract multiply lesser greater : Expr → Expr → Expr
   theClock : Expr
   negate : Expr → Expr
+  draw : ℕ → Expr  -- from this sampler
 
 -- What a claim can get: 0 getR, 1 getB, 2 getS.
 pub data Kind : Type 0 where
@@ -73,6 +74,12 @@ pub record Entity : Type 0 where
   pub class : ℕ
   pub offset : ℕ
 
+-- What is drawn lies in lowest..highest; the seed is the one that it starts with (document 02, One).
+pub record Sampler : Type 0 where
+  pub lowest : ℤ
+  pub highest : ℤ
+  pub seed : ℕ
+
 -- Things of one kind stand in file order, so that their numbers are their indices.
 pub record Model : Type 0 where
   pub totals : List ℕ  -- of the RES
@@ -81,6 +88,7 @@ pub record Model : Type 0 where
   pub vars : List ℤ  -- the values that the VARs start with
   pub classes : List ℕ  -- their body blocks
   pub entities : List Entity
+  pub samplers : List Sampler
   pub blocks : List (List Action)
 
 -- The actions of block b, and the body block of class c.
@@ -89,3 +97,7 @@ block m b = getD (m .blocks) b []
 
 abbrev pub body : Model → ℕ → ℕ
 body m c = getD (m .classes) c 0
+
+-- Sampler i. One that isn't declared isn't drawn from (check 8).
+abbrev pub sampler : Model → ℕ → Sampler
+sampler m i = getD (m .samplers) i (record { lowest = pos 0; highest = pos 0; seed = 0 })

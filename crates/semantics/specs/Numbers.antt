@@ -1,4 +1,5 @@
--- The numbers that document 01 gives, by their names; the kinds of a record are in Kinds.
+-- The numbers that document 01 gives, and document 02 as far as its requests have landed, by their names; the kinds of a record
+-- are in Kinds.
 -- Assumes nothing.
 use Prim.Native.Nat.{ℕ}
 use lib.IntN.{ℤ, negsuc}
@@ -99,12 +100,15 @@ traced = 9
 abbrev pub closed : ℕ
 closed = 10
 
--- At most, of a model file: its bytes; each of RES, BIN, SYNC and VAR; CLASS, BLOCK, ENTITY; actions.
+-- At most, of a model file: its bytes; each of RES, BIN, SYNC and VAR; samplers; CLASS, BLOCK, ENTITY; actions.
 abbrev pub longestFile : ℕ
 longestFile = 65_535
 
 abbrev pub mostThings : ℕ
 mostThings = 32
+
+abbrev pub mostSamplers : ℕ
+mostSamplers = 16
 
 abbrev pub mostClasses : ℕ
 mostClasses = 64
@@ -137,6 +141,13 @@ mostSlaves = 64
 
 abbrev pub deepest : ℕ
 deepest = 8
+
+-- .. the difference of a sampler's highest and lowest value, and a seed, which is at least 1 (document 02, One).
+abbrev pub topSpread : ℕ
+topSpread = 1_000_000
+
+abbrev pub lastSeed : ℕ
+lastSeed = 2_147_483_646
 
 -- The lowest priority of a process, and that of a return notice.
 abbrev pub lowest : ℤ

@@ -1,4 +1,4 @@
--- The table of record kinds (document 01, "The model file"): what a record of each kind must be by checks 5, 6 and 7, what it
+-- The table of record kinds (document 01, "The model file"; samplers and op 10: document 02, One): what a record of each kind must be by checks 5, 6 and 7, what it
 -- names, and what it says.
 -- Assumes nothing.
 use Prim.Native.Nat.{ℕ, zero, suc, _+_, _*_, _/_, _%_}
@@ -7,14 +7,15 @@ use mathlib.Core.Bool.{Bool, true, false, not, _&&_, _||_}
 use mathlib.Core.Option.{Option, none, some}
 use lib.Dec.{eqb, leb}
 use lib.ListN.{length, getD, take, drop}
-use lib.IntN.{ℤ}
+use lib.IntN.{ℤ, pos, _-ℤ_}
+use lib.Signed.{leZ}
 use Rattle.semantics.specs.Words.{if_then_else_, Outcome, Passed, _>>_, need, all, any, within}
 use Rattle.semantics.specs.Numbers as No
 use Rattle.semantics.specs.Kinds as K
-use Rattle.semantics.specs.Model.{Expr, literal, global, local, add, subtract, multiply, lesser, greater, negate}
+use Rattle.semantics.specs.Model.{Expr, literal, global, local, add, subtract, multiply, lesser, greater, negate, draw}
 use Rattle.semantics.specs.Model.{theClock, resource, bin, sync, Relation, below, atMost, equals, differs, atLeast, above}
-use Rattle.semantics.specs.Model.{Item, get, condition, Claim, Branch, Share, Entity, Action, HOLD, PRIO, TRACE, SET}
-use Rattle.semantics.specs.Model.{LSET, DO, PUTR, PUTB, PUTS, BECOME, REQ, TRY, WHILE, START, CLOSE}
+use Rattle.semantics.specs.Model.{Item, get, condition, Claim, Branch, Share, Entity, Sampler, Action, HOLD, PRIO}
+use Rattle.semantics.specs.Model.{TRACE, SET, LSET, DO, PUTR, PUTB, PUTS, BECOME, REQ, TRY, WHILE, START, CLOSE}
 use Rattle.semantics.specs.Bytes.{u8, u16, u32, i32, signed, parts}
 
 -- EXPRESSIONS: 1 to 16 nodes of 6 bytes in prefix order (u16 op, i32 operand).
@@ -23,13 +24,14 @@ pub data Node : Type 0 where
   unary : (Expr → Expr) → Node
   binary : (Expr → Expr → Expr) → Node
 
--- The ops 0 to 9. An unknown op is taken as a leaf. The operand of a global or a local is read as a u32: a negative one is then
--- the number of a thing that is not declared.
+-- The ops 0 to 10. An unknown op is taken as a leaf. The operand of a global, a local or a draw is read as a u32: a negative one
+-- is then the number of a thing that is not declared.
 abbrev pub nodeOf : ℕ → ℕ → Node
 nodeOf op v =
     getD
     (leaf (literal (signed v)) ∷ leaf (global v) ∷ leaf (local v)
-    ∷ binary add ∷ binary subtract ∷ binary multiply ∷ binary lesser ∷ binary greater ∷ leaf theClock ∷ unary negate ∷ [])
+    ∷ binary add ∷ binary subtract ∷ binary multiply ∷ binary lesser ∷ binary greater ∷ leaf theClock ∷ unary negate
+    ∷ leaf (draw v) ∷ [])
     op
     (leaf theClock)
 
@@ -59,9 +61,9 @@ theTree none = theClock
 theTree (some []) = theClock
 theTree (some (e ∷ es)) = e
 
--- Ops 3 to 9 carry operand 0.
+-- Ops 3 to 9 carry operand 0; op 10 carries the number of a sampler.
 abbrev pub nodeValid : List ℕ → Bool
-nodeValid n = leb (u16 n 0) 2 || (leb (u16 n 0) 9 && eqb (u32 n 2) 0)
+nodeValid n = leb (u16 n 0) 2 || ((leb (u16 n 0) 9 && eqb (u32 n 2) 0) || eqb (u16 n 0) 10)
 
 unfoldable pub expressionIn : List ℕ → Expr
 unfolding pile parts
@@ -179,15 +181,28 @@ twice expression bs = false
 twice (listOf p) bs = listTwice p bs
 twice branches bs = any (λ b. listTwice item (drop 2 b)) (branchesFrom (u16 bs 0) (drop 2 bs))
 
--- A FIELD with a stated set: where it begins, and the set's ends. No kind has two.
+-- SAMPLERS: i32 lowest, i32 highest, u32 seed. Lowest isn't above highest, nor their difference above 1,000,000, and the seed is
+-- in 1..2,147,483,646.
+abbrev pub samplerOf : List ℕ → Sampler
+samplerOf bs = record { lowest = i32 bs 0; highest = i32 bs 4; seed = u32 bs 8 }
+
+abbrev pub samplerValid : Sampler → Bool
+samplerValid x =
+    leZ (x .lowest) (x .highest)
+    && (leZ (x .highest -ℤ x .lowest) (pos No.topSpread) && within 1 No.lastSeed (x .seed))
+
+-- A FIELD with a stated set: where it begins, and the set's ends. No kind has two, but for a sampler: its three are judged
+-- together.
 pub data Field : Type 0 where
   anyValue : Field  -- every value may stand
   u16In u32In : ℕ → ℕ → ℕ → Field
+  ofSampler : Field
 
 abbrev pub inSet : Field → List ℕ → Bool
 inSet anyValue bs = true
 inSet (u16In at lo hi) bs = within lo hi (u16 bs at)
 inSet (u32In at lo hi) bs = within lo hi (u32 bs at)
+inSet ofSampler bs = samplerValid (samplerOf bs)
 
 -- A FIELD THAT NAMES a thing: the kind of the record that declares such a thing, and where the u16 begins. No kind has two.
 pub data Naming : Type 0 where
@@ -206,6 +221,7 @@ pub data Entry : Type 0 where
   CLASS : ℕ → Entry
   BLOCK : Entry
   ENTITY : Entity → Entry
+  SAMPLER : Sampler → Entry
   ACTION : Action → Entry
 
 -- THE TABLE. `most` is how many records there may be of `group`: a declaration and BLOCK are their own, all actions are one.
@@ -245,6 +261,7 @@ table =
     ∷ declares K.CLASS No.mostClasses 2 anyValue (names K.BLOCK 0) (λ bs. CLASS (u16 bs 0))
     ∷ declares K.BLOCK No.mostBlocks 0 anyValue nameless (λ bs. BLOCK)
     ∷ declares K.ENTITY No.mostEntities 6 (u32In 2 0 No.topAmount) (names K.CLASS 0) (λ bs. ENTITY (entityOf bs))
+    ∷ declares K.SAMPLER No.mostSamplers 12 ofSampler nameless (λ bs. SAMPLER (samplerOf bs))
     ∷ acts K.HOLD 0 anyValue nameless expression (λ bs. HOLD (expressionIn bs))
     ∷ acts K.PRIO 0 anyValue nameless expression (λ bs. PRIO (expressionIn bs))
     ∷ acts K.SET 2 anyValue (names K.VAR 0) expression (λ bs. SET (u16 bs 0) (expressionIn (drop 2 bs)))

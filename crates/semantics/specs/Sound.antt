@@ -28,7 +28,7 @@ abbrev pub ofLiving : (Process → Bool) → State → Bool
 ofLiving f s = all (λ q. isFree q || f q) (s .processes)
 
 -- THE SHAPE, which document 01's words take for granted: 64 places; an amount for each resource and bin, a value for each
--- variable, a list for each sync; 8 locals and a holding for each resource in a process; nothing in a free place; and the
+-- variable, a list for each sync, a seed for each sampler; 8 locals and a holding for each resource in a process; nothing in a free place; and the
 -- priority that is listed beside a process is its own.
 abbrev pub vacant : Process → Bool
 vacant q =
@@ -55,10 +55,11 @@ shaped m s =
     && (eqb (length (s .bins)) (length (m .amounts))
     && (eqb (length (s .globals)) (length (m .vars))
     && (eqb (length (s .waiting)) (m .syncs)
+    && (eqb (length (s .seeds)) (length (m .samplers))
     && (all (λ q. if isFree q then vacant q else furnished m q) (s .processes)
-    && (all (eventTied s) (s .events) && (all (waiterTied s) (s .blocked) && all (all (waiterTied s)) (s .waiting))))))))
+    && (all (eventTied s) (s .events) && (all (waiterTied s) (s .blocked) && all (all (waiterTied s)) (s .waiting)))))))))
 
--- EVERY NUMBER IS IN ITS RANGE: a process's priority from -10,000, a return notice's exactly -15,000.
+-- EVERY NUMBER IS IN ITS RANGE: a process's priority from -10,000, a return notice's exactly -15,000, a seed 1 to 2,147,483,646.
 abbrev pub processInRange : Model → Process → Bool
 processInRange m q =
     leZ No.lowest (q .priority)
@@ -83,8 +84,9 @@ numbersInRange m s =
     && (leb (s .last) No.lastNumber
     && (all isI32 (s .globals)
     && (all (λ n. leb n No.fullBin) (s .bins)
+    && (all (within 1 No.lastSeed) (s .seeds)
     && (ofLiving (processInRange m) s
-    && (all (eventInRange m s) (s .events) && leb (length (keep isReturn (s .events))) No.returns)))))
+    && (all (eventInRange m s) (s .events) && leb (length (keep isReturn (s .events))) No.returns))))))
 
 -- .. a place from the block's first action to just past its last, rounds left 1 to n in a DO's block, else 1; A PROCESS'S
 -- BLOCKS BEGIN WITH A CLASS BODY, EACH NEXT ONE NAMED WHERE THE ONE BEFORE STANDS. `enters a b r`: one that stands at a can be in

@@ -9,7 +9,7 @@ use lib.IntN.{ℤ, pos}
 use lib.Signed.{ltZ}
 use Rattle.semantics.specs.Words.{firstAt, isEmpty, keep, insert}
 use Rattle.semantics.specs.Numbers as No
-use Rattle.semantics.specs.Model.{Model, Entity, body}
+use Rattle.semantics.specs.Model.{Model, Entity, Sampler, body}
 
 -- A block that a process is in: the index of the action where it stands, and the rounds left, this one included.
 pub record Frame : Type 0 where
@@ -64,11 +64,12 @@ pub record State : Type 0 where
   pub events : List Event
   pub blocked : List Waiter
   pub processes : List Process
+  pub seeds : List ℕ  -- of the samplers
 
 -- THE PARTS CHANGED one at a time.
 abbrev make : ℕ → Bool → ℕ → List ℤ → List ℕ → List ℕ → List (List Waiter) → Floor → List Event → List Waiter → List Process
-    → State
-make c d l g f b w o e k p =
+    → List ℕ → State
+make c d l g f b w o e k p r =
     record {
       clock = c;
       closed = d;
@@ -81,63 +82,69 @@ make c d l g f b w o e k p =
       events = e;
       blocked = k;
       processes = p;
+      seeds = r;
     }
 
 module _ (s : State) where
   abbrev pub at-clock : ℕ → State
   at-clock x =
       make x (s .closed) (s .last) (s .globals) (s .free) (s .bins)
-      (s .waiting) (s .floor) (s .events) (s .blocked) (s .processes)
+      (s .waiting) (s .floor) (s .events) (s .blocked) (s .processes) (s .seeds)
 
   abbrev pub now-closed : State
   now-closed =
       make (s .clock) true (s .last) (s .globals) (s .free) (s .bins)
-      (s .waiting) (s .floor) (s .events) (s .blocked) (s .processes)
+      (s .waiting) (s .floor) (s .events) (s .blocked) (s .processes) (s .seeds)
 
   abbrev pub with-last : ℕ → State
   with-last x =
       make (s .clock) (s .closed) x (s .globals) (s .free) (s .bins)
-      (s .waiting) (s .floor) (s .events) (s .blocked) (s .processes)
+      (s .waiting) (s .floor) (s .events) (s .blocked) (s .processes) (s .seeds)
 
   abbrev pub with-globals : List ℤ → State
   with-globals x =
       make (s .clock) (s .closed) (s .last) x (s .free) (s .bins)
-      (s .waiting) (s .floor) (s .events) (s .blocked) (s .processes)
+      (s .waiting) (s .floor) (s .events) (s .blocked) (s .processes) (s .seeds)
 
   abbrev pub with-free : List ℕ → State
   with-free x =
       make (s .clock) (s .closed) (s .last) (s .globals) x (s .bins)
-      (s .waiting) (s .floor) (s .events) (s .blocked) (s .processes)
+      (s .waiting) (s .floor) (s .events) (s .blocked) (s .processes) (s .seeds)
 
   abbrev pub with-bins : List ℕ → State
   with-bins x =
       make (s .clock) (s .closed) (s .last) (s .globals) (s .free) x
-      (s .waiting) (s .floor) (s .events) (s .blocked) (s .processes)
+      (s .waiting) (s .floor) (s .events) (s .blocked) (s .processes) (s .seeds)
 
   abbrev pub with-waiting : List (List Waiter) → State
   with-waiting x =
       make (s .clock) (s .closed) (s .last) (s .globals) (s .free) (s .bins)
-      x (s .floor) (s .events) (s .blocked) (s .processes)
+      x (s .floor) (s .events) (s .blocked) (s .processes) (s .seeds)
 
   abbrev pub with-floor : Floor → State
   with-floor x =
       make (s .clock) (s .closed) (s .last) (s .globals) (s .free) (s .bins)
-      (s .waiting) x (s .events) (s .blocked) (s .processes)
+      (s .waiting) x (s .events) (s .blocked) (s .processes) (s .seeds)
 
   abbrev pub with-events : List Event → State
   with-events x =
       make (s .clock) (s .closed) (s .last) (s .globals) (s .free) (s .bins)
-      (s .waiting) (s .floor) x (s .blocked) (s .processes)
+      (s .waiting) (s .floor) x (s .blocked) (s .processes) (s .seeds)
 
   abbrev pub with-blocked : List Waiter → State
   with-blocked x =
       make (s .clock) (s .closed) (s .last) (s .globals) (s .free) (s .bins)
-      (s .waiting) (s .floor) (s .events) x (s .processes)
+      (s .waiting) (s .floor) (s .events) x (s .processes) (s .seeds)
 
   abbrev pub with-processes : List Process → State
   with-processes x =
       make (s .clock) (s .closed) (s .last) (s .globals) (s .free) (s .bins)
-      (s .waiting) (s .floor) (s .events) (s .blocked) x
+      (s .waiting) (s .floor) (s .events) (s .blocked) x (s .seeds)
+
+  abbrev pub with-seeds : List ℕ → State
+  with-seeds x =
+      make (s .clock) (s .closed) (s .last) (s .globals) (s .free) (s .bins)
+      (s .waiting) (s .floor) (s .events) (s .blocked) (s .processes) x
 
 module _ (q : Process) where
   abbrev like : ℤ → List ℤ → List ℕ → List Slave → List Frame → Process
@@ -235,10 +242,11 @@ unfolding begin
 beginAll m [] s = s
 beginAll m (e ∷ es) s = beginAll m es (begin m (e .class) (e .offset) (map (λ t. 0) (m .totals)) s)
 
--- FRESH: clock 0, and the ENTITY processes numbered 1, 2, .. entered in file order at their offsets.
+-- FRESH: clock 0, each sampler's seed its first, and the ENTITY processes numbered 1, 2, .. entered in file order at their offsets.
 abbrev pub bare : Model → State
 bare m =
     make 0 false 0 (m .vars) (m .totals) (m .amounts) (replicate (m .syncs) []) empty [] [] (replicate No.places nobody)
+    (map (λ x. x .seed) (m .samplers))
 
 unfoldable pub fresh : Model → State
 unfolding beginAll

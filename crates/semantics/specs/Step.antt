@@ -16,10 +16,10 @@ use Rattle.semantics.specs.Model.{Expr, Share, Model, Action, HOLD, PRIO
 use Rattle.semantics.specs.Model.{REQ, TRY, WHILE, START, CLOSE, kindOf}
 use Rattle.semantics.specs.State.{State, Process, Frame, Slave, Waiter, Event, empty, heldBy, Notice, wakes, returnsR}
 use Rattle.semantics.specs.State.{returnsB, nobody, process, put, at-clock, now-closed, with-globals, with-free}
-use Rattle.semantics.specs.State.{with-bins, with-waiting, with-floor, with-events, with-blocked, with-priority}
-use Rattle.semantics.specs.State.{with-locals, with-held, with-slaves, with-frames, enter, wake, join, onward, past, into}
-use Rattle.semantics.specs.State.{begin, living}
-use Rattle.semantics.specs.Value.{eval}
+use Rattle.semantics.specs.State.{with-bins, with-waiting, with-floor, with-events, with-blocked, with-seeds}
+use Rattle.semantics.specs.State.{with-priority, with-locals, with-held, with-slaves, with-frames, enter, wake, join, onward, past}
+use Rattle.semantics.specs.State.{into, begin, living}
+use Rattle.semantics.specs.Value.{Valued, eval}
 use Rattle.semantics.specs.Claim.{offers, standsIn, waits, goes, choice, grant}
 use Rattle.semantics.specs.Walk.{Next, line, quiet, after, walk}
 
@@ -71,6 +71,13 @@ module _ (m : Model) (s : State) (p : ℕ) where
   abbrev off : Process → State
   off r = with-floor (on r) empty
 
+  -- An expression is worked out from the seeds as they are; `drew v t` is t with the seeds as v's draws leave them.
+  abbrev worth : Expr → Outcome Valued
+  worth e = eval m s q e (s .seeds)
+
+  abbrev drew : Valued → State → State
+  drew v t = with-seeds t (v .seeds)
+
   -- Leaving the class body ends the process, which has no resource held above 0 and no slave.
   unfoldable pub ends : Outcome Next
   ends = do
@@ -91,30 +98,30 @@ module _ (m : Model) (s : State) (p : ℕ) where
   unfoldable pub hold : Expr → Outcome Next
   unfolding eval wake past
   hold e = do
-    v ← eval s q e
-    need No.BACK (nonNeg v)
-    need No.LATE (leb (s .clock + natAbs v) No.latest)
-    ok (quiet (wake (s .clock + natAbs v) p (off (past q))))
+    v ← worth e
+    need No.BACK (nonNeg (v .value))
+    need No.LATE (leb (s .clock + natAbs (v .value)) No.latest)
+    ok (quiet (wake (s .clock + natAbs (v .value)) p (drew v (off (past q)))))
 
   -- PRIO e: priority e, but never below -10,000.
   unfoldable pub prio : Expr → Outcome Next
   unfolding eval past
   prio e = do
-    v ← eval s q e
-    ok (quiet (on (past (with-priority q (if leZ No.lowest v then v else No.lowest)))))
+    v ← worth e
+    ok (quiet (drew v (on (past (with-priority q (if leZ No.lowest (v .value) then v .value else No.lowest))))))
 
   -- SET, LSET; SET then walks.
   unfoldable pub setGlobal : ℕ → Expr → Outcome Next
   unfolding eval past walk
   setGlobal i e = do
-    v ← eval s q e
-    ok (walk m (with-globals (on (past q)) (set (s .globals) i v)))
+    v ← worth e
+    ok (walk m (with-globals (drew v (on (past q))) (set (s .globals) i (v .value))))
 
   unfoldable pub setLocal : ℕ → Expr → Outcome Next
   unfolding eval past
   setLocal i e = do
-    v ← eval s q e
-    ok (quiet (on (past (with-locals q (set (q .locals) i v)))))
+    v ← worth e
+    ok (quiet (drew v (on (past (with-locals q (set (q .locals) i (v .value)))))))
 
   -- DO 0 passes on; DO n enters the block for n rounds.
   unfoldable pub doTimes : ℕ → ℕ → Outcome Next
@@ -192,8 +199,8 @@ module _ (m : Model) (s : State) (p : ℕ) where
   unfoldable pub trace : Expr → Outcome Next
   unfolding eval past
   trace e = do
-    v ← eval s q e
-    ok (after (line s (q .number) No.traced v) (quiet (on (past q))))
+    v ← worth e
+    ok (after (line s (q .number) No.traced (v .value)) (quiet (drew v (on (past q)))))
 
   unfoldable pub close : Outcome Next
   unfolding past
