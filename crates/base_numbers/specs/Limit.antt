@@ -3,9 +3,12 @@
 use Prim.Native.Nat.{ℕ, _+_, _*_}
 use Rattle.semantics.specs.Numbers as No
 
--- RES, BIN, SYNC and VAR each; CLASS, BLOCK, actions, and branches of actions.
+-- RES, BIN, SYNC and VAR each; samplers; CLASS, BLOCK, actions, and branches of actions.
 abbrev pub THINGS : ℕ
 THINGS = No.mostThings
+
+abbrev pub SAMPLERS : ℕ
+SAMPLERS = No.mostSamplers
 
 abbrev pub CLASSES : ℕ
 CLASSES = No.mostClasses
@@ -25,6 +28,10 @@ AMOUNT = No.topAmount
 
 abbrev pub DEPTH : ℕ
 DEPTH = No.deepest
+
+-- A seed.
+abbrev pub SEED : ℕ
+SEED = No.lastSeed
 
 -- The lines of one step; and the least bound that is OVER.
 abbrev pub STEP_LINES : ℕ

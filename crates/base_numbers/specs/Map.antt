@@ -16,7 +16,7 @@ BODY = PLACE + Limit.ACTIONS
 abbrev pub FROM : ℕ
 FROM = BODY + Limit.CLASSES
 
--- Of each branch: the place of its claim, and the resources, bins and syncs that it names, as bits; and the end.
+-- Of each branch: the place of its claim, and the resources, bins and syncs that it names, as bits.
 abbrev pub CLAIM : ℕ
 CLAIM = FROM + Limit.ACTIONS + 1
 
@@ -29,5 +29,12 @@ BINS = RESOURCES + Limit.BRANCHES
 abbrev pub SYNCS : ℕ
 SYNCS = BINS + Limit.BRANCHES
 
+-- Of each sampler: the code of its lowest value, and how many values it has; and the end.
+abbrev pub LOWEST : ℕ
+LOWEST = SYNCS + Limit.BRANCHES
+
+abbrev pub VALUES : ℕ
+VALUES = LOWEST + Limit.SAMPLERS
+
 abbrev pub WORDS : ℕ
-WORDS = SYNCS + Limit.BRANCHES
+WORDS = VALUES + Limit.SAMPLERS

@@ -57,7 +57,7 @@ GLOBALS = BINS + Limit.THINGS
 abbrev pub WAITS : ℕ
 WAITS = GLOBALS + Limit.THINGS
 
--- The blocked list; the keys of the events and what they do; the waiting lists; the processes; and the end.
+-- The blocked list; the keys of the events and what they do; the waiting lists; the processes; the seeds; and the end.
 abbrev pub QUEUE : ℕ
 QUEUE = WAITS + Limit.THINGS
 
@@ -73,8 +73,11 @@ WAITING = NOTICES + EVENTS_MOST
 abbrev pub PROCESSES : ℕ
 PROCESSES = WAITING + WAITERS_ALL
 
+abbrev pub SEEDS : ℕ
+SEEDS = (PROCESSES) + PROCESSES_ALL
+
 abbrev pub WORDS : ℕ
-WORDS = (PROCESSES) + PROCESSES_ALL
+WORDS = (SEEDS) + Limit.SAMPLERS
 
 -- Where the locals of the process in place 0 begin, what it holds, and its slaves.
 abbrev pub FIRST_LOCALS : ℕ

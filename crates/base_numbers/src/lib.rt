@@ -114,6 +114,8 @@ pub mod kind {
 
     pub const ENTITY: u32 = 7;
 
+    pub const SAMPLER: u32 = 8;
+
     pub const HOLD: u32 = 16;
 
     pub const PRIO: u32 = 17;
@@ -163,11 +165,13 @@ pub mod item {
 
 // How many there may be, and how large.
 pub mod limit {
-    // Of a model file: its bytes; each of RES, BIN, SYNC and VAR; a process's locals; CLASS, BLOCK, ENTITY, actions, and
-    // branches of actions.
+    // Of a model file: its bytes; each of RES, BIN, SYNC and VAR; samplers; a process's locals; CLASS, BLOCK, ENTITY, actions,
+    // and branches of actions.
     pub const FILE: usize = 65535;
 
     pub const THINGS: usize = 32;
+
+    pub const SAMPLERS: usize = 16;
 
     pub const LOCALS: usize = 8;
 
@@ -187,6 +191,13 @@ pub mod limit {
     pub const DEPTH: usize = 8;
 
     pub const NODES: usize = 16;
+
+    // The difference of a sampler's highest and lowest value; a seed, as a number of a file and as a word.
+    pub const SPREAD: u32 = 1000000;
+
+    pub const SEED: u32 = 2147483646;
+
+    pub const SEED_WORD: u64 = SEED as u64;
 
     // Of a run: a time, a process's number, what a bin holds, living processes, returns that wait, the lines of one step.
     pub const LATEST: u64 = 2000000000;
@@ -265,7 +276,7 @@ pub mod row {
 
     pub const WAITS: usize = GLOBALS + limit::THINGS;
 
-    // The blocked list; the keys of the events and what they do; the waiting lists; the processes; and the end.
+    // The blocked list; the keys of the events and what they do; the waiting lists; the processes; the seeds; and the end.
     pub const QUEUE: usize = WAITS + limit::THINGS;
 
     pub const KEYS: usize = QUEUE + WAITERS_MOST;
@@ -276,7 +287,9 @@ pub mod row {
 
     pub const PROCESSES: usize = WAITING + WAITERS_ALL;
 
-    pub const WORDS: usize = PROCESSES + PROCESSES_ALL;
+    pub const SEEDS: usize = PROCESSES + PROCESSES_ALL;
+
+    pub const WORDS: usize = SEEDS + limit::SAMPLERS;
 
     // How many numbers the event list has room for, and a list of those that wait.
     pub const EVENTS_MOST: usize = limit::PLACES + limit::RETURNS;
@@ -340,7 +353,7 @@ pub mod map {
 
     pub const FROM: usize = BODY + limit::CLASSES;
 
-    // Of each branch: the place of its claim, and the resources, bins and syncs that it names, as bits; and the end.
+    // Of each branch: the place of its claim, and the resources, bins and syncs that it names, as bits.
     pub const CLAIM: usize = FROM + limit::ACTIONS + 1;
 
     pub const RESOURCES: usize = CLAIM + limit::BRANCHES;
@@ -349,7 +362,12 @@ pub mod map {
 
     pub const SYNCS: usize = BINS + limit::BRANCHES;
 
-    pub const WORDS: usize = SYNCS + limit::BRANCHES;
+    // Of each sampler: the code of its lowest value, and how many values it has; and the end.
+    pub const LOWEST: usize = SYNCS + limit::BRANCHES;
+
+    pub const VALUES: usize = LOWEST + limit::SAMPLERS;
+
+    pub const WORDS: usize = VALUES + limit::SAMPLERS;
 }
 
 // How numbers are packed into one word: a name in the plural is how many a part can tell apart, one in the singular what one more
@@ -443,6 +461,8 @@ pub mod group {
 
     pub const BLOCK: usize = 6;
 
+    pub const SAMPLER: usize = 8;
+
     // How many there are, with 0, which is none; and what stands for a local where the table of kinds says what a field names.
     pub const MANY: usize = 17;
 
@@ -522,7 +542,9 @@ pub mod op {
 
     pub const NEGATE: u32 = 9;
 
-    pub const MANY: usize = 10;
+    pub const DRAW: u32 = 10;
+
+    pub const MANY: usize = 11;
 
     pub const NODE_BYTES: usize = 6;
 }
