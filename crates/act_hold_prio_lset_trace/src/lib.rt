@@ -14,11 +14,18 @@ use base_numbers::code;
 use base_numbers::fault;
 use base_numbers::limit;
 use base_numbers::line;
+use base_numbers::map;
 use base_numbers::process;
 use base_numbers::row;
 
-// The value of the expression in `body`, for the process in place p.
-pub fn value_in<'a>(body: &'a [u8], w: &'a [u64], p: usize) -> Value
+// The value of the expression in `body`, for the process in place p; `seeds` moves on by its draws.
+pub fn value_in<'a>(
+    body: &'a [u8],
+    map: &'a [u32],
+    w: &'a [u64],
+    p: usize,
+    seeds: &'a mut [u64; limit::SAMPLERS],
+) -> Value
     requires { ⌜ Valued (now body) (now w) p ⌝ }
     ensures { λ r. ⌜ ((v : Valued (now (body .entry)) (now (w .entry)) p)
         → r ≡ valueIn (eval (v .running .run .is) (process (v .running .run .is) p) (v .expression))) ⌝ }
@@ -26,16 +33,25 @@ pub fn value_in<'a>(body: &'a [u8], w: &'a [u64], p: usize) -> Value
     let clock = act_floor::clock_of(w) as u32;
     let from = row::FIRST_LOCALS + process::WORDS * p;
     let to = from + limit::LOCALS;
-    act_value::evaluate(body, &w[row::GLOBALS..row::WAITS], &w[from..to], clock)
+    act_value::evaluate(
+        body,
+        &w[row::GLOBALS..row::WAITS],
+        &w[from..to],
+        clock,
+        &map[map::LOWEST..map::VALUES],
+        &map[map::VALUES..map::WORDS],
+        seeds,
+    )
 }
 
-pub fn hold<'a>(body: &'a [u8], w: &'a mut [u64], p: usize) -> Went
+pub fn hold<'a>(body: &'a [u8], map: &'a [u32], w: &'a mut [u64], p: usize) -> Went
     requires { ⌜ Given (now body) (now w) p HOLD ⌝ }
     ensures { λ r. ⌜ ((v : Given (now (body .entry)) (now (w .entry)) p HOLD)
         → SteppedQuietly (made (v .on .running) (λ m s. hold m s p (v .expression)))
         (r .fault) (r .lines) (now (w .entry)) (now (w .exit))) ⌝ }
 {
-    let value = value_in(body, w, p);
+    let mut seeds = row_work::seeds_of(w);
+    let value = value_in(body, map, w, p, &mut seeds);
     if !value.ok {
         return Went {
             fault: fault::SUM,
@@ -55,19 +71,21 @@ pub fn hold<'a>(body: &'a [u8], w: &'a mut [u64], p: usize) -> Went
             lines: 0,
         };
     }
+    row_work::keep_seeds(w, seeds);
     row_process::past(w, p);
     act_floor::leave_floor(w);
     row_lists::wake(w, time, p);
     Went { fault: 0, lines: 0 }
 }
 
-pub fn prio<'a>(body: &'a [u8], w: &'a mut [u64], p: usize) -> Went
+pub fn prio<'a>(body: &'a [u8], map: &'a [u32], w: &'a mut [u64], p: usize) -> Went
     requires { ⌜ Given (now body) (now w) p PRIO ⌝ }
     ensures { λ r. ⌜ ((v : Given (now (body .entry)) (now (w .entry)) p PRIO)
         → SteppedQuietly (made (v .on .running) (λ m s. prio m s p (v .expression)))
         (r .fault) (r .lines) (now (w .entry)) (now (w .exit))) ⌝ }
 {
-    let value = value_in(body, w, p);
+    let mut seeds = row_work::seeds_of(w);
+    let value = value_in(body, map, w, p, &mut seeds);
     if !value.ok {
         return Went {
             fault: fault::SUM,
@@ -75,43 +93,48 @@ pub fn prio<'a>(body: &'a [u8], w: &'a mut [u64], p: usize) -> Went
         };
     }
     let priority = base_i32::greater(code::LOWEST, value.code);
+    row_work::keep_seeds(w, seeds);
     row_process::past(w, p);
     row_process::set_priority(w, p, priority as u64);
     Went { fault: 0, lines: 0 }
 }
 
-pub fn set_local<'a>(body: &'a [u8], i: usize, w: &'a mut [u64], p: usize) -> Went
+pub fn set_local<'a>(body: &'a [u8], i: usize, map: &'a [u32], w: &'a mut [u64], p: usize) -> Went
     requires { ⌜ Given (now body) (now w) p (LSET i) ⌝ }
     ensures { λ r. ⌜ ((v : Given (now (body .entry)) (now (w .entry)) p (LSET i))
         → SteppedQuietly (made (v .on .running) (λ m s. setLocal m s p i (v .expression)))
         (r .fault) (r .lines) (now (w .entry)) (now (w .exit))) ⌝ }
 {
-    let value = value_in(body, w, p);
+    let mut seeds = row_work::seeds_of(w);
+    let value = value_in(body, map, w, p, &mut seeds);
     if !value.ok {
         return Went {
             fault: fault::SUM,
             lines: 0,
         };
     }
+    row_work::keep_seeds(w, seeds);
     row_process::past(w, p);
     row_process::set_local(w, p, i, value.code as u64);
     Went { fault: 0, lines: 0 }
 }
 
-pub fn trace<'a>(body: &'a [u8], w: &'a mut [u64], out: &'a mut [u8], at: usize, p: usize) -> Went
+pub fn trace<'a>(body: &'a [u8], map: &'a [u32], w: &'a mut [u64], out: &'a mut [u8], at: usize, p: usize) -> Went
     requires { ⌜ Given (now body) (now w) p TRACE ⌝ }
     requires { ⌜ Roomy at (now out) ⌝ }
     ensures { λ r. ⌜ ((v : Given (now (body .entry)) (now (w .entry)) p TRACE)
         → Stepped (made (v .on .running) (λ m s. trace m s p (v .expression)))
         (r .fault) (r .lines) (now (w .entry)) (now (w .exit)) at (now (out .entry)) (now (out .exit))) ⌝ }
 {
-    let value = value_in(body, w, p);
+    let mut seeds = row_work::seeds_of(w);
+    let value = value_in(body, map, w, p, &mut seeds);
     if !value.ok {
         return Went {
             fault: fault::SUM,
             lines: 0,
         };
     }
+    row_work::keep_seeds(w, seeds);
     act_floor::note(w, p, out, at, line::TRACED, value.code);
     row_process::past(w, p);
     Went { fault: 0, lines: 1 }

@@ -33,17 +33,17 @@ fn act_on_value<'a>(
         (now (w .entry)) (now (w .exit)) at (now (out .entry)) (now (out .exit))) ⌝ }
 {
     if kind == kind::HOLD {
-        return act_hold_prio_lset_trace::hold(body, w, p);
+        return act_hold_prio_lset_trace::hold(body, map, w, p);
     }
     if kind == kind::PRIO {
-        return act_hold_prio_lset_trace::prio(body, w, p);
+        return act_hold_prio_lset_trace::prio(body, map, w, p);
     }
     let i = file_fields::u16_at(body, 0) as usize;
     let rest = &body[2..];
     if kind == kind::SET {
         return act_set_become::set_global(rest, i, s, map, w, out, at, p);
     }
-    act_hold_prio_lset_trace::set_local(rest, i, w, p)
+    act_hold_prio_lset_trace::set_local(rest, i, map, w, p)
 }
 
 // DO, PUTR, PUTB, PUTS, BECOME.
@@ -113,7 +113,7 @@ fn act_on_claim<'a>(
         return act_puts_start::start(body, map, w, out, at, p);
     }
     if kind == kind::TRACE {
-        return act_hold_prio_lset_trace::trace(body, w, out, at, p);
+        return act_hold_prio_lset_trace::trace(body, map, w, out, at, p);
     }
     act_do_close::close(w, out, at, p)
 }

@@ -11,6 +11,7 @@ ghost use Rattle.act_value.specs.Parts.{evalIn};
 ghost use Rattle.act_value.specs.Reading.{Readable, Stands, Read, HasCode, leafCode, ofTwo, given};
 use base_i32::Value;
 use base_numbers::code;
+use base_numbers::limit;
 use base_numbers::op;
 
 struct Node {
@@ -90,13 +91,47 @@ fn negated(has: bool, x: u32) -> Value
     }
 }
 
-// The tree that begins at the k-th node.
-fn tree_at<'a>(bs: &'a [u8], globals: &'a [u64], locals: &'a [u64], clock: u32, k: usize) -> Tree
+// A draw from sampler i: its seed moves on, and the value goes by the new one.
+fn draw<'a>(
+    lowest: &'a [u32],
+    values: &'a [u32],
+    seeds: &'a mut [u64; limit::SAMPLERS],
+    i: u32,
+) -> u32
+    requires { ⌜ Sampled (now lowest) (now values) (now seeds) i ⌝ }
+    ensures { λ r. ⌜ ((d : Sampled (now (lowest .entry)) (now (values .entry)) (now (seeds .entry)) i)
+        → r ≡ code (drawn (d .spread .low) (d .spread .high) (nextSeed (getD (now (seeds .entry)) i 0)))) ⌝ }
+    ensures { λ _. ⌜ now (seeds .exit) ≡ set (now (seeds .entry)) i (nextSeed (getD (now (seeds .entry)) i 0)) ⌝ }
+{
+    let k = i as usize;
+    let seed = base_generator::next_seed(seeds[k]);
+    seeds[k] = seed;
+    base_generator::drawn(lowest[k], values[k], seed)
+}
+
+// The tree that begins at the k-th node; each draw is made, in the order of the nodes, whatever comes of the value.
+fn tree_at<'a>(
+    bs: &'a [u8],
+    globals: &'a [u64],
+    locals: &'a [u64],
+    clock: u32,
+    lowest: &'a [u32],
+    values: &'a [u32],
+    seeds: &'a mut [u64; limit::SAMPLERS],
+    k: usize,
+) -> Tree
     requires { ⌜ Readable (now bs) (now globals) (now locals) clock × (k < length (now bs) / 6) ⌝ }
     ensures { λ r. ⌜ ((w : Readable (now (bs .entry)) (now (globals .entry)) (now (locals .entry)) clock) →
         Read (w .gs) (w .ls) clock (nodes (now (bs .entry))) k r) ⌝ }
 {
     let node = node_at(bs, k);
+    if node.op == op::DRAW {
+        let code = draw(lowest, values, seeds, node.operand);
+        return Tree {
+            value: Value { ok: true, code },
+            next: k + 1,
+        };
+    }
     let many = file_check_tails::operands(node.op);
     if many == 0 {
         let code = leaf(globals, locals, clock, node.op, node.operand);
@@ -105,7 +140,7 @@ fn tree_at<'a>(bs: &'a [u8], globals: &'a [u64], locals: &'a [u64], clock: u32, 
             next: k + 1,
         };
     }
-    let first = tree_at(bs, globals, locals, clock, k + 1);
+    let first = tree_at(bs, globals, locals, clock, lowest, values, seeds, k + 1);
     if many == 1 {
         let value = negated(first.value.ok, first.value.code);
         return Tree {
@@ -113,7 +148,7 @@ fn tree_at<'a>(bs: &'a [u8], globals: &'a [u64], locals: &'a [u64], clock: u32, 
             next: first.next,
         };
     }
-    let second = tree_at(bs, globals, locals, clock, first.next);
+    let second = tree_at(bs, globals, locals, clock, lowest, values, seeds, first.next);
     let both = first.value.ok & second.value.ok;
     let value = of_two(node.op, both, first.value.code, second.value.code);
     Tree {
@@ -122,12 +157,21 @@ fn tree_at<'a>(bs: &'a [u8], globals: &'a [u64], locals: &'a [u64], clock: u32, 
     }
 }
 
-// The value of the expression that stands in bs.
-pub fn evaluate<'a>(bs: &'a [u8], globals: &'a [u64], locals: &'a [u64], clock: u32) -> Value
+// The value of the expression that stands in bs. `lowest` and `values` say what the samplers draw from, and `seeds` moves on by
+// the expression's draws.
+pub fn evaluate<'a>(
+    bs: &'a [u8],
+    globals: &'a [u64],
+    locals: &'a [u64],
+    clock: u32,
+    lowest: &'a [u32],
+    values: &'a [u32],
+    seeds: &'a mut [u64; limit::SAMPLERS],
+) -> Value
     requires { ⌜ Readable (now bs) (now globals) (now locals) clock ⌝ }
     ensures { λ r. ⌜ ((w : Readable (now (bs .entry)) (now (globals .entry)) (now (locals .entry)) clock) →
         r ≡ valueIn (evalIn (w .gs) (w .ls) clock (expressionIn (now (bs .entry))))) ⌝ }
 {
-    let whole = tree_at(bs, globals, locals, clock, 0);
+    let whole = tree_at(bs, globals, locals, clock, lowest, values, seeds, 0);
     whole.value
 }

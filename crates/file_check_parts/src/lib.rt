@@ -10,6 +10,7 @@ ghost use Prim.Native.Nat.{_+_, _*_, _≤_, _<_};
 ghost use lib.ListN.{length, getD};
 ghost use Rattle.semantics.specs.Words.{all, any};
 ghost use Rattle.semantics.specs.Numbers as No;
+ghost use Rattle.semantics.specs.Kinds as K;
 ghost use Rattle.semantics.specs.Bytes.{u8, u32, parts};
 ghost use Rattle.semantics.specs.Record.{item, share, partSize, partValid, samePart, repeats, nodeValid};
 ghost use Rattle.semantics.specs.Decode.{partKnown, nodeKnown};
@@ -42,7 +43,7 @@ fn node_valid(d: &[u8]) -> bool
 {
     let op = file_fields::u16_at(d, 0);
     let operand = file_fields::u32_at(d, 2);
-    (op <= op::LOCAL) | ((op <= op::NEGATE) & (operand == 0))
+    (op <= op::LOCAL) | (((op <= op::NEGATE) & (operand == 0)) | (op == op::DRAW))
 }
 
 // ---- one part: check 8, where `n` has how many there are of each group
@@ -69,12 +70,13 @@ fn share_known(n: [u32; group::MANY], h: &[u8]) -> bool
 
 fn node_known(n: [u32; group::MANY], d: &[u8]) -> bool
     requires { ⌜ 6 ≤ length (now d) ⌝ }
-    ensures { λ r. ⌜ r ≡ nodeKnown (getD n 4 0) (now (d .entry)) ⌝ }
+    ensures { λ r. ⌜ r ≡ nodeKnown (getD n K.VAR 0) (getD n K.SAMPLER 0) (now (d .entry)) ⌝ }
 {
     let op = file_fields::u16_at(d, 0);
     let operand = file_fields::u32_at(d, 2);
     ((op != op::GLOBAL) | (operand < n[group::VAR]))
-        & ((op != op::LOCAL) | (operand < limit::LOCAL))
+        & (((op != op::LOCAL) | (operand < limit::LOCAL))
+            & ((op != op::DRAW) | (operand < n[group::SAMPLER])))
 }
 
 // ---- all parts: `test` is one of base_numbers::part

@@ -12,7 +12,7 @@ ghost use lib.Dec.{leb};
 ghost use lib.ListN.{length};
 ghost use Rattle.semantics.specs.Words.{all};
 ghost use Rattle.semantics.specs.Kinds as K;
-ghost use Rattle.semantics.specs.Record.{inSet, bodyJudged, rowOf};
+ghost use Rattle.semantics.specs.Record.{samplerOf, samplerValid, inSet, bodyJudged, rowOf};
 ghost use Rattle.semantics.specs.Decode.{placed, judged, fieldKnown, innerOf, named};
 ghost use Rattle.base_numbers.specs.Column as Column;
 ghost use Rattle.file_check_record.specs.Rows.{numberOf, columnOf, numberAt, Judged};
@@ -28,7 +28,7 @@ const TABLE: [u32; column::KINDS * column::MANY] = [
     5, 64, 2, 0, 0, 0, 0, 0, 6, 0, // 5 CLASS
     6, 256, 0, 0, 0, 0, 0, 0, 0, 0, // 6 BLOCK
     7, 64, 6, 4, 2, 0, 1000000, 0, 5, 0, // 7 ENTITY
-    0, 0, 0, 0, 0, 0, 0, 0, 0, 0,
+    8, 16, 12, 0, 0, 0, 0, 0, 0, 0, // 8 SAMPLER
     0, 0, 0, 0, 0, 0, 0, 0, 0, 0,
     0, 0, 0, 0, 0, 0, 0, 0, 0, 0,
     0, 0, 0, 0, 0, 0, 0, 0, 0, 0,
@@ -86,10 +86,27 @@ fn number_at(size: u32, bs: &[u8], at: usize) -> u32
     0
 }
 
+// Whether a sampler's lowest value isn't above its highest, nor too far below it, and its seed is one.
+fn sampler_valid(bs: &[u8]) -> bool
+    requires { ⌜ 12 ≤ length (now bs) ⌝ }
+    ensures { λ r. ⌜ r ≡ samplerValid (samplerOf (now (bs .entry))) ⌝ }
+{
+    let lowest = base_i32::from_twos(file_fields::u32_at(bs, 0));
+    let highest = base_i32::from_twos(file_fields::u32_at(bs, 4));
+    let seed = file_fields::u32_at(bs, 8);
+    if highest < lowest {
+        return false;
+    }
+    (highest - lowest <= limit::SPREAD) & ((1 <= seed) & (seed <= limit::SEED))
+}
+
 fn in_set(kind: u32, bs: &[u8]) -> bool
     requires { ⌜ rowOf kind .head ≤ length (now bs) ⌝ }
     ensures { λ r. ⌜ r ≡ inSet (rowOf kind .field) (now (bs .entry)) ⌝ }
 {
+    if kind == kind::SAMPLER {
+        return sampler_valid(bs);
+    }
     let size = entry(kind, column::FIELD_SIZE);
     let at = entry(kind, column::FIELD_AT) as usize;
     let low = entry(kind, column::LOWEST);

@@ -27,7 +27,7 @@ branchPasses test n own b =
 
 -- How many trees a node takes off the pile, by its op.
 unfoldable pub arity : ℕ → ℕ
-arity op = getD (0 ∷ 0 ∷ 0 ∷ 2 ∷ 2 ∷ 2 ∷ 2 ∷ 2 ∷ 0 ∷ 1 ∷ []) op 0
+arity op = getD (0 ∷ 0 ∷ 0 ∷ 2 ∷ 2 ∷ 2 ∷ 2 ∷ 2 ∷ 0 ∷ 1 ∷ 0 ∷ []) op 0
 
 -- The height of a pile and one; 0 where there is none. And the height after a node that takes off a trees.
 abbrev pub heightOf : Option (List Expr) → ℕ

@@ -21,7 +21,7 @@ ghost use Rattle.file_check_parts.specs.Tests.{partOf};
 ghost use Rattle.file_check_tails.specs.Tails.{tailOf, branchPasses, arity, heightOf, grownBy};
 
 // How many trees each op takes for its operands.
-const ARITY: [u32; op::MANY] = [0, 0, 0, 2, 2, 2, 2, 2, 0, 1];
+const ARITY: [u32; op::MANY] = [0, 0, 0, 2, 2, 2, 2, 2, 0, 1, 0];
 
 // ---- expressions
 

@@ -49,12 +49,19 @@ pub struct Branches {
     pub syncs: [u32; limit::BRANCHES],
 }
 
-// How many resources, bins, syncs and variables a model has.
+// How many resources, bins, syncs, variables and samplers a model has.
 pub struct Counts {
     pub resources: usize,
     pub bins: usize,
     pub syncs: usize,
     pub variables: usize,
+    pub samplers: usize,
+}
+
+// Of each sampler the code of its lowest value, and how many values it has. What is not used is 0.
+pub struct Samplers {
+    pub lowest: [u32; limit::SAMPLERS],
+    pub values: [u32; limit::SAMPLERS],
 }
 
 // How many kinds of actions there are, and the bits of a row of names.
@@ -454,6 +461,7 @@ pub fn counts_of(s: &[u8]) -> Counts
     let mut bins = 0;
     let mut syncs = 0;
     let mut variables = 0;
+    let mut samplers = 0;
     let mut at = file_reader::first(s);
     while at < s.len() {
         let x = file_reader::read(s, at);
@@ -462,6 +470,7 @@ pub fn counts_of(s: &[u8]) -> Counts
         bins = tally(bins, kind == kind::BIN);
         syncs = tally(syncs, kind == kind::SYNC);
         variables = tally(variables, kind == kind::VAR);
+        samplers = tally(samplers, kind == kind::SAMPLER);
         at = file_reader::next(s, at);
     }
     Counts {
@@ -469,5 +478,64 @@ pub fn counts_of(s: &[u8]) -> Counts
         bins: bins,
         syncs: syncs,
         variables: variables,
+        samplers: samplers,
     }
+}
+
+// ---- the samplers
+
+// v written at n of `out`, if `on`.
+fn put(on: bool, v: u32, n: usize, out: &mut [u32])
+    requires { ⌜ n + length (given on v) ≤ length (now out) ⌝ }
+    ensures { λ _. ⌜ now (out .exit) ≡ sets (now (out .entry)) n (given on v) ⌝ }
+{
+    if on {
+        out[n] = v;
+    }
+}
+
+// The code of a SAMPLER's lowest value, and how many values it has; 0 of any other record.
+fn lowest_of(kind: u32, bs: &[u8]) -> u32
+    requires { ⌜ Judged kind (now bs) ⌝ }
+    ensures { λ r. ⌜ r ≡ lowestIn kind (now (bs .entry)) ⌝ }
+{
+    if kind == kind::SAMPLER {
+        return base_i32::from_twos(file_fields::u32_at(bs, 0));
+    }
+    0
+}
+
+fn values_of(kind: u32, bs: &[u8]) -> u32
+    requires { ⌜ Judged kind (now bs) ⌝ }
+    ensures { λ r. ⌜ r ≡ valuesFor kind (now (bs .entry)) ⌝ }
+{
+    if kind == kind::SAMPLER {
+        let lowest = base_i32::from_twos(file_fields::u32_at(bs, 0));
+        let highest = base_i32::from_twos(file_fields::u32_at(bs, 4));
+        return highest - lowest + 1;
+    }
+    0
+}
+
+// The samplers of a file that the first pass accepts.
+pub fn samplers_of(s: &[u8]) -> Samplers
+    requires { ⌜ Readable (now s) ⌝ }
+    ensures { λ r. ⌜ r ≡ samplersOf (recordsFrom 0 (now (s .entry))) ⌝ }
+{
+    let mut lowest = [0u32; limit::SAMPLERS];
+    let mut values = [0u32; limit::SAMPLERS];
+    let mut n = 0;
+    let mut at = file_reader::first(s);
+    while at < s.len() {
+        let x = file_reader::read(s, at);
+        let kind = x.kind;
+        let end = file_reader::next(s, at);
+        let from = at + 4;
+        let on = kind == kind::SAMPLER;
+        put(on, lowest_of(kind, &s[from..end]), n, &mut lowest);
+        put(on, values_of(kind, &s[from..end]), n, &mut values);
+        n = tally(n, on);
+        at = end;
+    }
+    Samplers { lowest: lowest, values: values }
 }

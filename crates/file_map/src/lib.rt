@@ -1,5 +1,5 @@
 // What the engine reads an accepted model by, as one row of numbers, the map: where blocks and actions begin, class bodies, and
-// of each branch where its claim stands and what it names.
+// of each branch where its claim stands and what it names; of each sampler what it draws from.
 use base_numbers::map;
 ghost use mathlib.Core.Path.{_≡_};
 ghost use Prim.Native.Nat.{_+_, _≤_, _<_};
@@ -46,6 +46,7 @@ pub fn map_of(s: &[u8]) -> Map
 {
     let x = file_index::index_of(s);
     let b = file_index::branches_of(s);
+    let d = file_index::samplers_of(s);
     let mut words = [0u32; map::WORDS];
     lay_u16(&x.first, map::FIRST, &mut words);
     lay_u16(&x.place, map::PLACE, &mut words);
@@ -55,6 +56,8 @@ pub fn map_of(s: &[u8]) -> Map
     lay_u32(&b.resources, map::RESOURCES, &mut words);
     lay_u32(&b.bins, map::BINS, &mut words);
     lay_u32(&b.syncs, map::SYNCS, &mut words);
+    lay_u32(&d.lowest, map::LOWEST, &mut words);
+    lay_u32(&d.values, map::VALUES, &mut words);
     Map { words: words }
 }
 

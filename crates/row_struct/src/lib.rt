@@ -29,7 +29,7 @@ pub struct Process {
 // A state: the clock, whether it is closed, the last number given, who has the floor (0 for nobody, else the place and 1), the
 // living places as bits, how many events and how many blocked there are, and 0. Then by number what is free, the bins, the codes
 // of the variables and how many wait for each sync; the blocked list; the keys of the events and what they do; 64 words for each
-// sync's waiting list; and the processes by place.
+// sync's waiting list; the processes by place; and the seeds of the samplers.
 pub struct State {
     pub clock: u64,
     pub closed: u64,
@@ -48,6 +48,7 @@ pub struct State {
     pub words: [u64; row::EVENTS_MOST],
     pub waiting: [u64; row::WAITERS_ALL],
     pub processes: [Process; limit::PLACES],
+    pub seeds: [u64; limit::SAMPLERS],
 }
 
 // `from`, number by number, over a row of its length.
@@ -129,7 +130,8 @@ pub fn unpack(state: State, w: &mut [u64])
     lay(&state.words, w, row::NOTICES);
     lay(&state.waiting, w, row::WAITING);
     let ps = state.processes;
-    unpack_processes(ps, &mut w[row::PROCESSES..row::WORDS]);
+    unpack_processes(ps, &mut w[row::PROCESSES..row::SEEDS]);
+    lay(&state.seeds, w, row::SEEDS);
 }
 
 // ---- from the row to the struct
@@ -158,6 +160,15 @@ fn amounts_at(w: &[u64], at: usize) -> [u64; limit::THINGS]
     ensures { λ r. ⌜ r ≡ take Limit.THINGS (drop at (now (w .entry))) ⌝ }
 {
     let mut part = [0u64; limit::THINGS];
+    lift(w, at, &mut part);
+    part
+}
+
+fn seeds_at(w: &[u64], at: usize) -> [u64; limit::SAMPLERS]
+    requires { ⌜ at + Limit.SAMPLERS ≤ length (now w) ⌝ }
+    ensures { λ r. ⌜ r ≡ take Limit.SAMPLERS (drop at (now (w .entry))) ⌝ }
+{
+    let mut part = [0u64; limit::SAMPLERS];
     lift(w, at, &mut part);
     part
 }
@@ -252,7 +263,8 @@ pub fn pack(w: &[u64]) -> State
     let keys = events_at(w, row::KEYS);
     let words = events_at(w, row::NOTICES);
     let waiting = waiting_at(w, row::WAITING);
-    let processes = pack_processes(&w[row::PROCESSES..row::WORDS]);
+    let processes = pack_processes(&w[row::PROCESSES..row::SEEDS]);
+    let seeds = seeds_at(w, row::SEEDS);
     State {
         clock: w[row::CLOCK],
         closed: w[row::CLOSED],
@@ -271,5 +283,6 @@ pub fn pack(w: &[u64]) -> State
         words,
         waiting,
         processes,
+        seeds,
     }
 }

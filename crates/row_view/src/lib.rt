@@ -24,11 +24,12 @@ const WAKES: u64 = word::KINDS * most::PLACES;
 
 // ---- words and rows of words
 
-// What is asked of a word: that it is at most a number, or the word of a block, or of what an event does.
+// What is asked of a word: that it is at most a number, or the word of a block, or of what an event does, or a seed.
 enum Rule {
     Most(u64),
     Frame,
     Notice,
+    Seed,
 }
 
 // Whether x is the word of a block that a process is in.
@@ -67,6 +68,7 @@ fn word_fits(x: u64, rule: Rule) -> bool
         Rule::Most(most) => x <= most,
         Rule::Frame => frame_fits(x),
         Rule::Notice => notice_fits(x),
+        Rule::Seed => (1 <= x) & (x <= limit::SEED_WORD),
     }
 }
 
@@ -241,9 +243,16 @@ fn lists_fit(w: &[u64], syncs: u64) -> bool
 }
 
 // Whether w is the one form of a state of a model with so many of each, and the work can hold that state.
-pub fn shows(resources: usize, bins: usize, syncs: usize, variables: usize, w: &[u64]) -> bool
-    requires { ⌜ Few resources bins syncs variables ⌝ }
-    ensures { λ r. ⌜ ((m : Model) → Counted m resources bins syncs variables →
+pub fn shows(
+    resources: usize,
+    bins: usize,
+    syncs: usize,
+    variables: usize,
+    samplers: usize,
+    w: &[u64],
+) -> bool
+    requires { ⌜ Few resources bins syncs variables samplers ⌝ }
+    ensures { λ r. ⌜ ((m : Model) → Counted m resources bins syncs variables samplers →
         (r ≡ true → Showing m (now (w .entry))) × (r ≡ false → Showing m (now (w .entry)) → ⊥)) ⌝ }
 {
     if w.len() != row::WORDS {
@@ -259,9 +268,10 @@ pub fn shows(resources: usize, bins: usize, syncs: usize, variables: usize, w: &
     );
     let lists = lists_fit(w, syncs as u64);
     let processes = processes_fit(
-        &w[row::PROCESSES..row::WORDS],
+        &w[row::PROCESSES..row::SEEDS],
         resources as u64,
         w[row::LIVING],
     );
-    head & (things & (lists & processes))
+    let seeds = row_fits(&w[row::SEEDS..row::WORDS], samplers as u64, Rule::Seed);
+    head & (things & (lists & (processes & seeds)))
 }

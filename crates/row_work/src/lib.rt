@@ -1,10 +1,12 @@
-// The state of a run as one row of numbers: a number of it read or written.
+// The state of a run as one row of numbers: a number of it read or written, and the seeds.
 ghost use mathlib.Core.Path.{_≡_};
 ghost use Prim.Native.Nat.{_+_, _*_, _<_};
-ghost use lib.ListN.{length, getD, set};
+ghost use mathlib.Core.List.{_++_};
+ghost use lib.ListN.{length, getD, set, take, drop};
 ghost use Rattle.semantics.specs.Numbers as No;
 ghost use Rattle.base_numbers.specs.Row as Row;
 ghost use Rattle.base_numbers.specs.Process as Process;
+use base_numbers::limit;
 use base_numbers::process;
 use base_numbers::row;
 
@@ -23,4 +25,30 @@ pub fn set_word(w: &mut [u64], p: usize, j: usize, v: u64)
 {
     let at = row::PROCESSES + process::WORDS * p + j;
     w[at] = v;
+}
+
+// The seeds of the samplers, copied out.
+pub fn seeds_of(w: &[u64]) -> [u64; limit::SAMPLERS]
+    requires { ⌜ length (now w) ≡ Row.WORDS ⌝ }
+    ensures { λ r. ⌜ r ≡ drop Row.SEEDS (now (w .entry)) ⌝ }
+{
+    let mut seeds = [0u64; limit::SAMPLERS];
+    let mut i = 0;
+    while i < limit::SAMPLERS {
+        seeds[i] = w[row::SEEDS + i];
+        i += 1;
+    }
+    seeds
+}
+
+// These instead.
+pub fn keep_seeds(w: &mut [u64], seeds: [u64; limit::SAMPLERS])
+    requires { ⌜ length (now w) ≡ Row.WORDS ⌝ }
+    ensures { λ _. ⌜ now (w .exit) ≡ take Row.SEEDS (now (w .entry)) ++ seeds ⌝ }
+{
+    let mut i = 0;
+    while i < limit::SAMPLERS {
+        w[row::SEEDS + i] = seeds[i];
+        i += 1;
+    }
 }

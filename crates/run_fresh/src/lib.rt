@@ -26,7 +26,7 @@ fn vacate_all(w: &mut [u64])
     }
 }
 
-// What a RES, a BIN or a VAR declares; 0 of any other record.
+// What a RES, a BIN or a VAR declares, and the seed that a SAMPLER starts with; 0 of any other record.
 fn amount(kind: u32, bs: &[u8]) -> u64
     requires { ⌜ Judged kind (now bs) ⌝ }
     ensures { λ r. ⌜ r ≡ amountIn kind (now (bs .entry)) ⌝ }
@@ -34,6 +34,7 @@ fn amount(kind: u32, bs: &[u8]) -> u64
     match kind {
         kind::RES | kind::BIN => file_fields::u32_at(bs, 0) as u64,
         kind::VAR => base_i32::from_twos(file_fields::u32_at(bs, 0)) as u64,
+        kind::SAMPLER => file_fields::u32_at(bs, 8) as u64,
         _ => 0,
     }
 }
@@ -58,6 +59,7 @@ fn declare(s: &[u8], w: &mut [u64])
     let mut free = row::FREE;
     let mut bins = row::BINS;
     let mut vars = row::GLOBALS;
+    let mut seeds = row::SEEDS;
     let mut at = file_reader::first(s);
     while at < s.len() {
         let x = file_reader::read(s, at);
@@ -67,6 +69,7 @@ fn declare(s: &[u8], w: &mut [u64])
         free = noted(kind == kind::RES, v, free, w);
         bins = noted(kind == kind::BIN, v, bins, w);
         vars = noted(kind == kind::VAR, v, vars, w);
+        seeds = noted(kind == kind::SAMPLER, v, seeds, w);
         at = end;
     }
 }

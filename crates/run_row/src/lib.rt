@@ -45,7 +45,7 @@ fn sound_of<'a>(s: &'a [u8], map: &'a [u32], w: &'a [u64]) -> bool
     let resources = counts.resources;
     let bins = counts.bins;
     let syncs = counts.syncs;
-    if !row_view::shows(resources, bins, syncs, counts.variables, w) {
+    if !row_view::shows(resources, bins, syncs, counts.variables, counts.samplers, w) {
         return false;
     }
     let index = file_index::index_of(s);
