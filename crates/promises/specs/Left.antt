@@ -311,7 +311,7 @@ module _ (m : Model) (t : Forward m) (s : State) (p : ℕ) where
       good (exactly (omega arith))
 
   prio-falls : (x : Expr) → At (PRIO x) → Good (Falls m s) (prio m s p x)
-  unfolding prio past weigh
+  unfolding prio past weigh total
   prio-falls x e =
       good-bind (eval m s (process s p) x (s .seeds)) λ v.
       let w : ℤ = if leZ lowest (v .value) then v .value else lowest in
