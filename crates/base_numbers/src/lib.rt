@@ -188,7 +188,8 @@ pub mod limit {
 
     pub const NODES: usize = 16;
 
-    // Of a run: a time, a process's number, what a bin holds, living processes, returns that wait, the lines of one step.
+    // Of a run: a time, a process's number, what a bin holds, living processes, returns that wait, the lines that a step asks
+    // room for.
     pub const LATEST: u64 = 2000000000;
 
     pub const LAST_NUMBER: u64 = 2147483647;
