@@ -142,8 +142,9 @@ def runs(desk):
 
 
 def moves(desk):
-    """A run that is moved on so many steps at a time tells the lines of the whole run, its answer, and its steps in parts."""
-    endless = plans.one(b'', WHILE(1), b'')
+    """A run that is moved on so many steps at a time tells the lines of the whole run, its answer, and its steps in parts. The
+    endless one writes what it draws, and fills many a journal."""
+    endless = plans.one(SAMPLER(4, 7, 1), WHILE(1), TRACE(draw(0)))
     for model in [example() for example in examples.EXAMPLES] + list(FAULTS.values()) + [endless]:
         status, whole = desk.tells('run', model)
         for steps in (1, 7, 100000, 4294967295) if model != endless else (100000, 4294967295):
