@@ -1,4 +1,4 @@
-"""The example models of a post house: examples/NAME.model, what each is in examples/NAME.txt, what it prints in examples/NAME.plan.
+"""The example models of a post house: examples/NAME.model, what each is in NAME.txt, what it prints in NAME.plan.
 
     python3 -B tests/examples.py            writes the models and the texts
     python3 -B tests/examples.py COMMAND ...    runs COMMAND on each and compares what it prints with NAME.plan

@@ -17,8 +17,8 @@ ghost use Rattle.semantics.specs.Decode.{placed, judged, fieldKnown, innerOf, n
 ghost use Rattle.base_numbers.specs.Column as Column;
 ghost use Rattle.file_check_record.specs.Rows.{numberOf, columnOf, numberAt, Judged};
 
-// A row for each kind from 0 to 30, in the columns of base_numbers::column: GROUP (0: no kind), MOST, HEAD, FIELD_SIZE (0: none),
-// FIELD_AT, LOWEST, HIGHEST, TAIL, NAMING (0: nothing, 17: a local), NAMING_AT.
+// A row for each kind from 0 to 30, in the columns of base_numbers::column: GROUP (0: no kind), MOST, HEAD, FIELD_SIZE (0:
+// none), FIELD_AT, LOWEST, HIGHEST, TAIL, NAMING (0: nothing, 17: a local), NAMING_AT.
 const TABLE: [u32; column::KINDS * column::MANY] = [
     0, 0, 0, 0, 0, 0, 0, 0, 0, 0,
     1, 32, 4, 4, 0, 0, 1000000, 0, 0, 0, // 1 RES

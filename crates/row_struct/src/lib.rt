@@ -1,5 +1,5 @@
-// An open run's state as a struct of arrays, by value. The engine works on one lent row of numbers (crate row_work): the struct is
-// unpacked into it when a call begins and packed from it when the call ends.
+// An open run's state as a struct of arrays, by value. The engine works on one lent row of numbers (crate row_work): the struct
+// is unpacked into it when a call begins and packed from it when the call ends.
 use base_numbers::limit;
 use base_numbers::process;
 use base_numbers::row;

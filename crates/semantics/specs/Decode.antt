@@ -182,6 +182,7 @@ gather (torn at ∷ rs) = gather rs
 gather (raw at k bs ∷ rs) = adds (gather rs) (rowOf k .says bs)
 
 -- THEN CLASS BY CLASS: 10. How many blocks nest at b, itself included, where the distance from b to the last block is at most d.
+-- 0 isn't reached: 8 and 9 have passed, so each block that is named is there, and later.
 module _ (m : Model) where
   unfoldable pub depthIn : ℕ → ℕ → ℕ
   depthIn zero b = 0

@@ -89,8 +89,8 @@ numbersInRange m s =
     && (all (eventInRange m s) (s .events) && leb (length (keep isReturn (s .events))) No.returns))))))
 
 -- .. a place from the block's first action to just past its last, rounds left 1 to n in a DO's block, else 1; A PROCESS'S
--- BLOCKS BEGIN WITH A CLASS BODY, EACH NEXT ONE NAMED WHERE THE ONE BEFORE STANDS. `enters a b r`: one that stands at a can be in
--- block b with r rounds left.
+-- BLOCKS BEGIN WITH A CLASS BODY, EACH NEXT ONE NAMED WHERE THE ONE BEFORE STANDS. `enters a b r`: one that stands at a can be
+-- in block b with r rounds left.
 abbrev pub enters : Action → ℕ → ℕ → Bool
 enters (HOLD e) b r = false
 enters (PRIO e) b r = false

@@ -207,7 +207,8 @@ unfoldable pub join : State → ℕ → List Waiter → List Waiter
 unfolding insert
 join s p ws = insert higher (record { priority = process s p .priority; place = p }) ws
 
--- BLOCKS. Go past the action where the process stands; go into block b for n rounds from there.
+-- BLOCKS. Go past the action where the process stands; go into block b for n rounds from there. `[]` isn't reached: one in no
+-- block stands at no action.
 unfoldable pub onward : List Frame → List Frame
 onward [] = []
 onward (f ∷ fs) = record { block = f .block; at = f .at + 1; rounds = f .rounds } ∷ fs

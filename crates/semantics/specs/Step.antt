@@ -35,7 +35,8 @@ unfoldable pub kept : List Share → List ℕ → List ℕ
 kept [] l = l
 kept (x ∷ xs) l = kept xs (fewer l (x .of) (x .amount))
 
--- The first n slaves of sync i in the order claimed, and those that stay.
+-- The first n slaves of sync i in the order claimed, and those that stay. There are n of them (OWNED): the clauses where the
+-- list ends first aren't reached.
 unfoldable pub freed : ℕ → ℕ → List Slave → List ℕ
 freed i zero xs = []
 freed i (suc n) [] = []
