@@ -159,6 +159,15 @@ def moves(desk):
     desk.same('moves of a bad file', desk.tells('check', b'x'), desk.asks('moves', str(desk.file), '6')[:2])
 
 
+def draws(desk):
+    """From seed 1 the 10,000th seed is 1,043,618,065: what is drawn shows its remainders by two numbers, and no other seed has
+    both."""
+    for values in (1000000, 1000001):
+        model = plans.one(SAMPLER(0, values - 1, 1), DO(10000, 1) + TRACE(local(0)), LSET(0, draw(0)))
+        traced = plan_line(desk.tells('run', model)[1].split('\n')[0])
+        desk.same('the 10,000th draw of %d values' % values, traced, '0 1 9 %d' % (1043618065 % values))
+
+
 def checks(desk):
     """Every case: each refusal at its place from both commands, and each bound."""
     seen = set()
@@ -199,6 +208,7 @@ def main(words):
         desk = Desk(words, folder)
         runs(desk)
         moves(desk)
+        draws(desk)
         checks(desk)
         usage(desk)
     print('desk: %d told as they should, %d not' % (desk.tried - desk.failed, desk.failed))
