@@ -107,7 +107,7 @@ def ENTITY(class_, offset=0):
     return record(7, u16(class_) + u32(offset))
 
 
-def SAMPLER(lowest, highest, seed):
+def SAMPLER(lowest, highest, seed=1):
     return record(8, i32(lowest) + i32(highest) + u32(seed))
 
 
