@@ -62,10 +62,10 @@ unfolding decode run fresh
 seedsLeft bs =
     elim (decode bs) [ refused n p ↦ [] | accepted m ↦ run m No.planSteps endless (fresh m) .state .seeds ]
 
--- Operands are drawn in their order, both of a lesser too, and a HOLD lasts what was drawn. The next one draws 0 less 10: 22, and
--- the seed is as before that step. Samplers have their own seeds, and one of a single value draws that. Then what is refused: a seed
--- of 0 and one too high, ends in the wrong order, ends too far apart, a seventeenth, one behind a BLOCK, another size, a sampler
--- that isn't declared, op 11.
+-- Operands are drawn in their order, and both of a lesser. A HOLD draws 7, and the next one 9, less 10: it is 22, and the seed is
+-- as before that step. Each sampler has its own seed, and one of a single value draws that. Then what is refused: a seed of 0 and
+-- one too high, ends in the wrong order and too far apart, a seventeenth, one behind a BLOCK, one of another size, a sampler that
+-- isn't declared, op 11.
 pub theDraws : List Case
 unfolding one digits
 theDraws =

@@ -28,8 +28,8 @@ abbrev pub ofLiving : (Process → Bool) → State → Bool
 ofLiving f s = all (λ q. isFree q || f q) (s .processes)
 
 -- THE SHAPE, which document 01's words take for granted: 64 places; an amount for each resource and bin, a value for each
--- variable, a list for each sync, a seed for each sampler; 8 locals and a holding for each resource in a process; nothing in a free place; and the
--- priority that is listed beside a process is its own.
+-- variable, a list for each sync, a seed for each sampler; 8 locals and a holding for each resource in a process; nothing in a
+-- free place; and the priority that is listed beside a process is its own.
 abbrev pub vacant : Process → Bool
 vacant q =
     eqb (q .number) 0

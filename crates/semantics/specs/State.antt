@@ -243,7 +243,7 @@ unfolding begin
 beginAll m [] s = s
 beginAll m (e ∷ es) s = beginAll m es (begin m (e .class) (e .offset) (map (λ t. 0) (m .totals)) s)
 
--- FRESH: clock 0, each sampler's seed its first, and the ENTITY processes numbered 1, 2, .. entered in file order at their offsets.
+-- FRESH: clock 0, the seeds that are declared, and the ENTITY processes numbered 1, 2, .. entered in file order at their offsets.
 abbrev pub bare : Model → State
 bare m =
     make 0 false 0 (m .vars) (m .totals) (m .amounts) (replicate (m .syncs) []) empty [] [] (replicate No.places nobody)
