@@ -1,16 +1,15 @@
+-- `base_generator::next_seed` meets its contract. Assumes nothing.
 use borrow.Author.Needs.{needs}
+use Rattle.semantics.specs.Generator.{nextSeed}
 use Rattle.base_generator.proofs.next_seed.Statement.{statement}
 use Rattle.base_generator.proofs.next_seed.Tie as tie
-use Rattle.base_generator.proofs.next_seed.Reads as reads
-use Rattle.base_generator.proofs.next_seed.Lts as lts
 
--- src/lib.rt:17:5
 mul-result : tie.Need-mul-result
 mul-result c = search needs
 
--- src/lib.rt:13:1
 returns : tie.Need-returns
-returns c = ?
+unfolding nextSeed
+returns c = search needs
 
 pub next-seed-spec : {M : Type 1} → statement M
 next-seed-spec = tie.close (tie.spec mul-result returns)
