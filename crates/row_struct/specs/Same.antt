@@ -104,6 +104,7 @@ stateOf ps qs =
       words = getD ps 7 [];
       waiting = getD ps 8 [];
       processes = qs;
+      seeds = getD ps 10 [];
     }
 
 pub state-long : (s : State) → Full s → length (rowOf s) ≡ Row.WORDS
