@@ -14,7 +14,8 @@ use Rattle.semantics.specs.Kinds as K
 use Rattle.semantics.specs.Bytes.{u16, u32, i32}
 use Rattle.semantics.specs.Record.{Row, Tail, sized, valid, twice, inSet, bodyJudged, table, rowIn, rowOf, branchesFrom}
 use Rattle.semantics.specs.Record.{branchOf}
-use Rattle.semantics.specs.Record.{branchesIn, samplerOf, samplerValid, Field, anyValue, u16In, u32In, ofSampler, Naming, nameless, names, namesLocal}
+use Rattle.semantics.specs.Record.{branchesIn, samplerOf, samplerValid, Field, anyValue, u16In, u32In, ofSampler, Naming}
+use Rattle.semantics.specs.Record.{nameless, names, namesLocal}
 use Rattle.semantics.specs.Decode.{placed, judged, fieldKnown, tailKnown, innerOf, named}
 use Rattle.base_numbers.specs.Group as Group
 use Rattle.base_i32.specs.Code.{code}
@@ -22,8 +23,8 @@ use Rattle.base_i32.specs.Laws.{code-order, code-above, signed-fits}
 use Rattle.file_check_parts.proofs.Laws.{rest-of}
 use Rattle.file_check_tails.specs.Tails.{tailOf, branchPasses}
 use Rattle.file_check_tails.proofs.Branches.{and-left, and-right}
-use Rattle.file_check_record.specs.Rows.{numberOf, SAMPLER_BYTES, fieldSize, fieldAt, fieldLow, fieldHigh, numberAt, namingOf, namingAt}
-use Rattle.file_check_record.specs.Rows.{tailNumber}
+use Rattle.file_check_record.specs.Rows.{numberOf, SAMPLER_BYTES, fieldSize, fieldAt, fieldLow, fieldHigh, numberAt}
+use Rattle.file_check_record.specs.Rows.{namingOf, namingAt, tailNumber}
 use Rattle.file_check_record.proofs.Table.{holds, tail-back}
 
 -- WHAT THE CODE READ of a row and of a body is what the row says.
@@ -46,7 +47,7 @@ in-sampler-set (u32In at lo hi) bs e = absurd (omega arith)
 in-sampler-set ofSampler bs e = refl
 
 -- A SAMPLER is judged by the codes of its ends: x of the lowest value, y of the highest.
-module _ (bs : List ℕ) (x y n : ℕ) (d : x ≡ code (i32 bs 0)) (e : y ≡ code (i32 bs 4)) (f : n ≡ u32 bs 8) where
+module _ (bs : List ℕ) {x y n : ℕ} (d : x ≡ code (i32 bs 0)) (e : y ≡ code (i32 bs 4)) (f : n ≡ u32 bs 8) where
   in-order : leZ (i32 bs 0) (i32 bs 4) ≡ leb x y
   in-order = rw (d, e, code-order (i32 bs 0) (i32 bs 4) (signed-fits (u32 bs 0)) (signed-fits (u32 bs 4)))
 
@@ -176,8 +177,8 @@ data AllRows (P : Row → Type 0) : List Row → Type 0 where
 
 quiet-row : (bs : List ℕ) → AllRows (Quiet bs) table
 quiet-row bs =
-    row plain (row plain (row plain (row plain (row plain (row plain (row plain (row plain (row plain (row plain (row plain (row plain
-    (row (λ a b c. absurd (a refl)) (row plain (row plain (row plain (row plain (row plain
+    row plain (row plain (row plain (row plain (row plain (row plain (row plain (row plain (row plain (row plain (row plain
+    (row plain (row (λ a b c. absurd (a refl)) (row plain (row plain (row plain (row plain (row plain
     (row (λ a b c. absurd (b refl)) (row (λ a b c. absurd (c refl)) (row plain (row plain (row plain end))))))))))))))))))))))
   where
     plain : {A B C : Type 0} {x : List ℕ} → A → B → C → x ≡ x

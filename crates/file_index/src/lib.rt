@@ -535,9 +535,22 @@ pub fn samplers_of(s: &[u8]) -> Samplers
         let kind = x.kind;
         let end = file_reader::next(s, at);
         let bs = &s[at + 4..end];
-        noted_u32(kind == kind::SAMPLER, lowest_of(kind, bs), samplers, &mut lowest);
-        samplers = noted_u32(kind == kind::SAMPLER, values_of(kind, bs), samplers, &mut values);
+        noted_u32(
+            kind == kind::SAMPLER,
+            lowest_of(kind, bs),
+            samplers,
+            &mut lowest,
+        );
+        samplers = noted_u32(
+            kind == kind::SAMPLER,
+            values_of(kind, bs),
+            samplers,
+            &mut values,
+        );
         at = end;
     }
-    Samplers { lowest: lowest, values: values }
+    Samplers {
+        lowest: lowest,
+        values: values,
+    }
 }
