@@ -71,7 +71,7 @@ value-order x y = in-order (valueOf x) (valueOf y) x y (value-stands x) (value-s
 pub code-order : (v w : ℤ) → mag v < Code.ZERO → mag w < Code.ZERO → leb (code v) (code w) ≡ leZ v w
 code-order v w h k = sym (value-order (code v) (code w)) ∙ rw (valueOf-code v h, valueOf-code w k)
 
--- Where y is no lower than x, the number of code y is y - x above that of code x.
+-- How far one number is above another, by their codes.
 sub-is : (a b n : ℕ) → a ≡ b + n → subℕ a b ≡ pos n
 sub-is a b n e = rw (le-ltb a b (omega arith)) (ap pos (omega arith))
 
@@ -82,12 +82,17 @@ above (pos a) (negsuc b) x y d e h = absurd (omega arith)
 above (negsuc a) (pos b) x y d e h = ap pos (omega arith)
 above (negsuc a) (negsuc b) x y d e h = sub-is (suc a) (suc b) (y - x) (omega arith)
 
-pub value-above : (x y : ℕ) → x ≤ y → valueOf y -ℤ valueOf x ≡ pos (y - x)
-value-above x y h = above (valueOf x) (valueOf y) x y (value-stands x) (value-stands y) h
+code-at : (v : ℤ) → mag v < Code.ZERO → Difference v (code v) Code.ZERO
+unfolding code
+code-at (pos n) h = refl
+code-at (negsuc n) h = omega arith
 
--- TWO'S COMPLEMENT. A number that is read so has its code; half of 2^32 on, either way.
-pub signed-coded : (n : ℕ) → valueOf (code (signed n)) ≡ signed n
-signed-coded n = valueOf-code (signed n) (go (ltb n Code.ZERO) refl)
+pub code-above : (v w : ℤ) → mag v < Code.ZERO → mag w < Code.ZERO → code v ≤ code w → w -ℤ v ≡ pos (code w - code v)
+code-above v w h k l = above v w (code v) (code w) (code-at v h) (code-at w k) l
+
+-- TWO'S COMPLEMENT. What is read so is in the range; half of 2^32 on, either way.
+pub signed-fits : (n : ℕ) → mag (signed n) < Code.ZERO
+signed-fits n = go (ltb n Code.ZERO) refl
   where
     go : (t : Bool) → ltb n Code.ZERO ≡ t → mag (if t then pos n else negsuc (Code.HIGHEST - n)) < Code.ZERO
     go true e = ltb-true n Code.ZERO e

@@ -7,7 +7,6 @@ use native.Mathlib.Omega.{arith}
 use borrow.Author.Tests.{eqb-true, leb-true, le-leb, lt-leb}
 use lib.Dec.{leb, ltb, eqb}
 use lib.ListN.{length, getD, take, drop}
-use lib.IntN.{pos, _-ℤ_}
 use lib.Signed.{leZ}
 use Rattle.semantics.specs.Words.{if_then_else_, need, _>>_, all, within}
 use Rattle.semantics.specs.Numbers as No
@@ -15,16 +14,17 @@ use Rattle.semantics.specs.Kinds as K
 use Rattle.semantics.specs.Bytes.{u16, u32, i32}
 use Rattle.semantics.specs.Record.{Row, Tail, sized, valid, twice, inSet, bodyJudged, table, rowIn, rowOf, branchesFrom}
 use Rattle.semantics.specs.Record.{branchOf}
-use Rattle.semantics.specs.Record.{branchesIn, samplerOf, samplerValid, Field, anyValue, u16In, u32In, ofSampler, Naming, nameless, names, namesLocal}
+use Rattle.semantics.specs.Record.{branchesIn, samplerOf, samplerValid, Field, anyValue, u16In, u32In, ofSampler, Naming}
+use Rattle.semantics.specs.Record.{nameless, names, namesLocal}
 use Rattle.semantics.specs.Decode.{placed, judged, fieldKnown, tailKnown, innerOf, named}
 use Rattle.base_numbers.specs.Group as Group
-use Rattle.base_i32.specs.Code.{code, valueOf}
-use Rattle.base_i32.specs.Laws.{value-order, value-above, signed-coded}
+use Rattle.base_i32.specs.Code.{code}
+use Rattle.base_i32.specs.Laws.{code-order, code-above, signed-fits}
 use Rattle.file_check_parts.proofs.Laws.{rest-of}
 use Rattle.file_check_tails.specs.Tails.{tailOf, branchPasses}
 use Rattle.file_check_tails.proofs.Branches.{and-left, and-right}
-use Rattle.file_check_record.specs.Rows.{numberOf, SAMPLER_BYTES, fieldSize, fieldAt, fieldLow, fieldHigh, numberAt, namingOf, namingAt}
-use Rattle.file_check_record.specs.Rows.{tailNumber}
+use Rattle.file_check_record.specs.Rows.{numberOf, SAMPLER_BYTES, fieldSize, fieldAt, fieldLow, fieldHigh, numberAt}
+use Rattle.file_check_record.specs.Rows.{namingOf, namingAt, tailNumber}
 use Rattle.file_check_record.proofs.Table.{holds, tail-back}
 
 -- WHAT THE CODE READ of a row and of a body is what the row says.
@@ -47,15 +47,17 @@ in-sampler-set (u32In at lo hi) bs e = absurd (omega arith)
 in-sampler-set ofSampler bs e = refl
 
 -- A SAMPLER is judged by the codes of its ends: x of the lowest value, y of the highest.
-module _ (bs : List ℕ) (x y n : ℕ) (d : x ≡ code (i32 bs 0)) (e : y ≡ code (i32 bs 4)) (f : n ≡ u32 bs 8) where
-  judged-by : samplerValid (samplerOf bs) ≡ leb x y && (leZ (valueOf y -ℤ valueOf x) (pos No.topSpread) && within 1 No.lastSeed n)
-  judged-by = rw (d, e, f, ← value-order (code (i32 bs 0)) (code (i32 bs 4)), signed-coded (u32 bs 0), signed-coded (u32 bs 4))
+module _ (bs : List ℕ) {x y n : ℕ} (d : x ≡ code (i32 bs 0)) (e : y ≡ code (i32 bs 4)) (f : n ≡ u32 bs 8) where
+  in-order : leZ (i32 bs 0) (i32 bs 4) ≡ leb x y
+  in-order = rw (d, e, code-order (i32 bs 0) (i32 bs 4) (signed-fits (u32 bs 0)) (signed-fits (u32 bs 4)))
 
   pub sampler-turned : y < x → false ≡ samplerValid (samplerOf bs)
-  sampler-turned h = rw (judged-by, lt-leb x y h)
+  sampler-turned h = rw (in-order, lt-leb x y h)
 
   pub sampler-judged : x ≤ y → leb (y - x) No.topSpread && within 1 No.lastSeed n ≡ samplerValid (samplerOf bs)
-  sampler-judged h = rw (judged-by, le-leb x y h, value-above x y h)
+  sampler-judged h =
+      let a = code-above (i32 bs 0) (i32 bs 4) (signed-fits (u32 bs 0)) (signed-fits (u32 bs 4)) (omega arith) in
+      rw (in-order, le-leb x y h, a, d, e, f)
 
 -- THE NUMBERS of checks 5 to 7, 2 to 4, and 8 and 9.
 abbrev thirdOf : ℕ → ℕ → ℕ → Bool → Bool → Bool → ℕ
@@ -175,8 +177,8 @@ data AllRows (P : Row → Type 0) : List Row → Type 0 where
 
 quiet-row : (bs : List ℕ) → AllRows (Quiet bs) table
 quiet-row bs =
-    row plain (row plain (row plain (row plain (row plain (row plain (row plain (row plain (row plain (row plain (row plain (row plain
-    (row (λ a b c. absurd (a refl)) (row plain (row plain (row plain (row plain (row plain
+    row plain (row plain (row plain (row plain (row plain (row plain (row plain (row plain (row plain (row plain (row plain
+    (row plain (row (λ a b c. absurd (a refl)) (row plain (row plain (row plain (row plain (row plain
     (row (λ a b c. absurd (b refl)) (row (λ a b c. absurd (c refl)) (row plain (row plain (row plain end))))))))))))))))))))))
   where
     plain : {A B C : Type 0} {x : List ℕ} → A → B → C → x ≡ x

@@ -1,4 +1,4 @@
--- `file_check_record::sampler_valid` meets its contract: its ends are compared by their codes. Assumes nothing.
+-- `file_check_record::sampler_valid` meets its contract: the ends are compared by their codes. Assumes nothing.
 use mathlib.Core.Path.{_≡_, _∙_, ap}
 use Prim.Native.Nat.{ℕ}
 use Rattle.base_i32.specs.Code.{code}
@@ -27,14 +27,18 @@ u32-at-requires-3 : tie.Need-u32-at-requires-3
 u32-at-requires-3 c κs = search needs
 
 returns : tie.Need-returns
-returns c = sampler-turned (c .before .before .before .before .before .before .before .args .bs .now) _ _ _ (coded (c .before .before .before .before .from-twos .ensures) (c .before .before .before .before .before .u32-at .ensures))
-    (coded (c .before .before .from-twos2 .ensures) (c .before .before .before .u32-at2 .ensures)) (c .before .u32-at3 .ensures)
-    (c .if1 .taken)
+returns c = let n = c .before in
+    let y = n .before in
+    let x = y .before .before in
+    sampler-turned (x .before .before .before .args .bs .now) (coded (x .from-twos .ensures) (x .before .u32-at .ensures))
+    (coded (y .from-twos2 .ensures) (y .before .u32-at2 .ensures)) (n .u32-at3 .ensures) (c .if1 .taken)
 
 returns-2 : tie.Need-returns-2
-returns-2 c = sampler-judged (c .before .before .before .before .before .before .before .args .bs .now) _ _ _ (coded (c .before .before .before .before .from-twos .ensures) (c .before .before .before .before .before .u32-at .ensures))
-    (coded (c .before .before .from-twos2 .ensures) (c .before .before .before .u32-at2 .ensures)) (c .before .u32-at3 .ensures)
-    (c .if1 .left)
+returns-2 c = let n = c .before in
+    let y = n .before in
+    let x = y .before .before in
+    sampler-judged (x .before .before .before .args .bs .now) (coded (x .from-twos .ensures) (x .before .u32-at .ensures))
+    (coded (y .from-twos2 .ensures) (y .before .u32-at2 .ensures)) (n .u32-at3 .ensures) (c .if1 .left)
 
 pub sampler-valid-spec : {M : Type 1} → statement M
 sampler-valid-spec =
