@@ -10,7 +10,7 @@ use Rattle.base_numbers.specs.Row as Row
 use Rattle.base_numbers.specs.Limit as Limit
 use Rattle.base_ordered.specs.Lines.{pad}
 use Rattle.row_work.specs.Laid.{laid, laid-part, laid-replaced}
-use Rattle.row_work.specs.Work.{workParts, workWidths, workOf, Sized}
+use Rattle.row_work.specs.Work.{workParts, workWidths, seedsPart, workOf, Sized}
 use Rattle.row_work.specs.Shown.{work-wide, work-long}
 
 -- Of any row that is as long as the work: nothing stands behind them.
@@ -32,11 +32,11 @@ module _ (s : State) (h : Sized s) where
       → take Row.SEEDS (workOf s) ++ (pad Limit.SAMPLERS d ++ drop Limit.SAMPLERS (drop Row.SEEDS (workOf s)))
       ≡ workOf (with-seeds s d)
   unfolding workOf
-  replaced d = laid-replaced (workParts s) workWidths (work-wide s h) 10 (pad Limit.SAMPLERS d) (omega arith)
+  replaced d = laid-replaced (workParts s) workWidths (work-wide s h) seedsPart (pad Limit.SAMPLERS d) (omega arith)
 
   part : take Limit.SAMPLERS (drop Row.SEEDS (workOf s)) ≡ pad Limit.SAMPLERS (s .seeds)
   unfolding workOf
-  part = laid-part (workParts s) workWidths (work-wide s h) 10 (omega arith)
+  part = laid-part (workParts s) workWidths (work-wide s h) seedsPart (omega arith)
 
   -- They stand there; and others written make the state with those.
   pub seeds-part : drop Row.SEEDS (workOf s) ≡ pad Limit.SAMPLERS (s .seeds)

@@ -90,6 +90,10 @@ workWidths =
     Row.FREE ∷ Limit.THINGS ∷ Limit.THINGS ∷ Limit.THINGS ∷ Limit.THINGS ∷ Row.WAITERS_MOST ∷ Row.EVENTS_MOST ∷ Row.EVENTS_MOST
     ∷ Row.WAITERS_ALL ∷ Row.PROCESSES_ALL ∷ Limit.SAMPLERS ∷ []
 
+-- Which of the parts the seeds are, from 0 on.
+abbrev pub seedsPart : ℕ
+seedsPart = 10
+
 unfoldable pub workOf : State → List ℕ
 unfolding laid processRow
 workOf s = laid (workParts s)
