@@ -58,6 +58,14 @@ module _ (m : Model) (gs ls : List ℤ) (t : ℕ) where
 abbrev pub leaving : Outcome ℤ → List ℕ → Outcome Valued
 leaving o d = o >>= λ v. plain v d
 
+abbrev pub theValue : Outcome Valued → Outcome ℤ
+theValue o = o >>= λ v. ok (v .value)
+
+pub value-left : (o : Outcome ℤ) (d : List ℕ) → theValue (leaving o d) ≡ o
+unfolding _>>=_
+value-left (ok v) d = refl
+value-left (fails n) d = refl
+
 two-leave : (f : ℤ → ℤ → Outcome ℤ) (a b : Drawing) (d : List ℕ) (o p : Outcome ℤ) (x y : List ℕ) → a d ≡ leaving o x
     → b x ≡ leaving p y → ofTwo f a b d ≡ leaving (o >>= λ v. p >>= λ w. f v w) y
 unfolding _>>=_
