@@ -21,7 +21,7 @@ add-result c = let b = mod-lt (c .before .args .seed) {m = c .wide .result} (ome
     omega (arith, c .wide .ensures .0, c .before .pre .1)
 
 returns : tie.Need-returns
-returns c = rw (c .wide .ensures .0) (draw-code _ _ (c .before .args .seed) (c .before .pre .0))
+returns c = rw (c .wide .ensures .0) (draw-code _ _ (c .before .args .seed) (c .before .pre .0) (c .before .pre .1))
 
 pub drawn-spec : {M : Type 1} → statement M
 drawn-spec = tie.close (tie.spec wide-requires rem-result cast-result add-result returns)
