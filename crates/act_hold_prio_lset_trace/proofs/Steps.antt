@@ -45,9 +45,9 @@ module _ {body map w : List ℕ} {p : ℕ} {x : Expr → Action} (v : Given body
   abbrev drew : State
   drew = with-seeds s d
 
-  module _ (r : Value) (t : eval m s q e (s .seeds) ≡ leaving (outcomeOf r) d) {w′ : List ℕ} where
+  module _ (r : Value) (t : eval m s q e (s .seeds) ≡ leaving (outcomeOf r) d) where
     -- There is none.
-    module _ (same : w′ ≡ w) (no : r .ok ≡ false) where
+    module _ {w′ : List ℕ} (same : w′ ≡ w) (no : r .ok ≡ false) where
       none : eval m s q e (s .seeds) ≡ fails No.SUM
       none = no-value r d t no
 
@@ -71,26 +71,27 @@ module _ {body map w : List ℕ} {p : ℕ} {x : Expr → Action} (v : Given body
       there : eval m s q e (s .seeds) ≡ ok u
       there = a-value r d t yes
 
-      pub hold-is-back : w′ ≡ w → r .code < Code.ZERO → SteppedQuietly (hold m s p e) No.BACK 0 w w′
+      pub hold-is-back : {w′ : List ℕ} → w′ ≡ w → r .code < Code.ZERO → SteppedQuietly (hold m s p e) No.BACK 0 w w′
       hold-is-back same l = rw (hold-back m s p e (r .code) d there l) (refl, (refl, same))
 
       module _ (l : Code.ZERO ≤ r .code) (k : ℕ) (f : k ≡ s .clock + (r .code - Code.ZERO)) where
-        pub hold-is-late : w′ ≡ w → No.latest < k → SteppedQuietly (hold m s p e) No.LATE 0 w w′
+        pub hold-is-late : {w′ : List ℕ} → w′ ≡ w → No.latest < k → SteppedQuietly (hold m s p e) No.LATE 0 w w′
         hold-is-late same h = rw (hold-late m s p e (r .code) d there l k f h) (refl, (refl, same))
 
-        pub held : k ≤ No.latest → w′ ≡ workOf (wake k p (with-floor (put p (past q) drew) empty))
+        pub held : k ≤ No.latest → {w′ : List ℕ} → w′ ≡ workOf (wake k p (with-floor (put p (past q) drew) empty))
             → SteppedQuietly (hold m s p e) 0 0 w w′
         held h g = rw (hold-goes m s p e (r .code) d there l k f h) (refl, (refl, (g, refl)))
 
-      pub prioritized : w′ ≡ workOf (put p (past (with-priority q (larger lowest (valueOf (r .code))))) drew)
+      pub prioritized : {w′ : List ℕ} → w′ ≡ workOf (put p (past (with-priority q (larger lowest (valueOf (r .code))))) drew)
           → SteppedQuietly (prio m s p e) 0 0 w w′
       prioritized f = rw (prio-goes m s p e u there) (refl, (refl, (f, refl)))
 
-      pub local-set : (i : ℕ) → w′ ≡ workOf (put p (past (with-locals q (set (q .locals) i (valueOf (r .code))))) drew)
+      pub local-set : (i : ℕ) {w′ : List ℕ}
+          → w′ ≡ workOf (put p (past (with-locals q (set (q .locals) i (valueOf (r .code))))) drew)
           → SteppedQuietly (setLocal m s p i e) 0 0 w w′
       local-set i f = rw (local-goes m s p e u there i) (refl, (refl, (f, refl)))
 
-      pub traced : w′ ≡ workOf (put p (past q) drew) → (at : ℕ) (out : List ℕ) {out′ : List ℕ}
+      pub traced : {w′ : List ℕ} → w′ ≡ workOf (put p (past q) drew) → (at : ℕ) (out : List ℕ) {out′ : List ℕ}
           → out′ ≡ wroteAt at (line s (q .number) No.traced (valueOf (r .code)) ∷ []) out
           → Stepped (trace m s p e) 0 1 w w′ at out out′
       traced f at out g = rw (trace-goes m s p e u there) (refl, (refl, (f, g)))

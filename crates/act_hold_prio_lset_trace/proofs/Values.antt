@@ -2,7 +2,7 @@
 use Prim.Native.Nat.{ℕ, _+_, _-_, _*_, _≤_, _<_}
 use native.Mathlib.Omega.{arith}
 use mathlib.Core.Path.{_≡_, refl, sym, _∙_, ap}
-use mathlib.Core.List as List
+use mathlib.Core.List as Lists
 use mathlib.Core.List.{List, _++_}
 use mathlib.Core.Bool.{Bool, true, false, _&&_}
 use lib.ListN.{length, getD, take, drop, length-drop}
@@ -16,7 +16,7 @@ use Rattle.semantics.specs.Numbers as No
 use Rattle.semantics.specs.Model.{Expr, Action, Model}
 use Rattle.semantics.specs.State.{State, Process, process}
 use Rattle.semantics.specs.Record.{expressionIn}
-use Rattle.semantics.specs.Value as V
+use Rattle.semantics.specs.Value as Worth
 use Rattle.promises.specs.Fit.{ExprFit, ActFit}
 use Rattle.promises.specs.Sound.{al, Fine}
 use Rattle.promises.specs.Moves.{proc-at}
@@ -26,7 +26,7 @@ use Rattle.base_numbers.specs.Process as Process
 use Rattle.base_numbers.specs.Limit as Limit
 use Rattle.base_numbers.specs.Code as Code
 use Rattle.base_i32.specs.Code.{code, valueOf, valueIn, outcomeOf, Ranged}
-use Rattle.base_i32.specs.Laws.{told}
+use Rattle.base_i32.specs.Laws.{told, code-fits}
 use Rattle.base_i32.specs.declared.Value.{Value}
 use Rattle.base_ordered.specs.Lines.{pad}
 use Rattle.act_value.specs.Parts.{evalIn, drawsOf, leaving, theValue, value-left, eval-parts, evalIn-ranged, draws-ok}
@@ -58,7 +58,7 @@ module _ {body map w : List ℕ} {p : ℕ} (v : Valued body map w p) where
   cut = take (Row.FIRST_LOCALS + Process.WORDS * p + No.locals - (Row.FIRST_LOCALS + Process.WORDS * p))
       (drop (Row.FIRST_LOCALS + Process.WORDS * p) w)
 
-  pub shows-cut : cut ≡ pad No.locals (List.map code (q .locals))
+  pub shows-cut : cut ≡ pad No.locals (Lists.map code (q .locals))
   shows-cut =
       let e : Row.FIRST_LOCALS + Process.WORDS * p + No.locals - (Row.FIRST_LOCALS + Process.WORDS * p) ≡ No.locals =
       omega arith in
@@ -71,13 +71,13 @@ module _ {body map w : List ℕ} {p : ℕ} (v : Valued body map w p) where
     abbrev pub partFrom : List ℕ
     partFrom = take Limit.SAMPLERS (drop from map)
 
-    part-long : length partFrom ≡ Limit.SAMPLERS
+    pub part-long : length partFrom ≡ Limit.SAMPLERS
     part-long =
         let l = v .drawn .long in
         let d = length-drop from map in
         length-take-le Limit.SAMPLERS (drop from map) (omega arith)
 
-    part-at : (i : ℕ) → i < length (m .samplers) → getD partFrom i 0 ≡ getD map (from + i) 0
+    pub part-at : (i : ℕ) → i < length (m .samplers) → getD partFrom i 0 ≡ getD map (from + i) 0
     part-at i h =
         let f = v .running .run .fits .few-samplers in
         getD-take Limit.SAMPLERS (drop from map) i 0 (omega arith) ∙ getD-drop from map i 0
@@ -154,6 +154,18 @@ module _ {body map w : List ℕ} {p : ℕ} (v : Valued body map w p) where
       ap outcomeOf (answer ∙ ap valueIn (ap theValue parts ∙ value-left alone _)) ∙ told alone has-range in
       parts ∙ ap (λ o. leaving o (seedsLeft v)) (sym e)
 
+  -- Each value has a code of 0..HIGHEST.
+  pub all-within : {r : Value} → r ≡ valueIn (theValue (worth v)) → isWithin 0 Code.HIGHEST r ≡ r .ok
+  all-within answer =
+      let e = answer ∙ ap valueIn (ap theValue parts ∙ value-left alone _) in
+      ap (λ r. isWithin 0 Code.HIGHEST r) e ∙ go alone has-range ∙ sym (ap (λ r. r .ok) e)
+    where
+      go : (o : Outcome ℤ) → Ranged o → isWithin 0 Code.HIGHEST (valueIn o) ≡ (valueIn o) .ok
+      go (ok z) h =
+          let l = code-fits z h in
+          rw (le-leb 0 (code z) (omega arith), le-leb (code z) Code.HIGHEST (omega arith))
+      go (fails n) h = refl
+
 -- THE EXPRESSION OF THE ACTION where the process on the floor stands is such a one, and fits as the action does.
 module _ {body map w : List ℕ} {p : ℕ} {x : Expr → Action} (v : Given body map w p x)
     (f : ActFit (v .on .running .run .model) (x (v .expression)) → ExprFit (v .on .running .run .model) (v .expression)) where
@@ -168,24 +180,23 @@ module _ {body map w : List ℕ} {p : ℕ} {x : Expr → Action} (v : Given body
         expression-fits = f (action-fits (v .on));
       }
 
-  -- When the seeds that it leaves are kept, the process stands there still; and when they aren't, nothing has changed.
-  abbrev pub still-on : {w₁ : List ℕ} {t : Bool} → w₁ ≡ workOf (left to-value t) → t ≡ true → On w₁ p (x (v .expression))
-  still-on e k =
-      on-with (v .on) (seedsLeft to-value)
-      (draws-ok (v .on .running .run .model) (v .expression) (f (action-fits (v .on))) _ (v .on .running .sound .seeds-ok))
-      (e ∙ ap (λ b. workOf (left to-value b)) k)
+  -- What is answered of it tells the outcome. When the seeds that it leaves are kept, the process stands there still; and when
+  -- they aren't, nothing has changed.
+  pub answers : {r : Value} → ((z : Valued body map w p) → r ≡ valueIn (theValue (worth z)))
+      → worth to-value ≡ leaving (outcomeOf r) (seedsLeft to-value)
+  answers told = tells to-value (told to-value)
 
-  pub unchanged : {w₁ : List ℕ} {t : Bool} → w₁ ≡ workOf (left to-value t) → t ≡ false → w₁ ≡ w
-  unchanged e k = e ∙ ap (λ b. workOf (left to-value b)) k ∙ sym (v .on .running .run .shows)
+  module _ {w₁ : List ℕ} {t : Bool} (told : (z : Valued body map w p) → w₁ ≡ workOf (left z t)) where
+    abbrev pub still-on : t ≡ true → On w₁ p (x (v .expression))
+    still-on k =
+        on-with (v .on) (seedsLeft to-value)
+        (draws-ok (v .on .running .run .model) (v .expression) (f (action-fits (v .on))) _ (v .on .running .sound .seeds-ok))
+        (told to-value ∙ ap (λ b. workOf (left to-value b)) k)
 
--- WHICH VALUES are kept: all; or those of a HOLD.
-pub all-within : (r : Value) → r .code < Code.CODES → isWithin 0 Code.HIGHEST r ≡ r .ok
-all-within r h = go (r .ok)
-  where
-    go : (t : Bool) → (t && leb 0 (r .code)) && leb (r .code) Code.HIGHEST ≡ t
-    go true = rw (le-leb 0 (r .code) (omega arith), le-leb (r .code) Code.HIGHEST (omega arith))
-    go false = refl
+    pub unchanged : t ≡ false → w₁ ≡ w
+    unchanged k = told to-value ∙ ap (λ b. workOf (left to-value b)) k ∙ sym (v .on .running .run .shows)
 
+-- WHICH VALUES are of low..high.
 module _ (low high : ℕ) (r : Value) where
   pub none-within : r .ok ≡ false → isWithin low high r ≡ false
   none-within e = rw e
@@ -200,7 +211,7 @@ module _ (low high : ℕ) (r : Value) where
   is-above e h k = rw (e, le-leb low (r .code) h, lt-leb (r .code) high k)
 
 -- WHAT AN ANSWER SAYS: there is no value; there is one, below 0 or not.
-module _ (r : Value) {o : Outcome V.Valued} (d : List ℕ) (t : o ≡ leaving (outcomeOf r) d) where
+module _ (r : Value) {o : Outcome Worth.Valued} (d : List ℕ) (t : o ≡ leaving (outcomeOf r) d) where
   pub no-value : r .ok ≡ false → o ≡ fails No.SUM
   unfolding _>>=_
   no-value e = t ∙ ap (λ b. leaving (if b then ok (valueOf (r .code)) else fails No.SUM) d) e

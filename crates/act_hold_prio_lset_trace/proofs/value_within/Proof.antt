@@ -1,0 +1,41 @@
+-- `act_hold_prio_lset_trace::value_within` meets its contract. Assumes nothing.
+use borrow.Author.Needs.{needs}
+use Rattle.act_floor.specs.Floor.{run-long}
+use Rattle.act_hold_prio_lset_trace.proofs.Values.{work-kept, work-as-it-was}
+use Rattle.act_hold_prio_lset_trace.proofs.value_within.Statement.{statement}
+use Rattle.act_hold_prio_lset_trace.proofs.value_within.Tie as tie
+
+seeds-of-requires : tie.Need-seeds-of-requires
+seeds-of-requires c κs = run-long (c .before .before .before .before .pre .running)
+
+evaluated-requires : tie.Need-evaluated-requires
+evaluated-requires c κs = search needs
+
+keep-seeds-requires : tie.Need-keep-seeds-requires
+keep-seeds-requires c κs = run-long (c .before .before .before .before .before .before .before .before .before .before .before .before .before .pre .running)
+
+same-length : tie.Need-same-length
+same-length c = search needs
+
+returns : tie.Need-returns
+returns c =
+    let r = c .before .before .before .before .before .before .before .before .evaluated in
+    (r .ensures .0, λ v. work-kept v (c .before .before .keep-seeds .ensures) (r .ensures .1 v) (c .before .before .before .before .if1 .taken))
+
+same-length-2 : tie.Need-same-length-2
+same-length-2 c = search needs
+
+returns-2 : tie.Need-returns-2
+returns-2 c = (c .before .before .before .before .evaluated .ensures .0, λ v. work-as-it-was v (c .if1 .left))
+
+pub value-within-spec : {M : Type 1} → statement M
+value-within-spec =
+    tie.close
+    (tie.spec
+    seeds-of-requires
+    evaluated-requires
+    keep-seeds-requires
+    same-length
+    returns
+    same-length-2
+    returns-2)
