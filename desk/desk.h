@@ -53,7 +53,7 @@ uint32_t desk_open(const uint8_t *file, size_t length, uint64_t *run, size_t wor
 uint64_t desk_move(const uint8_t *file, size_t length, uint64_t *run, size_t words, uint32_t limit, uint8_t *journal,
                    size_t room);
 
-#define DESK_WORDS 10696u
+#define DESK_WORDS 10712u
 #define DESK_CLOCK(run) ((run)[0])
 
 #endif
