@@ -4,7 +4,7 @@
 use crate::compare::{answer_text, word_of, Bench, Difference, Same};
 use crate::engine;
 use crate::random::Random;
-use crate::row::{is_standing, part, row_of, state_of, WORDS};
+use crate::row::{is_standing, part, row_of, state_of, SEEDS, WORDS};
 use crate::sound::is_sound;
 use reference::journal::LINE_BYTES;
 use reference::model::Model;
@@ -23,7 +23,7 @@ impl Bench {
         let mut state = State::fresh(model);
         let whole = state.run(model, limit, usize::MAX);
         let room = whole.journal.len() + random.below(70 * LINE_BYTES);
-        self.same_move(bytes, &whole, &state, limit, room, random)?;
+        self.same_move(bytes, model, &whole, &state, limit, room, random)?;
         let uneven = self.uneven(bytes, model, &whole, random)?;
         if uneven != state {
             let what = "the state after uneven calls".to_string();
@@ -33,6 +33,7 @@ impl Bench {
         midway.run(model, random.below(whole.steps as usize + 1) as u32, usize::MAX);
         self.handed(bytes, model, &row_of(&lifted(&midway, random)), random)?;
         self.handed(bytes, model, &row_of(&with_returns(&midway, random)), random)?;
+        self.reseeded(bytes, model, &midway, random)?;
         for _ in 0..3 {
             let mut row = row_of(&midway);
             (0..random.pick(&[1, 1, 1, 2, 3])).for_each(|_| damage(random, &mut row));
@@ -103,13 +104,14 @@ impl Bench {
     fn same_move(
         &mut self,
         bytes: &[u8],
+        model: &Model,
         second: &Outcome,
         state: &State,
         limit: u32,
         room: usize,
         random: &mut Random,
     ) -> Same {
-        self.counts.answered(second);
+        self.counts.answered(model, state, second);
         self.journal.empty(room, random.below(8), random.next() as u8);
         let said = engine::move_on(self.file.content(), self.row.content_mut(), limit, self.journal.content_mut());
         let what = format!("moving an open run with limit {limit} and a journal of {room} bytes");
@@ -137,7 +139,7 @@ impl Bench {
             };
             let outcome = state.run(model, limit, room);
             let lent = room.min(outcome.journal.len() + 80 * LINE_BYTES);
-            self.same_move(bytes, &outcome, &state, limit, lent, random)?;
+            self.same_move(bytes, model, &outcome, &state, limit, lent, random)?;
             gathered.extend(&outcome.journal);
             steps += outcome.steps;
             let ended = !matches!(outcome.answer, Answer::Limit | Answer::Fault(JOURNAL));
@@ -163,7 +165,21 @@ impl Bench {
         };
         let outcome = state.run(model, limit, usize::MAX);
         let room = outcome.journal.len() + random.below(70 * LINE_BYTES);
-        self.same_move(bytes, &outcome, &state, limit, room, random)
+        self.same_move(bytes, model, &outcome, &state, limit, room, random)
+    }
+
+    /// The run with another seed, at an edge or beyond, of a sampler or where there is none.
+    fn reseeded(&mut self, bytes: &[u8], model: &Model, state: &State, random: &mut Random) -> Same {
+        let mut row = row_of(state);
+        let samplers = model.samplers.len();
+        let place = if samplers == 0 || random.one_in(4) { random.below(16) } else { random.below(samplers) };
+        let seed = random.pick(&[0, 0, 1, 2, 2_147_483_645, 2_147_483_646, 2_147_483_647, 2_147_483_647, 1 << 31, 1 << 32]);
+        if row[SEEDS + place] == seed {
+            return Ok(());
+        }
+        row[SEEDS + place] = seed;
+        self.counts.seeded(model, place, seed);
+        self.handed(bytes, model, &row, random)
     }
 
     fn turned_away(&mut self, bytes: &[u8], row: &[u64], limit: u32, random: &mut Random) -> Same {

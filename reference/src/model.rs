@@ -440,7 +440,8 @@ fn any_twice<T: PartialEq>(names: &[T]) -> bool {
 }
 
 impl Action {
-    fn expression(&self) -> &[Node] {
+    /// No node where the action has no expression.
+    pub fn expression(&self) -> &[Node] {
         match self {
             Action::Hold(value) | Action::Prio(value) | Action::Trace(value) => value,
             Action::Set { value, .. } | Action::Lset { value, .. } => value,
