@@ -32,6 +32,10 @@ def local(n):
     return node(2, n)
 
 
+def draw(n):
+    return node(10, n)
+
+
 ADD, SUBTRACT, MULTIPLY, LESSER, GREATER, CLOCK, NEGATE = (node(op) for op in range(3, 10))
 LITERAL = literal(1)
 
@@ -101,6 +105,10 @@ def BLOCK():
 
 def ENTITY(class_, offset=0):
     return record(7, u16(class_) + u32(offset))
+
+
+def SAMPLER(lowest, highest, seed=1):
+    return record(8, i32(lowest) + i32(highest) + u32(seed))
 
 
 def HOLD(*nodes):

@@ -46,12 +46,7 @@ pub struct Bench {
 
 impl Bench {
     pub fn new() -> Bench {
-        Bench {
-            file: Lent::new(0),
-            journal: Lent::new(0),
-            row: Lent::new(0),
-            counts: Counts::default(),
-        }
+        Bench { file: Lent::new(0), journal: Lent::new(0), row: Lent::new(0), counts: Counts::default() }
     }
 
     /// Holds both programs to the same answers on these bytes; `limit` is that of the longest run.

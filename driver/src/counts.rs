@@ -16,6 +16,7 @@ pub const SAMPLERS_REFUSED: usize = 7;
 pub const DRAWS: usize = 8;
 pub const DRAWS_UNDONE: usize = 9;
 pub const SEEDS: usize = 10;
+pub const PACES: usize = 11;
 
 struct Group {
     title: &'static str,
@@ -24,7 +25,7 @@ struct Group {
     names: &'static [&'static str],
 }
 
-const GROUPS: [Group; 11] = [
+const GROUPS: [Group; 12] = [
     Group {
         title: "refusals",
         first: 1,
@@ -108,6 +109,11 @@ const GROUPS: [Group; 11] = [
         first: 0,
         names: &["0", "1 to 2,147,483,646", "above 2,147,483,646", "where no sampler is"],
     },
+    Group {
+        title: "runs that draw, in calls of so many steps and few lines",
+        first: 1,
+        names: &["step", "steps", "steps", "steps", "steps", "steps", "steps"],
+    },
 ];
 
 /// What a run of the driver did besides.
@@ -187,7 +193,7 @@ impl Counts {
             for (i, name) in group.names.iter().enumerate() {
                 text += &format!("  {:>2} {:<31} {:>12}\n", group.first + i, name, seen[i]);
                 if seen[i] == 0 {
-                    never.push(format!("{} {name}", group.title));
+                    never.push(format!("{}: {} {name}", group.title, group.first + i));
                 }
             }
         }

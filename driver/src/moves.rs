@@ -2,6 +2,7 @@
 //! and rows that are damaged, or lifted to where times and numbers end, handed in.
 
 use crate::compare::{answer_text, word_of, Bench, Difference, Same};
+use crate::counts::PACES;
 use crate::engine;
 use crate::random::Random;
 use crate::row::{is_standing, part, row_of, state_of, SEEDS, WORDS};
@@ -16,6 +17,8 @@ const WRONG_WORDS: u32 = 20 * 65_536;
 
 /// No more uneven calls than this; the last one goes to the end.
 const CALLS: usize = 10;
+/// No more even steps than this.
+const PACED: u32 = 60;
 
 impl Bench {
     pub fn moves(&mut self, bytes: &[u8], model: &Model, limit: u32, random: &mut Random) -> Same {
@@ -28,6 +31,9 @@ impl Bench {
         if uneven != state {
             let what = "the state after uneven calls".to_string();
             return Err(Difference::of(what, "as the second program's", "another than after one long call"));
+        }
+        if !model.samplers.is_empty() && random.one_in(3) {
+            self.paced(bytes, model, random)?;
         }
         let mut midway = State::fresh(model);
         midway.run(model, random.below(whole.steps as usize + 1) as u32, usize::MAX);
@@ -152,6 +158,39 @@ impl Bench {
             return Err(Difference::of(what, "others than", "those of one long call"));
         }
         Ok(state)
+    }
+
+    /// Calls of 1 to 7 steps, each with room for one line, and for more where a step needs it: 30 comes again and again, and the
+    /// lines together are those of one long call.
+    fn paced(&mut self, bytes: &[u8], model: &Model, random: &mut Random) -> Same {
+        let mut end = State::fresh(model);
+        let whole = end.run(model, PACED, usize::MAX);
+        let pace = random.from_to(1, 7);
+        let mut state = State::fresh(model);
+        if end.seeds != state.seeds {
+            self.counts.add(PACES, pace);
+        }
+        self.row.set(&row_of(&state), random.below(8), random.next());
+        let mut gathered: Vec<u8> = Vec::new();
+        let (mut steps, mut room) = (0, LINE_BYTES);
+        loop {
+            let limit = (pace as u32).min(PACED - steps);
+            let outcome = state.run(model, limit, room);
+            self.same_move(bytes, model, &outcome, &state, limit, room, random)?;
+            gathered.extend(&outcome.journal);
+            steps += outcome.steps;
+            match outcome.answer {
+                Answer::Fault(JOURNAL) if outcome.steps == 0 => room += LINE_BYTES,
+                Answer::Fault(JOURNAL) => room = LINE_BYTES,
+                Answer::Limit if steps < PACED => room = LINE_BYTES,
+                _ => break,
+            }
+        }
+        if (&state, &gathered) != (&end, &whole.journal) {
+            let what = format!("the lines and the state of calls of {pace} steps");
+            return Err(Difference::of(what, "as the second program's", "others than those of one long call"));
+        }
+        Ok(())
     }
 
     /// A row that is handed in: 20 exactly if it isn't sound, and then nothing is changed; else it goes on as the second program
