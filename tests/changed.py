@@ -99,7 +99,41 @@ CHANGES = [
     ('the time 2,000,000,000 is late', 'act_hold_prio_lset_trace', 'if limit::LATEST < time {', 'if limit::LATEST <= time {'),
     ('slaves may be left behind', 'row_process', ' & (row_work::word(w, p, process::SLAVES) == 0)', ''),
     ('30 one line too late', 'run_limit', 'if left < lines {', 'if left + 1 < lines {'),
+    # ---- samplers and draws
+    ('multiplier 16806', 'base_generator', 'MULTIPLIER: u64 = 16807;', 'MULTIPLIER: u64 = 16806;'),
+    ('modulus 2147483648', 'base_generator', 'MODULUS: u64 = 2147483647;', 'MODULUS: u64 = 2147483648;'),
+    ('a sampler has one value less', 'base_generator',
+     'seed % base_wide::wide(values)', 'seed % (base_wide::wide(values).max(2) - 1)'),
+    ('a draw by the old seed', 'act_value',
+     'let seed = base_generator::next_seed(seeds[k]);\n    seeds[k] = seed;',
+     'let seed = seeds[k];\n    seeds[k] = base_generator::next_seed(seed);'),
+    ('draws from right to left', 'act_value',
+     'let first = tree_at(bs, globals, locals, clock, lowest, values, seeds, k + 1);',
+     'let mut aside = *seeds;\n'
+     '    let shape = tree_at(bs, globals, locals, clock, lowest, values, &mut aside, k + 1);\n'
+     '    if many == 2 {\n        aside = *seeds;\n'
+     '        tree_at(bs, globals, locals, clock, lowest, values, seeds, shape.next);\n    }\n'
+     '    let first = tree_at(bs, globals, locals, clock, lowest, values, seeds, k + 1);',
+     'let second = tree_at(bs, globals, locals, clock, lowest, values, seeds, first.next);',
+     'let second = tree_at(bs, globals, locals, clock, lowest, values, &mut aside, first.next);'),
+    ('a lesser draws only the side that it answers', 'act_value',
+     'let both = first.value.ok & second.value.ok;',
+     'let both = first.value.ok & second.value.ok;\n'
+     '    if (node.op == op::LESSER) & both & (first.value.code <= second.value.code) {\n        *seeds = before;\n    }',
+     'let second = tree_at(', 'let before = *seeds;\n    let second = tree_at('),
+    ('21 keeps the seeds', 'act_set_become', 'if !value.ok {', 'if !value.ok {\n        row_work::keep_seeds(w, seeds);'),
+    ('22 keeps the seeds', 'act_hold_prio_lset_trace',
+     'if value.code < code::ZERO {', 'if value.code < code::ZERO {\n        row_work::keep_seeds(w, seeds);'),
+    ('23 keeps the seeds', 'act_hold_prio_lset_trace',
+     'if limit::LATEST < time {', 'if limit::LATEST < time {\n        row_work::keep_seeds(w, seeds);'),
+    ('30 keeps the seeds', 'run_limit',
+     'row_struct::copy_words(&kept, w);',
+     'let seeds = row_work::seeds_of(w);\n        row_struct::copy_words(&kept, w);\n        row_work::keep_seeds(w, seeds);'),
     # ---- checks and the bound
+    ('a SAMPLER behind a BLOCK', 'file_check_record', 'blocks == 0\n}', '(blocks == 0) | (group == 8)\n}'),
+    ('a seventeenth SAMPLER', 'file_check_record', '8, 16, 12,', '8, 17, 12,'),
+    ('a SAMPLER of a difference of 1,000,001', 'file_check_record', '<= limit::SPREAD', '<= limit::SPREAD + 1'),
+    ('a draw of a sampler that isn\'t there', 'file_check_parts', '(op != op::DRAW) | (operand < n[group::SAMPLER])', 'true'),
     ('the place of the record after', 'file_check', 'place: f.place,', 'place: file_reader::next(s, f.place),'),
     ('8 and 9 at the place of the record after', 'file_check',
      'number: r,\n                place: at,',
@@ -113,6 +147,9 @@ CHANGES = [
     ('a return of lower priority is sound', 'row_sound_lists', '(rank == code::OF_RETURNS)', '(rank <= code::OF_RETURNS)'),
     ('a time before the clock is sound', 'row_sound_lists',
      '(w[row::CLOCK] <= key / word::TIME)', '(w[row::CLOCK] <= w[row::CLOCK])'),
+    ('seed 0 is sound', 'row_view', 'Rule::Seed => (1 <= x) & (x <= limit::SEED_WORD)', 'Rule::Seed => x <= limit::SEED_WORD'),
+    ('seed 2147483647 is sound', 'row_view', '(x <= limit::SEED_WORD)', '(x <= limit::SEED_WORD + 1)'),
+    ('a seed without a sampler is sound', 'row_view', '&w[row::SEEDS..row::WORDS]', '&w[row::SEEDS..row::SEEDS + samplers]'),
     ('two of one number are sound', 'row_sound_lists', '(alike(w, number) == 1)', '(1 <= alike(w, number))'),
 ]
 
