@@ -1,5 +1,5 @@
-//! Links the library desk_c from the folder that the environment variable DESK_LIB names: libdesk_c.a, or libdesk_c.so where that is
-//! there (tests/changed.py puts one after the other in its place).
+//! Links the library desk_c from the folder that the environment variable DESK_LIB names: libdesk_c.a, or libdesk_c.so where
+//! that is there (tests/changed.py puts one after the other in its place).
 
 fn main() {
     println!("cargo:rerun-if-env-changed=DESK_LIB");

@@ -39,7 +39,8 @@ CHANGES = [
      'let last = 455 + 64 * i + w[104 + i] as usize;\n    w.swap(456 + 64 * i, last);\n'
      '    let place = row_lists::take_waiting(w, i);'),
     # ---- the walk, and who is barred
-    ('the walk stops at the first that can\'t go', 'act_walk', 'left = left - 1;', 'left = if went == 0 { 0 } else { left - 1 };'),
+    ('the walk stops at the first that can\'t go', 'act_walk', 'left = left - 1;',
+     'left = if went == 0 { 0 } else { left - 1 };'),
     ('a walk grants one', 'act_walk', 'left = left - 1;', 'left = if went == 1 { 0 } else { left - 1 };'),
     ('a walk bars nobody', 'act_walk', 'row_grant::choice(s, map, w, action, k)', 'row_grant::choice(s, map, w, action, 0)'),
     ('SET doesn\'t walk', 'act_set_become', 'let lines = act_walk::walk(s, map, w, out, at);', 'let lines = 0;'),

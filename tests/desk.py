@@ -142,8 +142,9 @@ def runs(desk):
 
 
 def moves(desk):
-    """A run that is moved on so many steps at a time tells the lines of the whole run, its answer, and its steps in parts."""
-    endless = plans.one(b'', WHILE(1), b'')
+    """A run that is moved on so many steps at a time tells the lines of the whole run, its answer, and its steps in parts. The
+    endless one writes what it draws, and fills many a journal."""
+    endless = plans.one(SAMPLER(4, 7, 1), WHILE(1), TRACE(draw(0)))
     for model in [example() for example in examples.EXAMPLES] + list(FAULTS.values()) + [endless]:
         status, whole = desk.tells('run', model)
         for steps in (1, 7, 100000, 4294967295) if model != endless else (100000, 4294967295):
@@ -156,6 +157,15 @@ def moves(desk):
             desk.same('moves, its steps', (moved, sum(int(many) for _, many in parts)), (status, int(total)))
     desk.same('moves of two jobs', desk.asks('moves', str(examples.HERE / 'two-jobs.model'), '6'), (0, MOVED, ''))
     desk.same('moves of a bad file', desk.tells('check', b'x'), desk.asks('moves', str(desk.file), '6')[:2])
+
+
+def draws(desk):
+    """From seed 1 the 10,000th seed is 1,043,618,065: what is drawn shows its remainders by two numbers, and no other seed has
+    both."""
+    for values in (1000000, 1000001):
+        model = plans.one(SAMPLER(0, values - 1, 1), DO(10000, 1) + TRACE(local(0)), LSET(0, draw(0)))
+        traced = plan_line(desk.tells('run', model)[1].split('\n')[0])
+        desk.same('the 10,000th draw of %d values' % values, traced, '0 1 9 %d' % (1043618065 % values))
 
 
 def checks(desk):
@@ -198,6 +208,7 @@ def main(words):
         desk = Desk(words, folder)
         runs(desk)
         moves(desk)
+        draws(desk)
         checks(desk)
         usage(desk)
     print('desk: %d told as they should, %d not' % (desk.tried - desk.failed, desk.failed))

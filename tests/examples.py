@@ -1,4 +1,4 @@
-"""The example models of a post house: examples/NAME.model, what each is in examples/NAME.txt, what it prints in examples/NAME.plan.
+"""The example models of a post house: examples/NAME.model, what each is in NAME.txt, what it prints in NAME.plan.
 
     python3 -B tests/examples.py            writes the models and the texts
     python3 -B tests/examples.py COMMAND ...    runs COMMAND on each and compares what it prints with NAME.plan
@@ -80,7 +80,17 @@ def one_deck_too_many():
             + BLOCK() + REQ(getR(0, 1)) + HOLD(literal(1)) + PUTR(0, 2))
 
 
-EXAMPLES = [two_jobs, grade, crowded_day, runners, night_render, one_deck_too_many]
+def sampled_day():
+    """A day with sampled times. A grade takes four to seven hours, not five (sampler 0, seed 1), and then the client talks
+    for none to two hours more (sampler 1, seed 2). Three features want the one suite. Each draws its hours when it has the
+    suite, writes them (TRACE) and keeps the suite so long. The first two draws from the seeds are 7 and 2, then come 5 and
+    2, then 5 and 0: so 9, 7 and 5 hours. The seeds stand in the file, so the plan is the same each time."""
+    return (RES(1) + SAMPLER(4, 7, 1) + SAMPLER(0, 2, 2) + CLASS(0)
+            + ENTITY(0, 0) + ENTITY(0, 1) + ENTITY(0, 2)
+            + BLOCK() + REQ(getR(0)) + LSET(0, ADD, draw(0), draw(1)) + TRACE(local(0)) + HOLD(local(0)) + PUTR(0, 1))
+
+
+EXAMPLES = [two_jobs, grade, crowded_day, runners, night_render, one_deck_too_many, sampled_day]
 
 
 def files(example):

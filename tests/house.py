@@ -87,7 +87,8 @@ def said(crate):
 
 def excepted(part):
     """The literals that a table of exceptions has, crate by crate."""
-    return {crate: {int(number.replace(',', '')) for number in re.findall(r'[\d,]*\d', cell)} for crate, cell in ROW.findall(part)}
+    return {crate: {int(number.replace(',', '')) for number in re.findall(r'[\d,]*\d', cell)}
+            for crate, cell in ROW.findall(part)}
 
 
 def misplaced(paper):

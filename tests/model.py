@@ -19,6 +19,8 @@ import tempfile
 ROOT = pathlib.Path(__file__).resolve().parent.parent
 PAGE = (ROOT / 'docs' / 'MODEL.md').read_text()
 TYPES = {'u16': '<H', 'u32': '<I', 'i32': '<i'}
+# The first kind of an action; those below are declarations and BLOCK.
+ACTIONS = 16
 # What follows the fields of a record: the bytes before its parts, how the page counts these, and the shortest that is right.
 TAILS = {
     'nothing': (0, '', b''),
@@ -107,26 +109,46 @@ def defined():
 
 
 ROW = re.compile(
-    r'(?:declares|acts) K\.(?P<name>\w+) (?:No\.(?P<most>\w+) )?(?P<head>\d+) (?P<field>anyValue|\(.*?\)) '
+    r'(?:declares|acts) K\.(?P<name>\w+) (?:No\.(?P<most>\w+) )?(?P<head>\d+) (?P<field>anyValue|ofSampler|\(.*?\)) '
     r'(?P<naming>nameless|\(.*?\)) (?:(?P<tail>nothing|expression|claim|branches|shares) )?\(λ bs\. (?P<says>.*)\)$')
+
+
+def between(stated, most):
+    return '%s..%s' % (stated[1], format(most[stated[2]], ','))
+
+
+def of_sampler(at, most):
+    """What `samplerValid` asks of the field of a sampler that begins here."""
+    text = spec('Record')
+    name = re.search(r'samplerOf bs = record \{.*?(\w+) = [ui]32 bs %d\b' % at, text)[1]
+    asks = re.search(r'(?s)\nsamplerValid x =\n(.*?)\n\n', text)[1]
+    above = re.search(r'leZ \(x \.%s\) \(x \.(\w+)\)' % name, asks)
+    spread = re.search(r'leZ \(x \.%s -ℤ x \.(\w+)\) \(pos No\.(\w+)\)' % name, asks)
+    stated = re.search(r'within (\d+) No\.(\w+) \(x \.%s\)' % name, asks)
+    if above:
+        return 'up to ' + above[1]
+    return 'up to %s + %s' % (spread[1], format(most[spread[2]], ',')) if spread else between(stated, most)
 
 
 def defined_field(row, at, kind, most):
     stated = re.match(r'\(%sIn %d (\d+) No\.(\w+)\)' % (kind, at), row['field'])
     naming = re.match(r'\(names(?: K\.(\w+)|Local) %d\)' % at, row['naming'])
+    if row['field'] == 'ofSampler':
+        return at, kind, of_sampler(at, most)
     if stated:
-        return at, kind, '%s..%s' % (stated[1], format(most[stated[2]], ','))
+        return at, kind, between(stated, most)
     return at, kind, 'a ' + (naming[1] or 'local') if naming else ''
 
 
 def defined_records():
     """The table of Record.antt, as `records` gives that of the page."""
     text, kinds, most = spec('Record'), constants(spec('Kinds')), defined()[3]
-    entity = re.search(r'entityOf bs = (record .*)', text)[1]
+    whole = dict(re.findall(r'(?m)^((?:entity|sampler)Of bs) = (record .*)', text))
     rows = {}
     for line in text.partition('\ntable =\n')[2].partition('∷ []')[0].strip().split('\n'):
         row = ROW.match(line.strip().removeprefix('∷ ')).groupdict()
-        read = re.findall(r'\b([ui]\d+) bs (\d+)', row['says'].replace('entityOf bs', entity))
+        says = re.sub(r'\w+Of bs', lambda found: whole[found[0]], row['says'])
+        read = re.findall(r'\b([ui]\d+) bs (\d+)', says)
         tail = row['tail'] or 'nothing'
         size = '%d%s' % (4 + int(row['head']) + TAILS[tail][0], TAILS[tail][1])
         found = [defined_field(row, int(at), kind, most) for kind, at in read]
@@ -144,7 +166,7 @@ def defined_steps():
     for name, doer in re.findall(r'(?m)^  act \(?(\w+)[^=]*= (\w+)', code['act']) + [('end of a block', 'ends'),
                                                                                      ('return notice', 'occurs')]:
         body = code[doer] + ''.join(code[other] for other in ('notify', 'freeAll') if other + ' ' in code[doer])
-        needs = ['SUM'] * ('← eval' in body) + re.findall(r'need No\.(\w+)', body)
+        needs = ['SUM'] * ('← worth' in body) + re.findall(r'need No\.(\w+)', body)
         lines = {kinds[kind] for kind in re.findall(r'No\.(\w+)', body) if kind in kinds}
         rows[name] = ([faults[need] for need in needs], sorted(lines), 'walk m' in body)
     return rows
@@ -182,6 +204,25 @@ def tables():
     ]
 
 
+def compare_draws():
+    """The draws worked out by hand, and the 10,000th seed, by the numbers of Generator.antt."""
+    numbers = constants(spec('Generator'))
+    multiplier, modulus = numbers['multiplier'], numbers['modulus']
+    low, high, seed = map(int, re.search(r'\(lowest (\d+), highest (\d+), .*\) and the seed (\d+):', PAGE).groups())
+    for row in table('Draw', 'Seed', '%s × seed' % format(multiplier, ',')):
+        product = multiplier * seed
+        said = [seed, product, product % modulus, product % modulus % (high - low + 1)]
+        said.append(low + said[-1])
+        if [number(cell) for cell in row[1:]] != said:
+            yield 'the %s draw is %s' % (row[0], said)
+        seed = said[2]
+    seed = 1
+    for _ in range(10000):
+        seed = multiplier * seed % modulus
+    if 'From seed 1 the 10,000th seed is\n%s.' % format(seed, ',') not in PAGE:
+        yield 'from seed 1 the 10,000th seed is %d' % seed
+
+
 def compare_tables():
     for name, said, meant in tables():
         for key in sorted(set(said) | set(meant)):
@@ -198,7 +239,7 @@ def record(kind, body=b''):
 
 def lowest(rest, kind):
     """A value that a field may have. A block that an action names is block 1; a class's body is block 0."""
-    return int(rest.partition('..')[0]) if '..' in rest else int(rest == 'a BLOCK' and kind > 7)
+    return int(rest.partition('..')[0]) if '..' in rest else int(rest == 'a BLOCK' and kind >= ACTIONS)
 
 
 def body_of(row, other=None, value=0):
@@ -214,9 +255,11 @@ def wrong_fields(row, declared):
         if '..' in rest:
             low, high = map(number, rest.split('..'))
             yield from ((at, value, 6) for value in [low - 1] * (low > 0) + [high + 1])
+        elif rest.startswith('up to '):
+            yield at, number('0' + rest.partition(' + ')[2]) + 1, 6
         elif rest:
             yield at, declared[rest.removeprefix('a ')], 8
-            if rest == 'a BLOCK' and row[0] > 7:
+            if rest == 'a BLOCK' and row[0] >= ACTIONS:
                 yield at, 0, 9
 
 
@@ -229,7 +272,7 @@ def tried():
     block = record(rows['BLOCK'][0])
     for name, row in rows.items():
         kind, most = row[:2]
-        before, behind = (ground, block * 2) if kind <= 7 else (ground + block, block)
+        before, behind = (ground, block * 2) if kind < ACTIONS else (ground + block, block)
         known = int(name in things)
         right = body_of(row)
         refused = 'refused %d at ' + str(len(before))
@@ -343,7 +386,8 @@ def main(words):
     elif words:
         said, wrong = words[-1] + ' prints what it says', list(compare_runs(words))
     else:
-        said, wrong = 'its tables are those of the definitions', [*compare_tables(), *compare_header(), *compare_files()]
+        said, wrong = 'its tables are those of the definitions', [
+            *compare_tables(), *compare_draws(), *compare_header(), *compare_files()]
     if wrong:
         sys.exit('\n'.join(['docs/MODEL.md:'] + wrong))
     print('docs/MODEL.md:', said)

@@ -24,7 +24,8 @@ use Rattle.act_walk.proofs.Going.{is-sized, shown, woken-held, woken-fl
 abbrev behind : List Line → Next → Next
 behind ls n = record { state = n .state; lines = ls ++ n .lines }
 
--- IN THE MIDDLE of the walk v, of which `wrote` lines are written: k were passed and are still blocked, `left` are left to visit.
+-- IN THE MIDDLE of the walk v, of which `wrote` lines are written: k were passed and are still blocked, `left` are left to
+-- visit.
 pub record Midway {bs row w₀ : List ℕ} (v : Walking bs row w₀) (at : ℕ) (out₀ w out : List ℕ) (left k wrote : ℕ) : Type 0 where
   pub is : State
   pub shows : w ≡ workOf is

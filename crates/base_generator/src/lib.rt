@@ -1,10 +1,10 @@
 // The generator of samples: the seed after a seed, and what is drawn when a seed has become this one.
 ghost use mathlib.Core.Path.{_≡_};
-ghost use Prim.Native.Nat.{_≤_};
+ghost use Prim.Native.Nat.{_+_, _-_, _≤_};
 ghost use Rattle.semantics.specs.Generator.{nextSeed, drawn};
 ghost use Rattle.base_numbers.specs.Limit as Limit;
-ghost use Rattle.base_i32.specs.Code.{code};
-ghost use Rattle.base_generator.specs.Drawing.{Spread};
+ghost use Rattle.base_numbers.specs.Code as Code;
+ghost use Rattle.base_i32.specs.Code.{code, valueOf};
 
 const MULTIPLIER: u64 = 16807;
 
@@ -17,10 +17,10 @@ pub fn next_seed(seed: u64) -> u64
     MULTIPLIER * seed % MODULUS
 }
 
-// The code of what is drawn from `values` values, of which the lowest has the code `lowest`.
+// The code of what is drawn from so many values, of which the lowest has this code.
 pub fn drawn(lowest: u32, values: u32, seed: u64) -> u32
-    requires { ⌜ Spread lowest values ⌝ }
-    ensures { λ r. ⌜ ((x : Spread lowest values) → r ≡ code (drawn (x .low) (x .high) seed)) ⌝ }
+    requires { ⌜ (1 ≤ values) × (lowest + values ≤ Code.CODES) ⌝ }
+    ensures { λ r. ⌜ r ≡ code (drawn (valueOf lowest) (valueOf (lowest + values - 1)) seed) ⌝ }
 {
     lowest + (seed % base_wide::wide(values)) as u32
 }

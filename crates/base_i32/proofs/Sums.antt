@@ -69,7 +69,7 @@ sub-stands a b p q h = go (ltb a b) refl
     go true e = omega (arith, ltb-true a b e)
     go false e = omega (arith, ltb-false a b e)
 
-sum-stands : (v w : ℤ) (p q r s : ℕ) → Difference v p q → Difference w r s → Difference (v +ℤ w) (p + r) (q + s)
+pub sum-stands : (v w : ℤ) (p q r s : ℕ) → Difference v p q → Difference w r s → Difference (v +ℤ w) (p + r) (q + s)
 sum-stands (pos a) (pos b) p q r s d e = omega arith
 sum-stands (pos a) (negsuc b) p q r s d e = sub-stands a (suc b) (p + r) (q + s) (omega arith)
 sum-stands (negsuc a) (pos b) p q r s d e = sub-stands b (suc a) (p + r) (q + s) (omega arith)

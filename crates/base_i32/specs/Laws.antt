@@ -2,11 +2,11 @@
 -- Assumes nothing.
 use mathlib.Core.Path.{_≡_, refl, sym, _∙_, ap}
 use mathlib.Core.Bool.{Bool, true, false}
-use Prim.Native.Nat.{ℕ, _+_, _-_, _%_, _≤_, _<_}
+use Prim.Native.Nat.{ℕ, zero, suc, _+_, _-_, _%_, _≤_, _<_}
 use native.Mathlib.Omega.{arith}
 use borrow.Author.Tests.{lt-ltb, le-ltb, ltb-true, ltb-false, le-leb, lt-leb, leb-true, leb-false}
 use lib.Dec.{leb, ltb}
-use lib.IntN.{ℤ, pos, negsuc}
+use lib.IntN.{ℤ, pos, negsuc, subℕ, _-ℤ_}
 use lib.Signed.{mag, leZ}
 use Rattle.semantics.specs.Words.{if_then_else_, Outcome, ok, fails, _>>_, need}
 use Rattle.semantics.specs.Numbers as No
@@ -71,7 +71,33 @@ value-order x y = in-order (valueOf x) (valueOf y) x y (value-stands x) (value-s
 pub code-order : (v w : ℤ) → mag v < Code.ZERO → mag w < Code.ZERO → leb (code v) (code w) ≡ leZ v w
 code-order v w h k = sym (value-order (code v) (code w)) ∙ rw (valueOf-code v h, valueOf-code w k)
 
--- TWO'S COMPLEMENT. Half of 2^32 on, either way.
+-- How far one number is above another, by their codes.
+sub-is : (a b n : ℕ) → a ≡ b + n → subℕ a b ≡ pos n
+sub-is a b n e = rw (le-ltb a b (omega arith)) (ap pos (omega arith))
+
+above : (v w : ℤ) (x y : ℕ) → Difference v x Code.ZERO → Difference w y Code.ZERO → x ≤ y → w -ℤ v ≡ pos (y - x)
+above (pos zero) (pos b) x y d e h = ap pos (omega arith)
+above (pos (suc a)) (pos b) x y d e h = sub-is b (suc a) (y - x) (omega arith)
+above (pos a) (negsuc b) x y d e h = absurd (omega arith)
+above (negsuc a) (pos b) x y d e h = ap pos (omega arith)
+above (negsuc a) (negsuc b) x y d e h = sub-is (suc a) (suc b) (y - x) (omega arith)
+
+code-at : (v : ℤ) → mag v < Code.ZERO → Difference v (code v) Code.ZERO
+unfolding code
+code-at (pos n) h = refl
+code-at (negsuc n) h = omega arith
+
+pub code-above : (v w : ℤ) → mag v < Code.ZERO → mag w < Code.ZERO → code v ≤ code w → w -ℤ v ≡ pos (code w - code v)
+code-above v w h k l = above v w (code v) (code w) (code-at v h) (code-at w k) l
+
+-- TWO'S COMPLEMENT. What is read so is in the range; half of 2^32 on, either way.
+pub signed-fits : (n : ℕ) → mag (signed n) < Code.ZERO
+signed-fits n = go (ltb n Code.ZERO) refl
+  where
+    go : (t : Bool) → ltb n Code.ZERO ≡ t → mag (if t then pos n else negsuc (Code.HIGHEST - n)) < Code.ZERO
+    go true e = ltb-true n Code.ZERO e
+    go false e = omega (arith, ltb-false n Code.ZERO e)
+
 pub signed-turned : (n : ℕ) → n < Code.CODES → code (signed n) ≡ turned n
 unfolding code turned
 signed-turned n h = go (ltb n Code.ZERO) refl

@@ -199,7 +199,8 @@ pub mod limit {
 
     pub const SEED_WORD: u64 = SEED as u64;
 
-    // Of a run: a time, a process's number, what a bin holds, living processes, returns that wait, the lines of one step.
+    // Of a run: a time, a process's number, what a bin holds, living processes, returns that wait, the lines that a step asks
+    // room for.
     pub const LATEST: u64 = 2000000000;
 
     pub const LAST_NUMBER: u64 = 2147483647;
@@ -370,8 +371,8 @@ pub mod map {
     pub const WORDS: usize = VALUES + limit::SAMPLERS;
 }
 
-// How numbers are packed into one word: a name in the plural is how many a part can tell apart, one in the singular what one more
-// of a part adds to the word.
+// How numbers are packed into one word: a name in the plural is how many a part can tell apart, one in the singular what one
+// more of a part adds to the word.
 pub mod word {
     // A block that a process is in: the block, the index of the action where it stands in it, the rounds left.
     pub const BLOCKS: u64 = 65536;
@@ -424,8 +425,8 @@ pub mod byte {
     pub const TWO: u32 = 65536;
 }
 
-// Limits as words, which a row has: how many there may be, and the largest amount, code of a number, word of a slave, word of one
-// that waits, and key of an event.
+// Limits as words, which a row has: how many there may be, and the largest amount, code of a number, word of a slave, word of
+// one that waits, and key of an event.
 pub mod most {
     use super::code;
     use super::limit;

@@ -15,8 +15,8 @@ use Rattle.semantics.specs.Model.{Expr, Share, Action, HOLD, PRIO, TRACE, SET, 
 use Rattle.semantics.specs.Model.{WHILE, START, CLOSE, Model, block}
 use Rattle.semantics.specs.Bytes.{u16, u32, parts}
 use Rattle.semantics.specs.Record.{expressionIn, claimIn, shareOf, sharesIn, branchesIn, Tail, nothing, expression, branches}
-use Rattle.semantics.specs.Record.{claim, shares, sized, valid, Entry, RES, BIN, SYNC, VAR, CLASS, BLOCK, ENTITY, ACTION, Row}
-use Rattle.semantics.specs.Record.{table, rowOf}
+use Rattle.semantics.specs.Record.{claim, shares, sized, valid, Entry, RES, BIN, SYNC, VAR, CLASS, BLOCK, ENTITY, SAMPLER}
+use Rattle.semantics.specs.Record.{ACTION, Row, table, rowOf}
 use Rattle.promises.specs.Laws.{and-true, AllOf, all-at, _&_}
 use Rattle.promises.specs.Fit.{ExprFit, ActFit, Fit}
 use Rattle.promises.specs.Passes.{its-row}
@@ -85,6 +85,7 @@ SaysEntry bs (VAR v) = Unit {0}
 SaysEntry bs (CLASS b) = Unit {0}
 SaysEntry bs BLOCK = Unit {0}
 SaysEntry bs (ENTITY x) = Unit {0}
+SaysEntry bs (SAMPLER x) = Unit {0}
 SaysEntry bs (ACTION x) = Says bs x
 
 abbrev RowSays : List ℕ → Row → Type 0
@@ -127,7 +128,7 @@ module _ (bs : List ℕ) where
 
   rows-say : AllOf (RowSays bs) table
   rows-say =
-      (λ s. tt) & (λ s. tt) & (λ s. tt) & (λ s. tt) & (λ s. tt) & (λ s. tt) & (λ s. tt)
+      (λ s. tt) & (λ s. tt) & (λ s. tt) & (λ s. tt) & (λ s. tt) & (λ s. tt) & (λ s. tt) & (λ s. tt)
       & (λ s. tail-reads expressionIn s)
       & (λ s. tail-reads expressionIn s)
       & (λ s. headed (s .head-there) (tail-reads expressionIn s))

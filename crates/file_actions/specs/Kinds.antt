@@ -9,7 +9,7 @@ use Rattle.semantics.specs.Kinds as K
 use Rattle.semantics.specs.Model.{Expr, Claim, Branch, Share, Action, HOLD, PRIO, TRACE, SET, LSET, DO, PUTR, PUTB, PUTS}
 use Rattle.semantics.specs.Model.{BECOME, REQ, TRY, WHILE, START, CLOSE, kindOf}
 use Rattle.semantics.specs.Bytes.{u16}
-use Rattle.semantics.specs.Record.{Entry, RES, BIN, SYNC, VAR, CLASS, BLOCK, ENTITY, ACTION, Row, table}
+use Rattle.semantics.specs.Record.{Entry, RES, BIN, SYNC, VAR, CLASS, BLOCK, ENTITY, SAMPLER, ACTION, Row, table}
 use Rattle.promises.specs.Laws.{AllOf}
 use Rattle.promises.specs.Passes.{its-row}
 use Rattle.file_index.specs.Ties.{kindAt, bodyAt, ActionAt}
@@ -23,6 +23,7 @@ kindIn (VAR v) = K.VAR
 kindIn (CLASS b) = K.CLASS
 kindIn BLOCK = K.BLOCK
 kindIn (ENTITY x) = K.ENTITY
+kindIn (SAMPLER x) = K.SAMPLER
 kindIn (ACTION x) = kindOf x
 
 -- Every row says entries of its kind.

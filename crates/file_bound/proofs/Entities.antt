@@ -31,7 +31,7 @@ rows-make : (bs : List ℕ) → AllOf (RowMakes bs) table
 rows-make bs =
     (λ g. refl) & (λ g. refl) & (λ g. refl) & (λ g. refl) & (λ g. refl) & (λ g. refl) & (λ g. refl) & (λ g. refl)
     & (λ g. refl) & (λ g. refl) & (λ g. refl) & (λ g. refl) & (λ g. refl) & (λ g. refl) & (λ g. refl) & (λ g. refl)
-    & (λ g. refl) & (λ g. refl) & (λ g. refl) & (λ g. refl) & (λ g. refl) & (λ g. refl) & tt
+    & (λ g. refl) & (λ g. refl) & (λ g. refl) & (λ g. refl) & (λ g. refl) & (λ g. refl) & (λ g. refl) & tt
 
 pub entities-of : (at k : ℕ) (bs : List ℕ) (rs : List Raw) → Judged k bs →
     gather (raw at k bs ∷ rs) .model .entities ≡ entityIn k bs ++ gather rs .model .entities

@@ -28,8 +28,8 @@ use Rattle.file_bound.specs.Endable.{Endable, Bodied}
 use Rattle.file_bound.proofs.Arrays.{Arrays, modelOf, readable, fit}
 use Rattle.file_bound.proofs.Entities.{entityIf, entityIn, entities-of, entity-head, due, due-all, due-none, due-more}
 
--- At byte place `at` of the file s, w and what the ENTITY records to come weigh are the bound, under the cap; these name classes that
--- there are; and the memo is right.
+-- At byte place `at` of the file s, w and what the ENTITY records to come weigh are the bound, under the cap; these name classes
+-- that there are; and the memo is right.
 pub record Going (s bodies first from goes own times : List ℕ) (n : ℕ) (memo : List ℕ) (w at : ℕ) : Type 0 where
   pub on : Fine (onward s at)
   pub made-for : Arrays (modelOf s) bodies first from goes own times n

@@ -101,7 +101,7 @@ six-bytes (suc (suc (suc (suc zero)))) f g = refl
 six-bytes (suc (suc (suc (suc (suc t))))) f g = refl
 
 pub last-test : (t : ℕ) → (t ≡ 0 → ⊥) → (t ≡ 1 → ⊥) → (t ≡ 2 → ⊥) → (t ≡ 3 → ⊥) → (t ≡ 4 → ⊥) →
-    (n x : List ℕ) → passes t n x ≡ nodeKnown (getD n 4 0) x
+    (n x : List ℕ) → passes t n x ≡ nodeKnown (getD n K.VAR 0) (getD n K.SAMPLER 0) x
 last-test zero e₀ e₁ e₂ e₃ e₄ n x = absurd (e₀ refl)
 last-test (suc zero) e₀ e₁ e₂ e₃ e₄ n x = absurd (e₁ refl)
 last-test (suc (suc zero)) e₀ e₁ e₂ e₃ e₄ n x = absurd (e₂ refl)

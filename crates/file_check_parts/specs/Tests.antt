@@ -4,6 +4,7 @@ use Prim.Native.Nat.{ℕ}
 use mathlib.Core.List.{List, [], _∷_}
 use mathlib.Core.Bool.{Bool, true, false}
 use lib.ListN.{getD}
+use Rattle.semantics.specs.Kinds as K
 use Rattle.semantics.specs.Record.{Part, item, share, partValid, nodeValid}
 use Rattle.semantics.specs.Decode.{partKnown, nodeKnown}
 
@@ -13,7 +14,10 @@ sizeOf test = getD (8 ∷ 6 ∷ 6 ∷ 8 ∷ 6 ∷ []) test 6
 
 abbrev pub passes : ℕ → List ℕ → List ℕ → Bool
 passes test n =
-    getD (partValid item ∷ partValid share ∷ nodeValid ∷ partKnown item n ∷ partKnown share n ∷ []) test (nodeKnown (getD n 4 0))
+    getD
+    (partValid item ∷ partValid share ∷ nodeValid ∷ partKnown item n ∷ partKnown share n ∷ [])
+    test
+    (nodeKnown (getD n K.VAR 0) (getD n K.SAMPLER 0))
 
 -- Which part a flag of the code means.
 abbrev pub partOf : Bool → Part

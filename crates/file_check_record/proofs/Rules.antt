@@ -7,20 +7,24 @@ use native.Mathlib.Omega.{arith}
 use borrow.Author.Tests.{eqb-true, leb-true, le-leb, lt-leb}
 use lib.Dec.{leb, ltb, eqb}
 use lib.ListN.{length, getD, take, drop}
+use lib.Signed.{leZ}
 use Rattle.semantics.specs.Words.{if_then_else_, need, _>>_, all, within}
 use Rattle.semantics.specs.Numbers as No
 use Rattle.semantics.specs.Kinds as K
-use Rattle.semantics.specs.Bytes.{u16}
+use Rattle.semantics.specs.Bytes.{u16, u32, i32}
 use Rattle.semantics.specs.Record.{Row, Tail, sized, valid, twice, inSet, bodyJudged, table, rowIn, rowOf, branchesFrom}
 use Rattle.semantics.specs.Record.{branchOf}
-use Rattle.semantics.specs.Record.{branchesIn, Field, anyValue, u16In, u32In, Naming, nameless, names, namesLocal}
+use Rattle.semantics.specs.Record.{branchesIn, samplerOf, samplerValid, Field, anyValue, u16In, u32In, ofSampler, Naming}
+use Rattle.semantics.specs.Record.{nameless, names, namesLocal}
 use Rattle.semantics.specs.Decode.{placed, judged, fieldKnown, tailKnown, innerOf, named}
 use Rattle.base_numbers.specs.Group as Group
+use Rattle.base_i32.specs.Code.{code}
+use Rattle.base_i32.specs.Laws.{code-order, code-above, signed-fits}
 use Rattle.file_check_parts.proofs.Laws.{rest-of}
 use Rattle.file_check_tails.specs.Tails.{tailOf, branchPasses}
 use Rattle.file_check_tails.proofs.Branches.{and-left, and-right}
-use Rattle.file_check_record.specs.Rows.{numberOf, fieldSize, fieldAt, fieldLow, fieldHigh, numberAt, namingOf, namingAt}
-use Rattle.file_check_record.specs.Rows.{tailNumber}
+use Rattle.file_check_record.specs.Rows.{numberOf, SAMPLER_BYTES, fieldSize, fieldAt, fieldLow, fieldHigh, numberAt}
+use Rattle.file_check_record.specs.Rows.{namingOf, namingAt, tailNumber}
 use Rattle.file_check_record.proofs.Table.{holds, tail-back}
 
 -- WHAT THE CODE READ of a row and of a body is what the row says.
@@ -29,11 +33,31 @@ pub tail-is : {A : Type 0} (p : Tail → List ℕ → A) (r : Row) (bs : List �
     p (tailOf t) (take (length bs - h) (drop h bs)) ≡ p (r .tail) (drop (r .head) bs)
 tail-is p r bs h t i j = rw (rest-of h bs, i, j, tail-back (r .tail))
 
-pub in-set-is : (f : Field) (bs : List ℕ) → inSet f bs ≡ within (fieldLow f) (fieldHigh f) (numberAt (fieldSize f) bs
-    (fieldAt f))
-in-set-is anyValue bs = refl
-in-set-is (u16In at lo hi) bs = refl
-in-set-is (u32In at lo hi) bs = refl
+pub in-set-is : (f : Field) (bs : List ℕ) → (fieldSize f ≡ SAMPLER_BYTES → ⊥) →
+    inSet f bs ≡ within (fieldLow f) (fieldHigh f) (numberAt (fieldSize f) bs (fieldAt f))
+in-set-is anyValue bs n = refl
+in-set-is (u16In at lo hi) bs n = refl
+in-set-is (u32In at lo hi) bs n = refl
+in-set-is ofSampler bs n = absurd (n refl)
+
+pub in-sampler-set : (f : Field) (bs : List ℕ) → fieldSize f ≡ SAMPLER_BYTES → inSet f bs ≡ samplerValid (samplerOf bs)
+in-sampler-set anyValue bs e = absurd (omega arith)
+in-sampler-set (u16In at lo hi) bs e = absurd (omega arith)
+in-sampler-set (u32In at lo hi) bs e = absurd (omega arith)
+in-sampler-set ofSampler bs e = refl
+
+-- A SAMPLER is judged by the codes of its ends: x of the lowest value, y of the highest.
+module _ (bs : List ℕ) {x y n : ℕ} (d : x ≡ code (i32 bs 0)) (e : y ≡ code (i32 bs 4)) (f : n ≡ u32 bs 8) where
+  in-order : leZ (i32 bs 0) (i32 bs 4) ≡ leb x y
+  in-order = rw (d, e, code-order (i32 bs 0) (i32 bs 4) (signed-fits (u32 bs 0)) (signed-fits (u32 bs 4)))
+
+  pub sampler-turned : y < x → false ≡ samplerValid (samplerOf bs)
+  sampler-turned h = rw (in-order, lt-leb x y h)
+
+  pub sampler-judged : x ≤ y → leb (y - x) No.topSpread && within 1 No.lastSeed n ≡ samplerValid (samplerOf bs)
+  sampler-judged h =
+      let a = code-above (i32 bs 0) (i32 bs 4) (signed-fits (u32 bs 0)) (signed-fits (u32 bs 4)) (omega arith) in
+      rw (in-order, le-leb x y h, a, d, e, f)
 
 -- THE NUMBERS of checks 5 to 7, 2 to 4, and 8 and 9.
 abbrev thirdOf : ℕ → ℕ → ℕ → Bool → Bool → Bool → ℕ
@@ -154,8 +178,8 @@ data AllRows (P : Row → Type 0) : List Row → Type 0 where
 quiet-row : (bs : List ℕ) → AllRows (Quiet bs) table
 quiet-row bs =
     row plain (row plain (row plain (row plain (row plain (row plain (row plain (row plain (row plain (row plain (row plain
-    (row (λ a b c. absurd (a refl)) (row plain (row plain (row plain (row plain (row plain
-    (row (λ a b c. absurd (b refl)) (row (λ a b c. absurd (c refl)) (row plain (row plain (row plain end)))))))))))))))))))))
+    (row plain (row (λ a b c. absurd (a refl)) (row plain (row plain (row plain (row plain (row plain
+    (row (λ a b c. absurd (b refl)) (row (λ a b c. absurd (c refl)) (row plain (row plain (row plain end))))))))))))))))))))))
   where
     plain : {A B C : Type 0} {x : List ℕ} → A → B → C → x ≡ x
     plain a b c = refl

@@ -8,7 +8,7 @@ use lib.ListN.{length, getD, drop}
 use Rattle.semantics.specs.Words.{if_then_else_, Outcome, ok, fails, Passed}
 use Rattle.semantics.specs.Bytes.{u16, u32}
 use Rattle.semantics.specs.Record.{Row, Tail, nothing, expression, branches, listOf, item, share, sized}
-use Rattle.semantics.specs.Record.{Field, anyValue, u16In, u32In, Naming, nameless, names, namesLocal}
+use Rattle.semantics.specs.Record.{Field, anyValue, u16In, u32In, ofSampler, Naming, nameless, names, namesLocal}
 use Rattle.base_numbers.specs.Group as Group
 use Rattle.base_numbers.specs.Tail as Tail
 
@@ -17,26 +17,34 @@ abbrev pub numberOf : Outcome Passed → ℕ
 numberOf (ok p) = 0
 numberOf (fails n) = n
 
--- The field with a stated set: its size, its place, the set's ends; a free one is the number 0 of no bytes.
+-- The field with a stated set: its size, its place, the set's ends; a free one is the number 0 of no bytes. Those of a sampler,
+-- which are judged together, are told by their size.
+abbrev pub SAMPLER_BYTES : ℕ
+SAMPLER_BYTES = 12
+
 abbrev pub fieldSize : Field → ℕ
 fieldSize anyValue = 0
 fieldSize (u16In at lo hi) = 2
 fieldSize (u32In at lo hi) = 4
+fieldSize ofSampler = SAMPLER_BYTES
 
 abbrev pub fieldAt : Field → ℕ
 fieldAt anyValue = 0
 fieldAt (u16In at lo hi) = at
 fieldAt (u32In at lo hi) = at
+fieldAt ofSampler = 0
 
 abbrev pub fieldLow : Field → ℕ
 fieldLow anyValue = 0
 fieldLow (u16In at lo hi) = lo
 fieldLow (u32In at lo hi) = lo
+fieldLow ofSampler = 0
 
 abbrev pub fieldHigh : Field → ℕ
 fieldHigh anyValue = 0
 fieldHigh (u16In at lo hi) = hi
 fieldHigh (u32In at lo hi) = hi
+fieldHigh ofSampler = 0
 
 abbrev pub numberAt : ℕ → List ℕ → ℕ → ℕ
 numberAt size bs at = if eqb size 4 then u32 bs at else if eqb size 2 then u16 bs at else 0

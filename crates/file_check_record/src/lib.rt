@@ -15,10 +15,10 @@ ghost use Rattle.semantics.specs.Kinds as K;
 ghost use Rattle.semantics.specs.Record.{samplerOf, samplerValid, inSet, bodyJudged, rowOf};
 ghost use Rattle.semantics.specs.Decode.{placed, judged, fieldKnown, innerOf, named};
 ghost use Rattle.base_numbers.specs.Column as Column;
-ghost use Rattle.file_check_record.specs.Rows.{numberOf, columnOf, numberAt, Judged};
+ghost use Rattle.file_check_record.specs.Rows.{numberOf, SAMPLER_BYTES, columnOf, numberAt, Judged};
 
-// A row for each kind from 0 to 30, in the columns of base_numbers::column: GROUP (0: no kind), MOST, HEAD, FIELD_SIZE (0: none),
-// FIELD_AT, LOWEST, HIGHEST, TAIL, NAMING (0: nothing, 17: a local), NAMING_AT.
+// A row for each kind from 0 to 30, in the columns of base_numbers::column: GROUP (0: no kind), MOST, HEAD, FIELD_SIZE (0:
+// none, 12: a sampler's three together), FIELD_AT, LOWEST, HIGHEST, TAIL, NAMING (0: nothing, 17: a local), NAMING_AT.
 const TABLE: [u32; column::KINDS * column::MANY] = [
     0, 0, 0, 0, 0, 0, 0, 0, 0, 0,
     1, 32, 4, 4, 0, 0, 1000000, 0, 0, 0, // 1 RES
@@ -28,7 +28,7 @@ const TABLE: [u32; column::KINDS * column::MANY] = [
     5, 64, 2, 0, 0, 0, 0, 0, 6, 0, // 5 CLASS
     6, 256, 0, 0, 0, 0, 0, 0, 0, 0, // 6 BLOCK
     7, 64, 6, 4, 2, 0, 1000000, 0, 5, 0, // 7 ENTITY
-    8, 16, 12, 0, 0, 0, 0, 0, 0, 0, // 8 SAMPLER
+    8, 16, 12, 12, 0, 0, 0, 0, 0, 0, // 8 SAMPLER
     0, 0, 0, 0, 0, 0, 0, 0, 0, 0,
     0, 0, 0, 0, 0, 0, 0, 0, 0, 0,
     0, 0, 0, 0, 0, 0, 0, 0, 0, 0,
@@ -52,6 +52,9 @@ const TABLE: [u32; column::KINDS * column::MANY] = [
     16, 1024, 0, 0, 0, 0, 0, 1, 0, 0, // 29 TRACE
     16, 1024, 0, 0, 0, 0, 0, 0, 0, 0, // 30 CLOSE
 ];
+
+// The size of a sampler's fields, which are judged together.
+const SAMPLER_BYTES: u32 = 12;
 
 fn entry(kind: u32, column: usize) -> u32
     requires { ⌜ column < Column.MANY ⌝ }
@@ -88,7 +91,7 @@ fn number_at(size: u32, bs: &[u8], at: usize) -> u32
 
 // Whether a sampler's lowest value isn't above its highest, nor too far below it, and its seed is one.
 fn sampler_valid(bs: &[u8]) -> bool
-    requires { ⌜ 12 ≤ length (now bs) ⌝ }
+    requires { ⌜ SAMPLER_BYTES ≤ length (now bs) ⌝ }
     ensures { λ r. ⌜ r ≡ samplerValid (samplerOf (now (bs .entry))) ⌝ }
 {
     let lowest = base_i32::from_twos(file_fields::u32_at(bs, 0));
@@ -104,10 +107,10 @@ fn in_set(kind: u32, bs: &[u8]) -> bool
     requires { ⌜ rowOf kind .head ≤ length (now bs) ⌝ }
     ensures { λ r. ⌜ r ≡ inSet (rowOf kind .field) (now (bs .entry)) ⌝ }
 {
-    if kind == kind::SAMPLER {
+    let size = entry(kind, column::FIELD_SIZE);
+    if size == SAMPLER_BYTES {
         return sampler_valid(bs);
     }
-    let size = entry(kind, column::FIELD_SIZE);
     let at = entry(kind, column::FIELD_AT) as usize;
     let low = entry(kind, column::LOWEST);
     let high = entry(kind, column::HIGHEST);

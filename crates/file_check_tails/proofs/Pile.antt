@@ -33,7 +33,8 @@ agree v (suc (suc (suc (suc (suc (suc zero)))))) = refl
 agree v (suc (suc (suc (suc (suc (suc (suc zero))))))) = refl
 agree v (suc (suc (suc (suc (suc (suc (suc (suc zero)))))))) = refl
 agree v (suc (suc (suc (suc (suc (suc (suc (suc (suc zero))))))))) = refl
-agree v (suc (suc (suc (suc (suc (suc (suc (suc (suc (suc op)))))))))) = refl
+agree v (suc (suc (suc (suc (suc (suc (suc (suc (suc (suc zero)))))))))) = refl
+agree v (suc (suc (suc (suc (suc (suc (suc (suc (suc (suc (suc op))))))))))) = refl
 
 takes-small : (n : Node) → takes n ≤ 2
 unfolding takes

@@ -16,8 +16,8 @@ use Rattle.semantics.specs.Decode.{partKnown}
 unfoldable pub tailOf : ℕ → Tail
 tailOf t = getD (nothing ∷ expression ∷ branches ∷ claim ∷ shares ∷ []) t nothing
 
--- On a branch: 0 its claim's numbers are in their sets; 1 it names nothing twice; 2 its block and all that it names are declared;
--- 3 its block is not below `own`.
+-- On a branch: 0 its claim's numbers are in their sets; 1 it names nothing twice; 2 its block and all that it names are
+-- declared; 3 its block is not below `own`.
 unfoldable pub branchPasses : ℕ → List ℕ → ℕ → List ℕ → Bool
 branchPasses test n own b =
     getD (listValid item (drop 2 b) ∷ not (listTwice item (drop 2 b))

@@ -2,17 +2,23 @@
 use mathlib.Core.Path.{_≡_, refl, _∙_, ap}
 use mathlib.Core.List.{List, [], _∷_}
 use mathlib.Core.Bool.{Bool, true, false}
-use Prim.Native.Nat.{ℕ, zero, suc, _+_, _≤_}
+use Prim.Native.Nat.{ℕ, zero, suc, _+_, _-_, _≤_}
 use native.Mathlib.Omega.{arith}
 use borrow.Author.Tests.{leb-true, leb-false, eqb-true, ne-eqb}
 use lib.Dec.{eqb, leb}
 use lib.ListN.{length, getD, drop, length-map}
+use lib.IntN.{pos, _-ℤ_}
+use lib.Signed.{leZ}
 use Rattle.semantics.specs.Words.{within}
+use Rattle.semantics.specs.Numbers as No
 use Rattle.semantics.specs.Kinds as K
-use Rattle.semantics.specs.Bytes.{u16}
+use Rattle.semantics.specs.Bytes.{u16, u32, i32}
 use Rattle.semantics.specs.Record.{item, listSized, listValid, branchesFrom, branchesFit, Tail, branches, claim, sized, valid}
-use Rattle.semantics.specs.Record.{rowOf}
+use Rattle.semantics.specs.Record.{samplerOf, samplerValid, ofSampler, rowOf}
+use Rattle.semantics.specs.Generator.{valuesIn}
 use Rattle.promises.specs.Laws.{and-true, if-has}
+use Rattle.base_i32.specs.Code.{code}
+use Rattle.base_i32.specs.Laws.{code-order, code-above, signed-fits}
 use Rattle.file_index.specs.Index.{Judged, given, acts, branchBlocks, goesIn}
 use Rattle.file_index.specs.Branches.{Offered, offered, offeredAt, offeredTry, offeredIn}
 use Rattle.file_index.proofs.Records.{sized-by}
@@ -22,6 +28,14 @@ use Rattle.file_index.proofs.Filled.{given-few}
 head-5 : rowOf K.CLASS .head ≡ 2
 unfolding rowOf
 head-5 = refl
+
+head-8 : rowOf K.SAMPLER .head ≡ 12
+unfolding rowOf
+head-8 = refl
+
+field-8 : rowOf K.SAMPLER .field ≡ ofSampler
+unfolding rowOf
+field-8 = refl
 
 head-20 : rowOf K.DO .head ≡ 4
 unfolding rowOf
@@ -62,6 +76,13 @@ module _ {k : ℕ} {bs : List ℕ} (g : Judged k bs) where
   pub class-head : k ≡ K.CLASS → 2 ≤ length bs
   class-head = head-at head-5
 
+  pub sampler-head : k ≡ K.SAMPLER → 12 ≤ length bs
+  sampler-head = head-at head-8
+
+  pub sampler-judged : k ≡ K.SAMPLER → samplerValid (samplerOf bs) ≡ true
+  sampler-judged e =
+      rw (ap (λ x. rowOf x .field) e ∙ field-8) at (sized-by (rowOf k) bs (g .body-judged) .field-valid)
+
   pub do-head : k ≡ K.DO → 4 ≤ length bs
   do-head = head-at head-20
 
@@ -96,6 +117,31 @@ module _ {k : ℕ} {bs : List ℕ} (g : Judged k bs) where
       let v = and-true (within 1 4 (u16 bs 0)) _ (s .1) in
       let w = and-true (leb 1 (u16 bs 0)) _ (v .0) in
       (leb-true 2 (length bs) (a .0), (leb-true (u16 bs 0) 4 (w .1), a .1))
+
+-- THE VALUES of a sampler, by the codes of the lowest and the highest.
+module _ (bs : List ℕ) (v : samplerValid (samplerOf bs) ≡ true) where
+  abbrev low : ℕ
+  low = code (i32 bs 0)
+
+  abbrev high : ℕ
+  high = code (i32 bs 4)
+
+  pub low-first : low ≤ high
+  low-first =
+      let a = and-true (leZ (i32 bs 0) (i32 bs 4)) _ v in
+      leb-true low high (code-order (i32 bs 0) (i32 bs 4) (signed-fits (u32 bs 0)) (signed-fits (u32 bs 4)) ∙ a .0)
+
+  apart : i32 bs 4 -ℤ i32 bs 0 ≡ pos (high - low)
+  apart = code-above (i32 bs 0) (i32 bs 4) (signed-fits (u32 bs 0)) (signed-fits (u32 bs 4)) low-first
+
+  pub values-few : high - low ≤ No.topSpread
+  values-few =
+      let a = and-true (leZ (i32 bs 0) (i32 bs 4)) _ v in
+      let b = and-true (leZ (i32 bs 4 -ℤ i32 bs 0) (pos No.topSpread)) _ (a .1) in
+      leb-true (high - low) No.topSpread (rw apart at (b .0))
+
+  pub values-are : high - low + 1 ≡ valuesIn (i32 bs 0) (i32 bs 4)
+  values-are = rw apart
 
 -- NAMES: at most 4 blocks.
 branches-many : (n : ℕ) (bs : List ℕ) → length (branchesFrom n bs) ≡ n

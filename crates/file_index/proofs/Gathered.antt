@@ -11,15 +11,15 @@ use Rattle.semantics.specs.Words.{if_then_else_, more, collect, any}
 use Rattle.semantics.specs.Kinds as K
 use Rattle.semantics.specs.Model.{Action, Model, body}
 use Rattle.semantics.specs.Bytes.{Raw, raw, torn, u16}
-use Rattle.semantics.specs.Record.{branchesFrom, branchOf, branchesIn, Entry, RES, BIN, SYNC, VAR, CLASS, BLOCK, ENTITY}
+use Rattle.semantics.specs.Record.{branchesFrom, branchOf, branchesIn, Entry, RES, BIN, SYNC, VAR, CLASS, BLOCK, ENTITY, SAMPLER}
 use Rattle.semantics.specs.Record.{ACTION, Row, table, rowOf}
 use Rattle.semantics.specs.Decode.{accepted, placed, saw, firstPass, Gathered, adds, noModel, gather}
 use Rattle.semantics.specs.Bound as Bound
-use Rattle.promises.specs.Laws.{no-way, AllOf, once, set-away}
+use Rattle.promises.specs.Laws.{no-way, _&_, AllOf, once, set-away}
 use Rattle.promises.specs.Passes.{not-accepted, its-row}
 use Rattle.promises.specs.Counted.{groupOf}
 use Rattle.file_index.specs.Index.{Judged, given, Act, acts, actsOf, firstsOf, bodiesOf, ownIn, timesIn, branchBlocks}
-use Rattle.file_index.specs.Index.{goesIn, runs, loopsAt, loopsFrom}
+use Rattle.file_index.specs.Index.{goesIn, runs, loopsAt, loopsFrom, samplerIn, samplersIn}
 use Rattle.file_index.specs.Ties.{timesOf, goesOf}
 use Rattle.file_index.proofs.Records.{Fine, passed-on}
 
@@ -32,6 +32,7 @@ isAct (VAR v) = false
 isAct (CLASS b) = false
 isAct BLOCK = false
 isAct (ENTITY x) = false
+isAct (SAMPLER x) = false
 isAct (ACTION a) = true
 
 abbrev isBlock : Entry → Bool
@@ -42,6 +43,7 @@ isBlock (VAR v) = false
 isBlock (CLASS b) = false
 isBlock BLOCK = true
 isBlock (ENTITY x) = false
+isBlock (SAMPLER x) = false
 isBlock (ACTION a) = false
 
 abbrev classIn : Entry → List ℕ
@@ -52,6 +54,7 @@ classIn (VAR v) = []
 classIn (CLASS b) = b ∷ []
 classIn BLOCK = []
 classIn (ENTITY x) = []
+classIn (SAMPLER x) = []
 classIn (ACTION a) = []
 
 abbrev Shows : ℕ → List ℕ → Entry → Type 0
@@ -62,11 +65,11 @@ RowShows bs r = Shows (r .kind) bs (r .says bs)
 
 rows-show : (bs : List ℕ) → AllOf (RowShows bs) table
 rows-show bs =
-    ((refl, (refl, refl)), ((refl, (refl, refl)), ((refl, (refl, refl)), ((refl, (refl, refl)), ((refl, (refl, refl)),
-    ((refl, (refl, refl)), ((refl, (refl, refl)), ((refl, (refl, refl)), ((refl, (refl, refl)), ((refl, (refl, refl)),
-    ((refl, (refl, refl)), ((refl, (refl, refl)), ((refl, (refl, refl)), ((refl, (refl, refl)), ((refl, (refl, refl)),
-    ((refl, (refl, refl)), ((refl, (refl, refl)), ((refl, (refl, refl)), ((refl, (refl, refl)), ((refl, (refl, refl)),
-    ((refl, (refl, refl)), ((refl, (refl, refl)), tt))))))))))))))))))))))
+    told & told & told & told & told & told & told & told & told & told & told & told & told & told & told & told & told & told
+    & told & told & told & told & told & tt
+  where
+    told : {x y : Bool} {z : List ℕ} → (x ≡ x) × ((y ≡ y) × (z ≡ z))
+    told = (refl, (refl, refl))
 
 shows : (k : ℕ) (bs : List ℕ) → Judged k bs → Shows k bs (rowOf k .says bs)
 shows k bs j =
@@ -100,7 +103,27 @@ bodies-are (raw at k bs ∷ rs) f =
     go g (CLASS b) = refl
     go g BLOCK = refl
     go g (ENTITY x) = refl
+    go g (SAMPLER x) = refl
     go g (ACTION a) = refl
+
+-- SAMPLERS.
+abbrev RowSamples : List ℕ → Row → Type 0
+RowSamples bs r = (g : Gathered) → samplerIn (r .kind) bs ++ g .model .samplers ≡ adds g (r .says bs) .model .samplers
+
+rows-sample : (bs : List ℕ) → AllOf (RowSamples bs) table
+rows-sample bs =
+    (λ g. refl) & (λ g. refl) & (λ g. refl) & (λ g. refl) & (λ g. refl) & (λ g. refl) & (λ g. refl) & (λ g. refl)
+    & (λ g. refl) & (λ g. refl) & (λ g. refl) & (λ g. refl) & (λ g. refl) & (λ g. refl) & (λ g. refl) & (λ g. refl)
+    & (λ g. refl) & (λ g. refl) & (λ g. refl) & (λ g. refl) & (λ g. refl) & (λ g. refl) & (λ g. refl) & tt
+
+pub samplers-are : (rs : List Raw) → Fine rs → samplersIn rs ≡ gather rs .model .samplers
+unfolding samplersIn
+samplers-are [] f = rw gather-none
+samplers-are (torn at ∷ rs) f = absurd f
+samplers-are (raw at k bs ∷ rs) f =
+    let r = its-row (RowSamples bs) (rows-sample bs) k (f .0 .grouped) in
+    rw (gather-more at k bs rs, samplers-are rs (f .1))
+    (ap (λ x. samplerIn x bs ++ gather rs .model .samplers) (r .1) ∙ r .0 (gather rs))
 
 -- BLOCKS begin where the actions before them end.
 pub firsts-are : (n : ℕ) (rs : List Raw) → Fine rs →
@@ -124,6 +147,7 @@ firsts-are n (raw at k bs ∷ rs) f =
     go g (CLASS b) h i = i n
     go g BLOCK h i = let e : n + 0 ≡ n = omega arith in rw e (ap (λ l. n ∷ l) (i n))
     go g (ENTITY x) h i = i n
+    go g (SAMPLER x) h i = i n
     go g (ACTION a) h i =
         let e : n + 1 + length (g .loose) ≡ n + suc (length (g .loose)) = omega arith in
         i (n + 1) ∙ ap (λ z. runs length z (g .model .blocks)) e
@@ -154,6 +178,7 @@ acts-are (raw at k bs ∷ rs) f =
     go g (CLASS b) q i = i
     go g BLOCK q i = i
     go g (ENTITY x) q i = i
+    go g (SAMPLER x) q i = i
     go g (ACTION a) q i = rw (q, i)
 
 -- No action stands before the first BLOCK.
@@ -187,6 +212,7 @@ none-loose seen (raw at k bs ∷ rs) n l e =
     go g (CLASS b) p i = i (away 5 refl)
     go g BLOCK p i = refl
     go g (ENTITY x) p i = i (away 7 refl)
+    go g (SAMPLER x) p i = i (away 8 refl)
     go g (ACTION a) p i = no-way p
 
 -- EACH ACTION by its record. `bodies` are those of the classes of m.
@@ -199,6 +225,7 @@ module _ (start : Bool) (m : Model) (bodies : List ℕ) (same : (c : ℕ) → ge
   ActShows k bs (CLASS b) = Unit {0}
   ActShows k bs BLOCK = Unit {0}
   ActShows k bs (ENTITY x) = Unit {0}
+  ActShows k bs (SAMPLER x) = Unit {0}
   ActShows k bs (ACTION x) =
       (ownIn k ≡ Bound.ownWeight x) × ((timesIn k bs ≡ timesOf x) × ((goesIn start bodies k bs ≡ goesOf start m x)
       × ((b : ℕ) → loopsAt bodies (suc b) k bs ≡ Bound.mayLoop m b x)))
@@ -219,14 +246,70 @@ module _ (start : Bool) (m : Model) (bodies : List ℕ) (same : (c : ℕ) → ge
 
   rows-act : (bs : List ℕ) → AllOf (RowActs bs) table
   unfolding goesIn
-  rows-act bs =
-      (tt, (tt, (tt, (tt, (tt, (tt, (tt, ((refl, (refl, (refl, λ b. refl))), ((refl, (refl, (refl, λ b. refl))),
-      ((refl, (refl, (refl, λ b. refl))), ((refl, (refl, (refl, λ b. refl))), ((refl, (refl, (refl, λ b. refl))),
-      ((refl, (refl, (refl, λ b. refl))), ((refl, (refl, (refl, λ b. refl))), ((refl, (refl, (refl, λ b. refl))),
-      ((refl, (refl, (refl, λ b. refl))), ((refl, (refl, (refl, λ b. refl))),
-      ((refl, (refl, (branch-blocks bs, λ b. refl))), ((refl, (refl, (refl, λ b. refl))),
-      ((refl, (refl, (ap (given start) (same (u16 bs 0)), λ b. starts (u16 bs 0) b))),
-      ((refl, (refl, (refl, λ b. refl))), ((refl, (refl, (refl, λ b. refl))), tt))))))))))))))))))))))
+  rows-act bs = (
+    tt,
+    (
+      tt,
+      (
+        tt,
+        (
+          tt,
+          (
+            tt,
+            (
+              tt,
+              (
+                tt,
+                (
+                  tt,
+                  (
+                    (refl, (refl, (refl, λ b. refl))),
+                    (
+                      (refl, (refl, (refl, λ b. refl))),
+                      (
+                        (refl, (refl, (refl, λ b. refl))),
+                        (
+                          (refl, (refl, (refl, λ b. refl))),
+                          (
+                            (refl, (refl, (refl, λ b. refl))),
+                            (
+                              (refl, (refl, (refl, λ b. refl))),
+                              (
+                                (refl, (refl, (refl, λ b. refl))),
+                                (
+                                  (refl, (refl, (refl, λ b. refl))),
+                                  (
+                                    (refl, (refl, (refl, λ b. refl))),
+                                    (
+                                      (refl, (refl, (refl, λ b. refl))),
+                                      (
+                                        (refl, (refl, (branch-blocks bs, λ b. refl))),
+                                        (
+                                          (refl, (refl, (refl, λ b. refl))),
+                                          (
+                                            (refl, (refl, (ap (given start) (same (u16 bs 0)), λ b. starts (u16 bs 0) b))),
+                                            ((refl, (refl, (refl, λ b. refl))), ((refl, (refl, (refl, λ b. refl))), tt)),
+                                          ),
+                                        ),
+                                      ),
+                                    ),
+                                  ),
+                                ),
+                              ),
+                            ),
+                          ),
+                        ),
+                      ),
+                    ),
+                  ),
+                ),
+              ),
+            ),
+          ),
+        ),
+      ),
+    ),
+  )
 
   pub act-shows : (k : ℕ) (bs : List ℕ) → Judged k bs → (x : Action) → rowOf k .says bs ≡ ACTION x → ActShows k bs (ACTION x)
   act-shows k bs j x e =
@@ -242,6 +325,7 @@ module _ (start : Bool) (m : Model) (bodies : List ℕ) (same : (c : ℕ) → ge
   loopsE b (CLASS x) = false
   loopsE b BLOCK = false
   loopsE b (ENTITY x) = false
+  loopsE b (SAMPLER x) = false
   loopsE b (ACTION x) = Bound.mayLoop m b x
 
   loops-none : (own k : ℕ) (bs : List ℕ) → acts k ≡ false → loopsAt bodies own k bs ≡ false
@@ -259,6 +343,7 @@ module _ (start : Bool) (m : Model) (bodies : List ℕ) (same : (c : ℕ) → ge
       go (CLASS x) q a = loops-none (suc b) k bs a
       go BLOCK q a = loops-none (suc b) k bs a
       go (ENTITY x) q a = loops-none (suc b) k bs a
+      go (SAMPLER x) q a = loops-none (suc b) k bs a
       go (ACTION x) q a = act-shows k bs j x q .1 .1 .1 b
 
   loops-behind : (b : ℕ) (rs : List Raw) → Fine rs → loopsFrom bodies (suc b) rs
@@ -285,6 +370,7 @@ module _ (start : Bool) (m : Model) (bodies : List ℕ) (same : (c : ℕ) → ge
       go g (CLASS x) h i = i b
       go g BLOCK h i = i (suc b)
       go g (ENTITY x) h i = i b
+      go g (SAMPLER x) h i = i b
       go g (ACTION x) h i = rw (i b) (join (Bound.mayLoop m b x) _ _)
 
   pub loops-are : (rs : List Raw) → Fine rs → gather rs .loose ≡ [] →
@@ -309,4 +395,5 @@ module _ (start : Bool) (m : Model) (bodies : List ℕ) (same : (c : ℕ) → ge
       go g (CLASS x) a q i j = rw (loops-none 0 k bs a) (i q)
       go g BLOCK a q i j = rw (loops-none 0 k bs a) j
       go g (ENTITY x) a q i j = rw (loops-none 0 k bs a) (i q)
+      go g (SAMPLER x) a q i j = rw (loops-none 0 k bs a) (i q)
       go g (ACTION x) a q i j = absurd (let z : _≡_ {A = ℕ} 0 1 = cc in omega arith)

@@ -9,6 +9,7 @@ pub mod Rows
 pub mod Indexing
 pub mod Graphing
 pub mod Branching
+pub mod Sampling
 pub mod Runs
 pub mod Gathered
 pub mod Standing

@@ -9,13 +9,14 @@ use lib.ListN.{length, getD, length-set, length-append}
 use Rattle.semantics.specs.Words.{if_then_else_, more, collect}
 use Rattle.semantics.specs.Kinds as K
 use Rattle.semantics.specs.Bytes.{Raw, raw, torn, recordsFrom, u16}
-use Rattle.semantics.specs.Record.{Row, table, rowOf}
+use Rattle.semantics.specs.Record.{samplerOf, Row, table, rowOf}
 use Rattle.semantics.specs.Decode.{accepted, saw, firstPass, noneSeen}
 use Rattle.promises.specs.Laws.{if-has, AllOf, once, once-self, once-same}
 use Rattle.promises.specs.Passes.{not-accepted, its-row}
 use Rattle.promises.specs.Counted.{limits}
 use Rattle.base_numbers.specs.Limit as Limit
 use Rattle.file_index.specs.Index.{Act, Readable, Judged, given, acts, actsOf, firstsOf, bodiesOf, goesBy, runs}
+use Rattle.file_index.specs.Index.{samplerIn, samplersIn}
 use Rattle.file_index.specs.Branches.{offeredBy}
 use Rattle.file_index.proofs.Records.{Fine, fine-all, passed-on}
 use Rattle.file_index.proofs.Bodies.{goes-few, offered-few}
@@ -71,7 +72,7 @@ limited g seen (raw at k bs ∷ rs) n h l e =
     let ih = limited g (saw seen k) rs n (length-set seen j _ ∙ h) (omega arith) (a .1) in
     omega arith
 
--- The kinds of a group, as the tables tell them: CLASS is 5, BLOCK 6, actions 16.
+-- The kinds of a group, as the tables tell them: CLASS is 5, BLOCK 6, SAMPLER 8, actions 16.
 abbrev Tells : ℕ → (ℕ → Bool) → Row → Type 0
 Tells g f r = length (given (f (r .kind)) 0) ≡ once g (r .group)
 
@@ -80,6 +81,9 @@ rows-class = omega arith
 
 rows-block : AllOf (Tells K.BLOCK (λ k. eqb k K.BLOCK)) table
 rows-block = omega arith
+
+rows-sampler : AllOf (Tells K.SAMPLER (λ k. eqb k K.SAMPLER)) table
+rows-sampler = omega arith
 
 rows-act : AllOf (Tells K.ACTION acts) table
 rows-act = omega arith
@@ -124,6 +128,18 @@ acts-count (raw at k bs ∷ rs) f =
     let t = tells K.ACTION acts rows-act k (f .0 .grouped) 0 in
     omega (arith, if-more (acts k) (record { place = at; kind = k; body = bs }) (actsOf rs), acts-count rs (f .1))
 
+samplers-count : (rs : List Raw) → Fine rs → length (samplersIn rs) ≡ countIn K.SAMPLER rs
+unfolding samplersIn countIn
+samplers-count [] f = refl
+samplers-count (torn at ∷ rs) f = absurd f
+samplers-count (raw at k bs ∷ rs) f =
+    let t = tells K.SAMPLER (λ k. eqb k K.SAMPLER) rows-sampler k (f .0 .grouped) 0 in
+    omega (arith, length-append (samplerIn k bs) (samplersIn rs), one (eqb k K.SAMPLER), samplers-count rs (f .1))
+  where
+    one : (b : Bool) → length (if b then samplerOf bs ∷ [] else []) ≡ length (given b 0)
+    one true = refl
+    one false = refl
+
 -- the lists that f gives of the actions, if none is longer than 4
 lists-count : {B : Type 0} (f : Act → List B) →
     ((at k : ℕ) (bs : List ℕ) → Judged k bs → length (f (record { place = at; kind = k; body = bs })) ≤ 4) →
@@ -158,6 +174,9 @@ module _ (s : List ℕ) (r : Readable s) where
 
   pub few-acts : length (actsOf (recordsFrom 0 s)) ≤ Limit.ACTIONS
   few-acts = omega (arith, few K.ACTION refl, acts-count (recordsFrom 0 s) fine)
+
+  pub few-samplers : length (samplersIn (recordsFrom 0 s)) ≤ Limit.SAMPLERS
+  few-samplers = omega (arith, few K.SAMPLER refl, samplers-count (recordsFrom 0 s) fine)
 
   few-lists : {B : Type 0} (f : Act → List B) →
       ((at k : ℕ) (bs : List ℕ) → Judged k bs → length (f (record { place = at; kind = k; body = bs })) ≤ 4) →

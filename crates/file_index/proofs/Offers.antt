@@ -13,7 +13,8 @@ use Rattle.semantics.specs.Words.{all, within}
 use Rattle.semantics.specs.Model.{Action}
 use Rattle.semantics.specs.Bytes.{u16, parts}
 use Rattle.semantics.specs.Record.{item, partValid, partsOf, listSized, listValid, itemOf, claimIn, branchSize, branchesFrom}
-use Rattle.semantics.specs.Record.{branchesFit, branchOf, branchesIn, Entry, RES, BIN, SYNC, VAR, CLASS, BLOCK, ENTITY, ACTION}
+use Rattle.semantics.specs.Record.{branchesFit, branchOf, branchesIn, Entry, RES, BIN, SYNC, VAR, CLASS, BLOCK, ENTITY, SAMPLER}
+use Rattle.semantics.specs.Record.{ACTION}
 use Rattle.semantics.specs.Record.{Row, table, rowOf}
 use Rattle.semantics.specs.Claim.{pass, enterBlock, Offer, offers}
 use Rattle.promises.specs.Laws.{not-some, and-true, true-and, AllOf, _&_}
@@ -203,6 +204,7 @@ module _ (bs : List ℕ) where
   offersIn (CLASS b) = []
   offersIn BLOCK = []
   offersIn (ENTITY e) = []
+  offersIn (SAMPLER e) = []
   offersIn (ACTION x) = offers x
 
   module _ (at : ℕ) (xs : List ℕ) (x : Piece bs at xs) (low : 2 ≤ at) where
@@ -241,7 +243,7 @@ module _ (bs : List ℕ) where
     rows-offer : AllOf RowOffers table
     unfolding offeredIn
     rows-offer =
-        none & none & none & none & none & none & none & none & none & none & none & none & none & none & none & none
+        none & none & none & none & none & none & none & none & none & none & none & none & none & none & none & none & none
         & (λ s. (req-claims (s .tail-sized) (s .tail-valid), tt)) & (λ s. try-claims (s .tail-sized) (s .tail-valid))
         & (λ s. (branch-claims at xs x (s .head-there) (s .tail-sized) (s .tail-valid), tt)) & none & none & none & tt
       where

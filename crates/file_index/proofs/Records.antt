@@ -71,6 +71,7 @@ fine-all seen (raw at k bs ∷ rs) n e =
 pub record Sized (r : Row) (bs : List ℕ) : Type 0 where
   pub head-there : r .head ≤ length bs
   pub tail-sized : sized (r .tail) (drop (r .head) bs) ≡ true
+  pub field-valid : inSet (r .field) bs ≡ true
   pub tail-valid : valid (r .tail) (drop (r .head) bs) ≡ true
 
 pub sized-by : (r : Row) (bs : List ℕ) → bodyJudged r bs ≡ ok passed → Sized r bs
@@ -80,7 +81,12 @@ sized-by r bs e =
     let t = needed-two No.VALUE No.TWICE _ _ (a .1) in
     let s = and-true (leb (r .head) (length bs)) _ (a .0) in
     let v = and-true (inSet (r .field) bs) _ (t .0) in
-    record { head-there = leb-true (r .head) (length bs) (s .0); tail-sized = s .1; tail-valid = v .1 }
+    record {
+      head-there = leb-true (r .head) (length bs) (s .0);
+      tail-sized = s .1;
+      field-valid = v .0;
+      tail-valid = v .1;
+    }
 
 -- BY A READER, from the first byte of the file on.
 pub fine-first : (s : List ℕ) → Readable s → Fine (onward s 0)

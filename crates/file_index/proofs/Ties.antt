@@ -1,27 +1,30 @@
--- The index, the graph and the loops of an accepted file are those of its model. Assumes nothing.
+-- The index, the graph, the loops and the samplers of an accepted file are those of its model. Assumes nothing.
 use mathlib.Core.Path.{_≡_, refl, sym, _∙_, ap}
 use mathlib.Core.List.{List, [], _∷_, map, append-nil}
 use mathlib.Core.Bool.{Bool, true, false}
 use mathlib.Core.Option.{some}
-use Prim.Native.Nat.{ℕ, _+_, _≤_, _<_}
+use Prim.Native.Nat.{ℕ, zero, suc, _+_, _≤_, _<_}
 use native.Mathlib.Omega.{arith}
 use native.Mathlib.Numerals.{add-one}
 use lib.Dec.{leb}
 use borrow.Author.Tests.{leb-true, leb-false}
 use lib.ListN.{length, getD, take, drop, getElem?, length-map}
+use lib.IntN.{pos}
 use lib.Seq.{getD-drop, slice, take-all}
 use Rattle.semantics.specs.Words.{collect}
 use Rattle.semantics.specs.Model.{Action, HOLD, PRIO, TRACE, SET, LSET, DO, PUTR, PUTB, PUTS, BECOME, REQ, TRY, WHILE}
-use Rattle.semantics.specs.Model.{START, CLOSE, Model, block, body}
+use Rattle.semantics.specs.Model.{START, CLOSE, Sampler, Model, block, body, sampler}
 use Rattle.semantics.specs.Bytes.{Raw, recordsFrom, u16}
 use Rattle.semantics.specs.Record.{ACTION}
 use Rattle.semantics.specs.Decode.{noneSeen, inner, gather}
 use Rattle.semantics.specs.Bound.{ownWeight, loops}
+use Rattle.semantics.specs.Generator.{valuesIn}
 use Rattle.promises.specs.Laws.{AllOf, all-at, some-in, over}
 use Rattle.base_numbers.specs.Limit as Limit
+use Rattle.base_i32.specs.Code.{code}
 use Rattle.file_index.specs.Index.{Readable, pad, Act, actsOf, firstsOf, bodiesOf, indexOf, ownIn, timesIn, goesBy, runs}
-use Rattle.file_index.specs.Index.{graphOf, loopsIn}
-use Rattle.file_index.specs.Ties.{timesOf, goesOf, ActionAt, Ties, GraphTies}
+use Rattle.file_index.specs.Index.{graphOf, loopsIn, samplersIn, samplersOf}
+use Rattle.file_index.specs.Ties.{timesOf, goesOf, ActionAt, Ties, GraphTies, SamplerTies}
 use Rattle.file_index.specs.declared.Graph.{Graph}
 use Rattle.file_index.proofs.Records.{Fine, fine-all}
 use Rattle.file_index.proofs.Limits.{few-acts, few-goes, runs-count}
@@ -29,6 +32,7 @@ use Rattle.file_index.proofs.Runs.{pad-at, map-some, some-map, some-at,
 use Rattle.file_index.proofs.Runs.{collect-map, runs-map, runs-over, runs-past, over-next, over-part, collect-length}
 use Rattle.file_index.proofs.Runs.{collect-some, slice-collect}
 use Rattle.file_index.proofs.Gathered.{bodies-are, firsts-are, entryOf, flat, acts-are, none-loose, act-shows, loops-are}
+use Rattle.file_index.proofs.Gathered.{samplers-are}
 use Rattle.file_index.proofs.Standing.{Stands, acts-stand, Accepted}
 
 -- ONE RECORD.
@@ -342,3 +346,28 @@ module _ (bs : List ℕ) (m : Model) (e : Accepted bs m) where
   pub loops-ties : loopsIn (indexOf rs .body) rs ≡ loops m
   unfolding loopsIn
   loops-ties = loops-are true m (indexOf rs .body) same-body rs fine loose ∙ rw is
+
+  -- SAMPLERS.
+  pub samplers-tie : samplersIn rs ≡ m .samplers
+  samplers-tie = samplers-are rs fine ∙ ap (λ g. g .samplers) is
+
+  -- an array with one number for each sampler
+  sampled : (f : Sampler → ℕ) (i : ℕ) → i < length (m .samplers) →
+      getD (pad Limit.SAMPLERS (map f (samplersIn rs))) i 0 ≡ f (sampler m i)
+  sampled f i h =
+      pad-at Limit.SAMPLERS (map f (samplersIn rs)) i ∙ ap (λ l. getD (map f l) i 0) samplers-tie
+      ∙ mapped (m .samplers) i h
+    where
+      mapped : (xs : List Sampler) (i : ℕ) → i < length xs →
+          getD (map f xs) i 0 ≡ f (getD xs i (record { lowest = pos 0; highest = pos 0; seed = 0 }))
+      mapped [] i h = absurd (omega arith)
+      mapped (x ∷ xs) zero h = refl
+      mapped (x ∷ xs) (suc i) h = mapped xs i (omega arith)
+
+  pub sampler-ties : SamplerTies m (samplersOf rs)
+  unfolding samplersOf
+  sampler-ties =
+      record {
+        lowest-are = sampled (λ x. code (x .lowest));
+        values-are = sampled (λ x. valuesIn (x .lowest) (x .highest));
+      }

@@ -8,11 +8,13 @@ use lib.Dec.{eqb}
 use lib.ListN.{length}
 use Rattle.semantics.specs.Words.{if_then_else_, collect}
 use Rattle.semantics.specs.Kinds as K
+use Rattle.semantics.specs.Model.{Sampler}
 use Rattle.semantics.specs.Bytes.{Raw, raw}
+use Rattle.semantics.specs.Record.{samplerOf}
 use Rattle.semantics.specs.Decode.{opened}
 use Rattle.promises.specs.Laws.{if-has}
 use Rattle.file_check_parts.proofs.Laws.{or-false}
-use Rattle.file_index.specs.Index.{Act, given, acts, actsOf, runs, loopsAt, loopsFrom}
+use Rattle.file_index.specs.Index.{Act, given, acts, actsOf, runs, loopsAt, loopsFrom, samplersIn}
 
 -- ACTIONS.
 module _ (at k : ℕ) (bs : List ℕ) (rs : List Raw) where
@@ -47,6 +49,17 @@ module _ (at k : ℕ) (bs : List ℕ) (rs : List Raw) where
             ≡ given b n ++ runs (λ a. length (f a)) (n + length (f act)) (actsOf rs)
         go true h = refl
         go false h = let e : n ≡ n + 0 = omega arith in rw (h refl) (ap (λ m. runs (λ a. length (f a)) m (actsOf rs)) e)
+
+  -- SAMPLERS.
+  pub samplers-turn : (f : Sampler → ℕ) →
+      map f (samplersIn (raw at k bs ∷ rs)) ≡ given (eqb k K.SAMPLER) (f (samplerOf bs)) ++ map f (samplersIn rs)
+  unfolding samplersIn
+  samplers-turn f = go (eqb k K.SAMPLER)
+    where
+      go : (b : Bool) → map f ((if b then samplerOf bs ∷ [] else []) ++ samplersIn rs)
+          ≡ given b (f (samplerOf bs)) ++ map f (samplersIn rs)
+      go true = refl
+      go false = refl
 
 -- LOOPS.
 pub opened-next : (own k : ℕ) → opened own k ≤ own + 1

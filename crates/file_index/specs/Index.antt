@@ -1,5 +1,5 @@
 -- What the rest of the engine reads an accepted model file by: where its blocks, classes and actions stand, which blocks each
--- action names, whether it may loop, and how many things it declares.
+-- action names, whether it may loop, how many things it declares, and what its samplers draw from.
 -- Assumes nothing.
 use Prim.Native.Nat.{ℕ, _+_, _-_, _≤_, _<_}
 use mathlib.Core.Path.{_≡_}
@@ -11,15 +11,18 @@ use lib.Seq.{sets}
 use Rattle.semantics.specs.Words.{if_then_else_, ok, passed, collect}
 use Rattle.semantics.specs.Numbers as No
 use Rattle.semantics.specs.Kinds as K
-use Rattle.semantics.specs.Model.{Model}
+use Rattle.semantics.specs.Model.{Sampler, Model}
 use Rattle.semantics.specs.Bytes.{u16, Raw, raw, torn, recordsFrom}
-use Rattle.semantics.specs.Record.{branchesFrom, branchesFit, rowOf, bodyJudged}
+use Rattle.semantics.specs.Record.{branchesFrom, branchesFit, samplerOf, rowOf, bodyJudged}
 use Rattle.semantics.specs.Decode.{accepted, firstPass, noneSeen, opened}
 use Rattle.semantics.specs.Bound.{ownWeights}
+use Rattle.semantics.specs.Generator.{valuesIn}
 use Rattle.base_numbers.specs.Limit as Limit
+use Rattle.base_i32.specs.Code.{code}
 use Rattle.file_index.specs.declared.Index.{Index}
 use Rattle.file_index.specs.declared.Graph.{Graph}
 use Rattle.file_index.specs.declared.Counts.{Counts}
+use Rattle.file_index.specs.declared.Samplers.{Samplers}
 
 -- The bytes of a file that the first pass accepts.
 pub record Readable (bs : List ℕ) : Type 0 where
@@ -143,7 +146,37 @@ unfoldable pub loopsIn : List ℕ → List Raw → Bool
 unfolding loopsFrom
 loopsIn bodies rs = loopsFrom bodies 0 rs
 
--- HOW MANY resources, bins, syncs and variables a model has.
+-- HOW MANY resources, bins, syncs, variables and samplers a model has.
 abbrev pub countsIn : Model → Counts
 countsIn m =
-    record { resources = length (m .totals); bins = length (m .amounts); syncs = m .syncs; variables = length (m .vars) }
+    record {
+      resources = length (m .totals);
+      bins = length (m .amounts);
+      syncs = m .syncs;
+      variables = length (m .vars);
+      samplers = length (m .samplers);
+    }
+
+-- THE SAMPLERS of the records. Of one record: the sampler that it is, if it is one; the code of its lowest value; how many values
+-- it has.
+abbrev pub samplerIn : ℕ → List ℕ → List Sampler
+samplerIn k bs = if eqb k K.SAMPLER then samplerOf bs ∷ [] else []
+
+abbrev pub lowestIn : ℕ → List ℕ → ℕ
+lowestIn k bs = if eqb k K.SAMPLER then code (samplerOf bs .lowest) else 0
+
+abbrev pub valuesFor : ℕ → List ℕ → ℕ
+valuesFor k bs = if eqb k K.SAMPLER then valuesIn (samplerOf bs .lowest) (samplerOf bs .highest) else 0
+
+unfoldable pub samplersIn : List Raw → List Sampler
+samplersIn [] = []
+samplersIn (torn at ∷ rs) = []
+samplersIn (raw at k bs ∷ rs) = samplerIn k bs ++ samplersIn rs
+
+unfoldable pub samplersOf : List Raw → Samplers
+unfolding samplersIn
+samplersOf rs =
+    record {
+      lowest = pad Limit.SAMPLERS (map (λ x. code (x .lowest)) (samplersIn rs));
+      values = pad Limit.SAMPLERS (map (λ x. valuesIn (x .lowest) (x .highest)) (samplersIn rs));
+    }

@@ -1,4 +1,4 @@
--- What ties the index, the graph, the loops and the branches of an accepted file to its model.
+-- What ties the index, the graph, the loops, the branches and the samplers of an accepted file to its model.
 -- Assumes nothing.
 use Prim.Native.Nat.{ℕ, _+_, _-_, _*_, _≤_, _<_}
 use mathlib.Core.Path.{_≡_}
@@ -9,19 +9,22 @@ use lib.ListN.{length, getD, take, drop, getElem?}
 use lib.Seq.{slice}
 use Rattle.semantics.specs.Words.{collect, all}
 use Rattle.semantics.specs.Model.{Action, HOLD, PRIO, TRACE, SET, LSET, DO, PUTR, PUTB, PUTS, BECOME, REQ, TRY, WHILE, START}
-use Rattle.semantics.specs.Model.{CLOSE, Model, block, body}
+use Rattle.semantics.specs.Model.{CLOSE, Model, block, body, sampler}
 use Rattle.semantics.specs.Bytes.{u16}
 use Rattle.semantics.specs.Record.{item, partValid, partsOf, claimIn, ACTION, rowOf}
 use Rattle.semantics.specs.Claim.{enterBlock, Offer}
 use Rattle.semantics.specs.Bound.{ownWeight}
+use Rattle.semantics.specs.Generator.{valuesIn}
 use Rattle.promises.specs.Laws.{over}
 use Rattle.base_numbers.specs.Limit as Limit
 use Rattle.base_numbers.specs.Item as Item
+use Rattle.base_i32.specs.Code.{code}
 use Rattle.file_index.specs.Index.{Judged, given}
 use Rattle.file_index.specs.Branches.{namedIn}
 use Rattle.file_index.specs.declared.Index.{Index}
 use Rattle.file_index.specs.declared.Graph.{Graph}
 use Rattle.file_index.specs.declared.Branches.{Branches}
+use Rattle.file_index.specs.declared.Samplers.{Samplers}
 
 -- How many times an action weighs what it names, and the blocks that it names: of a START the body of its class, if `start`.
 abbrev pub timesOf : Action → ℕ
@@ -121,3 +124,9 @@ pub record BranchesAt (bs : List ℕ) (r : Branches) (a : ℕ) (os : List Offer)
   pub from-few : getD (r .from) a 0 + length os ≤ Limit.BRANCHES
   pub to-is : getD (r .from) (a + 1) 0 ≡ getD (r .from) a 0 + length os
   pub each : (k : ℕ) (o : Offer) → getElem? os k ≡ some o → BranchAt bs r (getD (r .from) a 0 + k) o
+
+-- What the samplers x draw from is what those of the model m do.
+pub record SamplerTies (m : Model) (x : Samplers) : Type 0 where
+  pub lowest-are : (i : ℕ) → i < length (m .samplers) → getD (x .lowest) i 0 ≡ code (sampler m i .lowest)
+  pub values-are : (i : ℕ) → i < length (m .samplers) →
+      getD (x .values) i 0 ≡ valuesIn (sampler m i .lowest) (sampler m i .highest)

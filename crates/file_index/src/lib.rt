@@ -1,5 +1,6 @@
 // What the rest of the engine reads an accepted model file by: where its blocks, classes and actions stand, which blocks each
-// action names, whether it may loop, the branches of each REQ, TRY and WHILE, and how many things it declares.
+// action names, whether it may loop, the branches of each REQ, TRY and WHILE, how many things it declares, and what its samplers
+// draw from.
 use base_numbers::kind;
 use base_numbers::limit;
 ghost use mathlib.Core.Path.{_≡_};
@@ -14,7 +15,7 @@ ghost use Rattle.semantics.specs.Bytes.{u16, recordsFrom};
 ghost use Rattle.semantics.specs.Decode.{opened, gather};
 ghost use Rattle.base_numbers.specs.Byte as Byte;
 ghost use Rattle.file_index.specs.Index.{Readable, Judged, given, Wrote, indexOf, ownIn, timesIn, branchBlocks, Branched};
-ghost use Rattle.file_index.specs.Index.{goesIn, graphOf, loopsAt, loopsIn, countsIn};
+ghost use Rattle.file_index.specs.Index.{goesIn, graphOf, loopsAt, loopsIn, countsIn, lowestIn, valuesFor, samplersOf};
 ghost use Rattle.file_index.specs.Branches.{bitOf, namedIn, Claimed, offered, offeredTry, offeredIn, rows, Roomy, Noted};
 ghost use Rattle.file_index.specs.Branches.{Tried, branchesOf};
 
@@ -484,17 +485,19 @@ pub fn counts_of(s: &[u8]) -> Counts
 
 // ---- the samplers
 
-// v written at n of `out`, if `on`.
-fn put(on: bool, v: u32, n: usize, out: &mut [u32])
+// v written at n of `out`, if `on`; and where the next is written.
+fn noted_u32(on: bool, v: u32, n: usize, out: &mut [u32]) -> usize
     requires { ⌜ n + length (given on v) ≤ length (now out) ⌝ }
-    ensures { λ _. ⌜ now (out .exit) ≡ sets (now (out .entry)) n (given on v) ⌝ }
+    ensures { λ r. ⌜ Wrote n (given on v) (now (out .entry)) r (now (out .exit)) ⌝ }
 {
     if on {
         out[n] = v;
+        return n + 1;
     }
+    n
 }
 
-// The code of a SAMPLER's lowest value, and how many values it has; 0 of any other record.
+// The code of a SAMPLER's lowest value; 0 of any other record.
 fn lowest_of(kind: u32, bs: &[u8]) -> u32
     requires { ⌜ Judged kind (now bs) ⌝ }
     ensures { λ r. ⌜ r ≡ lowestIn kind (now (bs .entry)) ⌝ }
@@ -505,6 +508,7 @@ fn lowest_of(kind: u32, bs: &[u8]) -> u32
     0
 }
 
+// How many values a SAMPLER has; 0 of any other record.
 fn values_of(kind: u32, bs: &[u8]) -> u32
     requires { ⌜ Judged kind (now bs) ⌝ }
     ensures { λ r. ⌜ r ≡ valuesFor kind (now (bs .entry)) ⌝ }
@@ -524,18 +528,29 @@ pub fn samplers_of(s: &[u8]) -> Samplers
 {
     let mut lowest = [0u32; limit::SAMPLERS];
     let mut values = [0u32; limit::SAMPLERS];
-    let mut n = 0;
+    let mut samplers = 0;
     let mut at = file_reader::first(s);
     while at < s.len() {
         let x = file_reader::read(s, at);
         let kind = x.kind;
         let end = file_reader::next(s, at);
-        let from = at + 4;
-        let on = kind == kind::SAMPLER;
-        put(on, lowest_of(kind, &s[from..end]), n, &mut lowest);
-        put(on, values_of(kind, &s[from..end]), n, &mut values);
-        n = tally(n, on);
+        let bs = &s[at + 4..end];
+        noted_u32(
+            kind == kind::SAMPLER,
+            lowest_of(kind, bs),
+            samplers,
+            &mut lowest,
+        );
+        samplers = noted_u32(
+            kind == kind::SAMPLER,
+            values_of(kind, bs),
+            samplers,
+            &mut values,
+        );
         at = end;
     }
-    Samplers { lowest: lowest, values: values }
+    Samplers {
+        lowest: lowest,
+        values: values,
+    }
 }

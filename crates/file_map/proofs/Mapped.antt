@@ -14,16 +14,17 @@ use Rattle.promises.specs.Fit.{ActFit, Fit}
 use Rattle.promises.specs.Accepted.{accepted-fit}
 use Rattle.base_numbers.specs.Map as Map
 use Rattle.base_numbers.specs.Limit as Limit
-use Rattle.file_index.specs.Index.{indexOf}
+use Rattle.file_index.specs.Index.{indexOf, samplersOf}
 use Rattle.file_index.specs.Branches.{namedIn, branchesOf}
 use Rattle.file_index.specs.Ties.{ActionAt, Ties, ClaimAt, BranchAt}
 use Rattle.file_index.specs.declared.Index.{Index}
 use Rattle.file_index.specs.declared.Branches.{Branches}
+use Rattle.file_index.specs.declared.Samplers.{Samplers}
 use Rattle.file_index.proofs.Standing.{Accepted, accepted-by}
 use Rattle.file_index.proofs.Runs.{some-in-some, collect-length}
-use Rattle.file_index.proofs.Ties.{index-ties}
+use Rattle.file_index.proofs.Ties.{index-ties, sampler-ties}
 use Rattle.file_index.proofs.BranchTies.{branch-ties}
-use Rattle.file_map.specs.Map.{maskOf, claimAt, OfferAt, OffersAt, Mapped}
+use Rattle.file_map.specs.Map.{maskOf, claimAt, OfferAt, OffersAt, Drawn, Mapped}
 use Rattle.file_map.specs.MapOf.{rowsOf, mapOf}
 use Rattle.file_map.proofs.Rows.{Sized, rows-sized, map-at}
 use Rattle.file_map.proofs.Masks.{codeOf, claim-mask, OfferFit, offers-fit}
@@ -38,6 +39,9 @@ module _ (bs : List ℕ) (m : Model) (e : decode bs ≡ accepted m) where
   abbrev r : Branches
   r = branchesOf rs
 
+  abbrev d : Samplers
+  d = samplersOf rs
+
   abbrev words : List ℕ
   words = mapOf rs
 
@@ -50,7 +54,7 @@ module _ (bs : List ℕ) (m : Model) (e : decode bs ≡ accepted m) where
   ties : Ties bs m i
   ties = index-ties bs m reads
 
-  sized : Sized i r
+  sized : Sized i r d
   sized = rows-sized bs (reads .readable)
 
   -- THE ROWS in the map.
@@ -141,7 +145,23 @@ module _ (bs : List ℕ) (m : Model) (e : decode bs ≡ accepted m) where
 
   words-long : length words ≡ Map.WORDS
   unfolding mapOf
-  words-long = let s = sized in omega (arith, collect-length (λ row. row) (rowsOf i r))
+  words-long = let s = sized in omega (arith, collect-length (λ row. row) (rowsOf i r d))
+
+  -- THE SAMPLERS: at most as many as their rows have room for.
+  few-samplers : length (m .samplers) ≤ Limit.SAMPLERS
+  few-samplers = fit .few-samplers
+
+  draws : Drawn m words
+  draws =
+      let s = sized in
+      let t = sampler-ties bs m reads in
+      record {
+        long = words-long;
+        lowest-are = λ j h.
+            map-at bs 8 Map.LOWEST j (omega arith) (omega (arith, few-samplers)) ∙ t .lowest-are j h;
+        values-are = λ j h.
+            map-at bs 9 Map.VALUES j (omega arith) (omega (arith, few-samplers)) ∙ t .values-are j h;
+      }
 
   pub mapped : Mapped bs m (mapOf (recordsFrom 0 bs))
   mapped =
@@ -155,4 +175,5 @@ module _ (bs : List ℕ) (m : Model) (e : decode bs ≡ accepted m) where
         acts-at = act-there;
         offers-at = λ b j x q. rw (same-first b j x q) (offers-there b j x q);
         body-is = λ c h. body-at c h ∙ ties .body-is c;
+        draws = draws;
       }

@@ -1,5 +1,5 @@
 -- What the engine reads an accepted model by, as one row of numbers, the map: where blocks and actions begin, class bodies, and
--- of each branch where its claim stands and what it names. Assumes nothing.
+-- of each branch where its claim stands and what it names; of each sampler what it draws from. Assumes nothing.
 use Prim.Native.Nat.{ℕ, _+_, _-_, _*_, _^_, _≤_, _<_}
 use mathlib.Core.Path.{_≡_}
 use mathlib.Core.List.{List, [], _∷_}
@@ -8,12 +8,14 @@ use mathlib.Core.Option.{some}
 use lib.Bits.{bitOr}
 use lib.ListN.{length, getD, drop, getElem?}
 use Rattle.semantics.specs.Words.{if_then_else_, all}
-use Rattle.semantics.specs.Model.{Kind, resource, bin, sync, get, condition, Claim, Action, Model, block, body}
+use Rattle.semantics.specs.Model.{Kind, resource, bin, sync, get, condition, Claim, Action, Model, block, body, sampler}
 use Rattle.semantics.specs.Bytes.{u16}
 use Rattle.semantics.specs.Record.{item, partValid, partsOf, claimIn}
 use Rattle.semantics.specs.Claim.{Offer, enterBlock, offers, sameKind}
+use Rattle.semantics.specs.Generator.{valuesIn}
 use Rattle.base_numbers.specs.Limit as Limit
 use Rattle.base_numbers.specs.Map as Map
+use Rattle.base_i32.specs.Code.{code}
 use Rattle.file_index.specs.Ties.{ActionAt}
 
 -- THE MAP has Map.WORDS numbers: base_numbers (specs, Map) says where each part begins.
@@ -48,6 +50,13 @@ pub record OffersAt (bs map : List ℕ) (a : ℕ) (os : List Offer) : Type 0 whe
   pub to-is : getD map (Map.FROM + (a + 1)) 0 ≡ getD map (Map.FROM + a) 0 + length os
   pub each : (k : ℕ) (o : Offer) → getElem? os k ≡ some o → OfferAt bs map (getD map (Map.FROM + a) 0 + k) o
 
+-- What the samplers of the model draw from, in the map.
+pub record Drawn (m : Model) (map : List ℕ) : Type 0 where
+  pub long : length map ≡ Map.WORDS
+  pub lowest-are : (i : ℕ) → i < length (m .samplers) → getD map (Map.LOWEST + i) 0 ≡ code (sampler m i .lowest)
+  pub values-are : (i : ℕ) → i < length (m .samplers) →
+      getD map (Map.VALUES + i) 0 ≡ valuesIn (sampler m i .lowest) (sampler m i .highest)
+
 -- The map of the file bs is that of the model m.
 pub record Mapped (bs : List ℕ) (m : Model) (map : List ℕ) : Type 0 where
   pub long : length map ≡ Map.WORDS
@@ -58,3 +67,4 @@ pub record Mapped (bs : List ℕ) (m : Model) (map : List ℕ) : Type 0 where
   pub offers-at : (b j : ℕ) (x : Action) → getElem? (block m b) j ≡ some x →
       OffersAt bs map (getD map b 0 + j) (offers x)
   pub body-is : (c : ℕ) → c < Limit.CLASSES → getD map (Map.BODY + c) 0 ≡ body m c
+  pub draws : Drawn m map

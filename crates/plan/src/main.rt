@@ -1,8 +1,8 @@
 // Reads a model from standard input, runs it for at most 1,000,000 steps and prints its plan.
 //
 // One byte more is read than a model may have, so that a file of over 65,535 bytes is refused like any other. The run is made in
-// turns, each with an empty journal that has room for all that its steps may write, so that 30 is never met. What a turn wrote is
-// printed in one piece.
+// turns, each with an empty journal that has room for all that its steps may write, so that 30 is never met. What a turn wrote
+// is printed in one piece.
 //
 // No contract can say what was written. So `at` counts the bytes that were handed over to be written, and `print` asks that its
 // text is what the plan's text has from there on: from the first byte to the last, nothing twice and nothing left out.

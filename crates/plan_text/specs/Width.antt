@@ -12,8 +12,8 @@ FIELD = 11
 abbrev pub SIGNED : ℕ
 SIGNED = FIELD + 1
 
--- The answer and a blank: `fault` and its number, at the longest. Then the last line: behind the answer the steps, `bound` and the
--- bound.
+-- The answer and a blank: `fault` and its number, at the longest. Then the last line: behind the answer the steps, `bound` and
+-- the bound.
 abbrev pub ANSWER : ℕ
 ANSWER = 6 + FIELD
 

@@ -12,11 +12,11 @@ use lib.IntN.{ℤ, pos}
 use Rattle.semantics.specs.Words.{Outcome, ok, isEmpty, more}
 use Rattle.semantics.specs.Numbers as No
 use Rattle.semantics.specs.Model.{resource, bin, sync, Item, get, condition, Claim, Share, Model, Action, HOLD, PRIO, TRACE}
-use Rattle.semantics.specs.Model.{SET, LSET, DO, PUTR, PUTB, PUTS, BECOME, REQ, TRY, WHILE, START, CLOSE}
+use Rattle.semantics.specs.Model.{SET, LSET, DO, PUTR, PUTB, PUTS, BECOME, REQ, TRY, WHILE, START, CLOSE, Expr}
 use Rattle.semantics.specs.State.{State, Process, Frame, Waiter, Event, Notice, wakes, returnsR, returnsB, Floor, empty, heldBy}
 use Rattle.semantics.specs.State.{nobody, process, put, living, at-clock, with-globals, with-free, with-bins, with-waiting}
-use Rattle.semantics.specs.State.{with-floor, with-events, with-slaves, wake, join, past, into}
-use Rattle.semantics.specs.Value.{eval}
+use Rattle.semantics.specs.State.{with-floor, with-events, with-seeds, with-slaves, wake, join, past, into}
+use Rattle.semantics.specs.Value.{Valued, eval}
 use Rattle.semantics.specs.Claim.{met, takeItem, takeAll, Then, pass, enterBlock, Offer, offers, barred, asks, Choice, waits}
 use Rattle.semantics.specs.Claim.{goes, firstMet, choice, follow, grant}
 use Rattle.semantics.specs.Walk.{Line, Next, line, quiet, after, walkOn, walk}
@@ -27,9 +27,9 @@ use Rattle.semantics.specs.Run.{Room, run}
 use Rattle.promises.specs.Laws.{and-true, if-has, Good, good, stopped, good-bind, good-then, good-need, good-out, AllOf, all-map}
 use Rattle.promises.specs.Laws.{all-set, all-get, all-append}
 use Rattle.promises.specs.Fit.{I32, ActFit, Fit}
-use Rattle.promises.specs.Sound.{ProcOk, ReturnOk, NoticeOk, EventOk, Sound}
+use Rattle.promises.specs.Sound.{ProcOk, ReturnOk, NoticeOk, EventOk, SeedsOk, Sound}
 use Rattle.promises.specs.Keep.{free-or-fine}
-use Rattle.promises.specs.Parts.{eval-good, fit-at, moves-has}
+use Rattle.promises.specs.Parts.{ValuedOk, eval-good, fit-at, moves-has}
 use Rattle.promises.specs.Takes.{still-grant, not-goes, asks-at, choice-has}
 use Rattle.promises.specs.Stays.{step-ok}
 use Rattle.promises.specs.Answers.{run-keeps}
@@ -163,24 +163,27 @@ free-writes i l [] s c h = tt
 free-writes i l (r ∷ rs) s c h =
     (writable c (number-at (s .processes) r h) (omega arith) (small i l), free-writes i l rs (wake (s .clock) r s) c h)
 
--- THE PARTS OF A STATE that lines are made of: the clock, the globals and the processes. In one that is sound they are so small,
+-- THE PARTS OF A STATE that lines are made of: the clock, the globals, the processes and the seeds. In one that is sound they are so small,
 -- also when the clock goes on.
-record Small (c : ℕ) (gs : List ℤ) (ps : List Process) : Type 0 where
+record Small (m : Model) (c : ℕ) (gs : List ℤ) (ps : List Process) (sd : List ℕ) : Type 0 where
   clock-small : c ≤ No.latest
   globals-small : AllOf I32 gs
   numbers-small : Numbered ps
   locals-small : AllOf (λ q. AllOf I32 (q .locals)) ps
+  seeds-small : SeedsOk m sd
 
-abbrev SmallIn : State → Type 0
-SmallIn s = Small (s .clock) (s .globals) (s .processes)
+abbrev SmallIn : Model → State → Type 0
+SmallIn m s = Small m (s .clock) (s .globals) (s .processes) (s .seeds)
 
-sound-small : (m : Model) (s : State) → Sound m s → (c : ℕ) → c ≤ No.latest → Small c (s .globals) (s .processes)
+sound-small : (m : Model) (s : State) → Sound m s → (c : ℕ) → c ≤ No.latest
+    → Small m c (s .globals) (s .processes) (s .seeds)
 sound-small m s h c l =
     record {
       clock-small = l;
       globals-small = h .globals-ok;
       numbers-small = all-map (ProcOk m (s .last)) _ number-small (s .processes) (h .procs-ok);
       locals-small = all-map (ProcOk m (s .last)) _ local-small (s .processes) (h .procs-ok);
+      seeds-small = h .seeds-ok;
     }
   where
     number-small : (q : Process) → ProcOk m (s .last) q → q .number ≤ No.lastNumber
@@ -192,9 +195,12 @@ sound-small m s h c l =
     local-small q o = free-or-fine (AllOf I32 (q .locals)) o (λ e v. rw (v .no-locals) tt) (λ e f. f .locals-ok)
 
 -- WHAT THE PROCESS q in place p, which has the floor, writes.
-module _ (m : Model) (t : Fit m) (s : State) (h : SmallIn s) (p : ℕ) where
+module _ (m : Model) (t : Fit m) (s : State) (h : SmallIn m s) (p : ℕ) where
   abbrev q : Process
   q = process s p
+
+  abbrev worth : Expr → Outcome Valued
+  worth x = eval m s q x (s .seeds)
 
   own : (k : ℕ) (v : ℤ) → k ≤ No.closed → I32 v → Writable (line s (q .number) k v)
   own k v a b = writable (h .clock-small) (number-at (s .processes) p (h .numbers-small)) a b
@@ -256,16 +262,18 @@ module _ (m : Model) (t : Fit m) (s : State) (h : SmallIn s) (p : ℕ) where
 
   act-writes : (a : Action) → ActFit m a → Writes (act m s p a)
   unfolding act hold prio trace setGlobal setLocal putr putb notify close
-  act-writes (HOLD x) k = good-bind (eval s q x) λ v. good-need _ _ λ a. good-need _ _ λ b. good tt
-  act-writes (PRIO x) k = good-bind (eval s q x) λ v. good tt
+  act-writes (HOLD x) k = good-bind (worth x) λ v. good-need _ _ λ a. good-need _ _ λ b. good tt
+  act-writes (PRIO x) k = good-bind (worth x) λ v. good tt
   act-writes (TRACE x) k =
       let locals = all-get (λ q. AllOf I32 (q .locals)) (s .processes) p nobody (h .locals-small) tt in
-      good-then I32 LinesFit (eval s q x) (eval-good m s q (h .globals-small) locals (h .clock-small) x k) λ v i.
-      one-line (own No.traced v (omega arith) i)
+      good-then (ValuedOk m) LinesFit (worth x)
+      (eval-good m t s q (h .globals-small) locals (h .clock-small) x k (s .seeds) (h .seeds-small)) λ v i.
+      one-line (own No.traced (v .value) (omega arith) (i .value-ok))
   act-writes (SET i x) k =
-      good-bind (eval s q x) λ v.
-      good (walk-writes m t (with-globals (put p (past q) s) (set (s .globals) i v)) (h .clock-small) past-numbered)
-  act-writes (LSET i x) k = good-bind (eval s q x) λ v. good tt
+      good-bind (worth x) λ v.
+      good (walk-writes m t (with-globals (with-seeds (put p (past q) s) (v .seeds)) (set (s .globals) i (v .value)))
+      (h .clock-small) past-numbered)
+  act-writes (LSET i x) k = good-bind (worth x) λ v. good tt
   act-writes (DO n b) k = do-writes n b
   act-writes (PUTR i n) k = good-need _ _ λ a. good-need _ _ λ b. good tt
   act-writes (PUTB i n) k = good-need _ _ λ a. good tt
@@ -293,7 +301,7 @@ module _ (m : Model) (t : Fit m) (s : State) (h : SmallIn s) (p : ℕ) where
 -- ONE STEP, and a run.
 module _ (m : Model) (t : Fit m) where
   -- a return, and who is granted then
-  return-writes : (s : State) → SmallIn s → s .last ≤ No.lastNumber → (known k : ℕ) → known ≤ No.mostThings → k ≤ No.closed
+  return-writes : (s : State) → SmallIn m s → s .last ≤ No.lastNumber → (known k : ℕ) → known ≤ No.mostThings → k ≤ No.closed
       → {c : ℤ} {i n g : ℕ} → ReturnOk known (s .last) c i n g → Writes (ok (after (line s g k (pos i)) (walk m s)))
   return-writes s h l known k f e {i = i} {g = g} r =
       let a = r .giver-ok in
@@ -301,7 +309,7 @@ module _ (m : Model) (t : Fit m) where
       own-line (walk m s) (writable (h .clock-small) (omega arith) e (small i (omega arith)))
       (walk-writes m t s (h .clock-small) (h .numbers-small))
 
-  occurs-writes : (s : State) → SmallIn s → s .last ≤ No.lastNumber → (x : Notice) (c : ℤ)
+  occurs-writes : (s : State) → SmallIn m s → s .last ≤ No.lastNumber → (x : Notice) (c : ℤ)
       → NoticeOk m (s .last) (s .processes) c x → Writes (occurs m s x)
   unfolding occurs
   occurs-writes s h l (wakes p) c k = moves-writes m t (with-floor s (heldBy p)) h p

@@ -14,12 +14,12 @@ use Rattle.semantics.specs.Kinds as K
 use Rattle.semantics.specs.Model.{Action, HOLD, PRIO, TRACE, SET, LSET, DO, PUTR, PUTB, PUTS, BECOME, REQ, TRY, WHILE, START}
 use Rattle.semantics.specs.Model.{CLOSE, Model, block, body}
 use Rattle.semantics.specs.Bytes.{u16, Raw, raw, torn}
-use Rattle.semantics.specs.Record.{Entry, RES, BIN, SYNC, VAR, CLASS, BLOCK, ENTITY, ACTION, Row, table, rowOf}
+use Rattle.semantics.specs.Record.{Entry, RES, BIN, SYNC, VAR, CLASS, BLOCK, ENTITY, SAMPLER, ACTION, Row, table, rowOf}
 use Rattle.semantics.specs.Decode.{accepted, saw, firstPass, noneSeen, inner, innerOf, opened, secondPass, Gathered, adds}
 use Rattle.semantics.specs.Decode.{gather, depth, thirdPass, decode}
 use Rattle.semantics.specs.Bound.{mayLoop, loopsFrom, loops}
 use Rattle.promises.specs.Laws.{no-way, or-false, AllOf, all-map, all-both, all-mapped, all-unmap, all-hold, none-hold, _&_}
-use Rattle.promises.specs.Fit.{I32, BranchFit, ActFit, EntityFit, Fit, Linked, Nested, GoesForward, Forward}
+use Rattle.promises.specs.Fit.{I32, BranchFit, ActFit, EntityFit, SamplerFit, Fit, Linked, Nested, GoesForward, Forward}
 use Rattle.promises.specs.Passes.{not-accepted, TwoPasses, Passes, of-accepted, first-on, second-on, third-on, its-row}
 use Rattle.promises.specs.Counted.{groupOf, opens, counts, counted}
 use Rattle.promises.specs.Valued.{EntryFit, entry-fits}
@@ -49,25 +49,26 @@ module _ (m : Model) where
       AllOf (λ n. n ≤ No.topAmount) (g .model .totals) × AllOf (λ n. n ≤ No.topAmount) (g .model .amounts)
       × AllOf I32 (g .model .vars)
       × AllOf (λ b. b < length (m .blocks)) (g .model .classes)
-      × AllOf (EntityFit m) (g .model .entities) × AllOf (ActAt own) (g .loose)
+      × AllOf (EntityFit m) (g .model .entities) × AllOf SamplerFit (g .model .samplers) × AllOf (ActAt own) (g .loose)
       × AllFrom BlockAt own (g .model .blocks)
 
   one-more : (own : ℕ) (e : Entry) (g : Gathered) → EntryFit m e → AllOf (λ k. own ≤ k) (innerOf e)
       → Makes (opened own (groupOf e)) g → Makes own (adds g e)
-  one-more own (RES n) g f o h = ((f, h .0), h .1, h .2, h .3, h .4, h .5, h .6)
-  one-more own (BIN n) g f o h = (h .0, (f, h .1), h .2, h .3, h .4, h .5, h .6)
+  one-more own (RES n) g f o h = ((f, h .0), h .1, h .2, h .3, h .4, h .5, h .6, h .7)
+  one-more own (BIN n) g f o h = (h .0, (f, h .1), h .2, h .3, h .4, h .5, h .6, h .7)
   one-more own SYNC g f o h = h
-  one-more own (VAR v) g f o h = (h .0, h .1, (f, h .2), h .3, h .4, h .5, h .6)
-  one-more own (CLASS b) g f o h = (h .0, h .1, h .2, (f, h .3), h .4, h .5, h .6)
-  one-more own BLOCK g f o h = (h .0, h .1, h .2, h .3, h .4, tt, (h .5, h .6))
-  one-more own (ENTITY x) g f o h = (h .0, h .1, h .2, h .3, (f, h .4), h .5, h .6)
-  one-more own (ACTION a) g f o h = (h .0, h .1, h .2, h .3, h .4, ((f, o), h .5), h .6)
+  one-more own (VAR v) g f o h = (h .0, h .1, (f, h .2), h .3, h .4, h .5, h .6, h .7)
+  one-more own (CLASS b) g f o h = (h .0, h .1, h .2, (f, h .3), h .4, h .5, h .6, h .7)
+  one-more own BLOCK g f o h = (h .0, h .1, h .2, h .3, h .4, h .5, tt, (h .6, h .7))
+  one-more own (ENTITY x) g f o h = (h .0, h .1, h .2, h .3, (f, h .4), h .5, h .6, h .7)
+  one-more own (SAMPLER x) g f o h = (h .0, h .1, h .2, h .3, h .4, (f, h .5), h .6, h .7)
+  one-more own (ACTION a) g f o h = (h .0, h .1, h .2, h .3, h .4, h .5, ((f, o), h .6), h .7)
 
 makes : (n : List ℕ) (g : Gathered) → ((j : ℕ) → getD n j 0 ≡ getD (counts g) j 0)
     → (seen x : List ℕ) (own : ℕ) (rs : List Raw) → firstPass seen rs ≡ accepted x → secondPass n own rs ≡ accepted passed
     → Makes (g .model) own (gather rs)
 unfolding gather firstPass
-makes n g c seen x own [] p q = (tt, tt, tt, tt, tt, tt, tt)
+makes n g c seen x own [] p q = (tt, tt, tt, tt, tt, tt, tt, tt)
 makes n g c seen x own (torn at ∷ rs) p q = not-accepted p
 makes n g c seen x own (raw at k bs ∷ rs) p q =
     let a = first-on at k bs rs seen x p in
@@ -83,7 +84,7 @@ made rs p = makes (p .seen) (gather rs) (λ j. counted rs p j .0) noneSeen (p .s
 
 block-at : (rs : List Raw) → TwoPasses rs → (b : ℕ) → BlockAt (gather rs .model) b (block (gather rs .model) b)
 block-at rs p b =
-    from-at (BlockAt (gather rs .model)) [] (λ j. tt) 0 (gather rs .model .blocks) (made rs p .6) b b (omega arith)
+    from-at (BlockAt (gather rs .model)) [] (λ j. tt) 0 (gather rs .model .blocks) (made rs p .7) b b (omega arith)
 
 -- IT FITS.
 fits : (rs : List Raw) → TwoPasses rs → Fit (gather rs .model)
@@ -95,6 +96,7 @@ fits rs p =
       amounts-fit = h .1;
       vars-fit = h .2;
       entities-fit = h .4;
+      samplers-fit = h .5;
       few-totals = counted rs p K.RES .1;
       few-amounts = counted rs p K.BIN .1;
       few-syncs = counted rs p K.SYNC .1;
@@ -102,6 +104,7 @@ fits rs p =
       few-classes = counted rs p K.CLASS .1;
       few-blocks = counted rs p K.BLOCK .1;
       few-entities = counted rs p K.ENTITY .1;
+      few-samplers = counted rs p K.SAMPLER .1;
       few-actions = omega (arith, counted rs p K.ACTION .1);
     }
 
@@ -149,7 +152,7 @@ module _ (m : Model) where
 
   rows-shallow : AllOf RowShallow table
   rows-shallow =
-      plain & plain & plain & plain & (λ bs g d h. (ltb-false No.deepest (depth m (u16 bs 0)) d, h)) & plain & plain
+      plain & plain & plain & plain & (λ bs g d h. (ltb-false No.deepest (depth m (u16 bs 0)) d, h)) & plain & plain & plain
       & plain & plain & plain & plain & plain & plain & plain & plain & plain & plain & plain & plain & plain & plain & plain
       & tt
     where

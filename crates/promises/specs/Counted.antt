@@ -12,7 +12,7 @@ use Rattle.semantics.specs.Words.{more}
 use Rattle.semantics.specs.Numbers as No
 use Rattle.semantics.specs.Kinds as K
 use Rattle.semantics.specs.Bytes.{Raw, raw, torn}
-use Rattle.semantics.specs.Record.{Entry, RES, BIN, SYNC, VAR, CLASS, BLOCK, ENTITY, ACTION, Row, table, rowOf}
+use Rattle.semantics.specs.Record.{Entry, RES, BIN, SYNC, VAR, CLASS, BLOCK, ENTITY, SAMPLER, ACTION, Row, table, rowOf}
 use Rattle.semantics.specs.Decode.{accepted, saw, firstPass, noneSeen, opened, Gathered, adds, gather}
 use Rattle.promises.specs.Laws.{AllOf, all-get, all-replicate, over, once, once-same, once-self, more-at}
 use Rattle.promises.specs.Passes.{not-accepted, TwoPasses, first-on, its-row}
@@ -26,12 +26,13 @@ groupOf (VAR v) = K.VAR
 groupOf (CLASS b) = K.CLASS
 groupOf BLOCK = K.BLOCK
 groupOf (ENTITY x) = K.ENTITY
+groupOf (SAMPLER x) = K.SAMPLER
 groupOf (ACTION a) = K.ACTION
 
 abbrev pub limits : List ℕ
 limits =
     0 ∷ No.mostThings ∷ No.mostThings ∷ No.mostThings ∷ No.mostThings ∷ No.mostClasses ∷ No.mostBlocks ∷ No.mostEntities
-    ∷ 0 ∷ 0 ∷ 0 ∷ 0 ∷ 0 ∷ 0 ∷ 0 ∷ 0 ∷ No.mostActions ∷ []
+    ∷ No.mostSamplers ∷ 0 ∷ 0 ∷ 0 ∷ 0 ∷ 0 ∷ 0 ∷ 0 ∷ No.mostActions ∷ []
 
 -- Every row says entries of its group, the counts have its group, its limit is its group's, and it opens a block exactly if its
 -- group does.
@@ -70,7 +71,7 @@ abbrev pub counts : Gathered → List ℕ
 counts g =
     0 ∷ length (g .model .totals) ∷ length (g .model .amounts) ∷ g .model .syncs ∷ length (g .model .vars)
     ∷ length (g .model .classes) ∷ length (g .model .blocks) ∷ length (g .model .entities)
-    ∷ 0 ∷ 0 ∷ 0 ∷ 0 ∷ 0 ∷ 0 ∷ 0 ∷ 0 ∷ (over length (g .model .blocks) + length (g .loose)) ∷ []
+    ∷ length (g .model .samplers) ∷ 0 ∷ 0 ∷ 0 ∷ 0 ∷ 0 ∷ 0 ∷ 0 ∷ (over length (g .model .blocks) + length (g .loose)) ∷ []
 
 one-more : (g : Gathered) (e : Entry) → counts (adds g e) ≡ more (counts g) (groupOf e) 1
 one-more g (RES n) = simp (zero-add, add-one)
@@ -82,6 +83,7 @@ one-more g BLOCK =
     let e : over length (g .loose ∷ g .model .blocks) + 0 ≡ over length (g .model .blocks) + length (g .loose) = omega arith in
     rw (add-one, e)
 one-more g (ENTITY x) = simp (zero-add, add-one)
+one-more g (SAMPLER x) = simp (zero-add, add-one)
 one-more g (ACTION a) = simp (add-one, add-suc)
 
 -- THE FIRST PASS counts what it reads, and stays within the limits.

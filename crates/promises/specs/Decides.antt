@@ -304,10 +304,10 @@ module _ (m : Model) (s : State) where
   unfolding soundIn
   decides =
       says-for
-      ((says-eq and says-eq and says-eq and says-eq and says-eq and says-is and says-is
+      ((says-eq and says-eq and says-eq and says-eq and says-eq and says-eq and says-is and says-is
       and says-all says-tied (s .blocked) and says-all (says-all says-tied) (s .waiting))
       and (says-le and says-le and says-all (λ v. says-lt) (s .globals) and says-all (λ n. says-le) (s .bins)
-      and says-is and says-is and says-few (s .events) No.returns)
+      and says-all (λ n. says-within) (s .seeds) and says-is and says-is and says-few (s .events) No.returns)
       and says-is
       and (says-ordered says-late (s .events) and says-ordered says-ranked (s .blocked)
       and says-all (says-ordered says-ranked) (s .waiting) and says-is)
@@ -316,8 +316,8 @@ module _ (m : Model) (s : State) where
       let shape = a .0 in
       let range = a .1 .0 in
       let order = a .1 .1 .1 .0 in
-      let tests = shape .1 .1 .1 .1 .1 in
-      let more = range .1 .1 .1 .1 in
+      let tests = shape .1 .1 .1 .1 .1 .1 in
+      let more = range .1 .1 .1 .1 .1 in
       let rest = a .1 .1 .1 .1 in
       let ps = says-places m s .yes (each-place m s .back (tests .0 & more .0 & a .1 .1 .0 & rest .0)) in
       let es = says-events m s .yes (each-event m s .back (tests .1 .0 & more .1 .0 & order .1 .1 .1)) in
@@ -327,9 +327,9 @@ module _ (m : Model) (s : State) where
       (λ h.
       let p = each-place m s .yes (says-places m s .back (h .procs-ok & h .own-number)) in
       let e = each-event m s .yes (says-events m s .back (h .events-ok)) in
-      (h .places-64 & h .frees-many & h .bins-many & h .vars-many & h .syncs-many
+      (h .places-64 & h .frees-many & h .bins-many & h .vars-many & h .syncs-many & h .seeds-ok .many
       & p .0 & e .0 & h .blocked-tied & h .waiting-tied)
-      & (h .clock-ok & h .last-ok & h .globals-ok & h .bins-ok & p .1 .0 & e .1 .0 & h .few-returns)
+      & (h .clock-ok & h .last-ok & h .globals-ok & h .bins-ok & h .seeds-ok .each & p .1 .0 & e .1 .0 & h .few-returns)
       & p .1 .1 .0
       & (h .events-ordered & h .blocked-ordered & h .waiting-ordered & e .1 .1)
       & p .1 .1 .1

@@ -2,16 +2,16 @@
 -- Assumes nothing.
 use Prim.Native.Nat.{ℕ, _≤_, _<_}
 use mathlib.Core.Path.{_≡_}
-use mathlib.Core.Bool.{Bool, false, _&&_}
+use mathlib.Core.Bool.{Bool, true, false, _&&_}
 use lib.Dec.{eqb}
 use lib.ListN.{length}
 use lib.IntN.{ℤ}
-use lib.Signed.{mag}
+use lib.Signed.{mag, leZ}
 use Rattle.semantics.specs.Numbers as No
-use Rattle.semantics.specs.Model.{Expr, literal, global, local, add, subtract, multiply, lesser, greater, negate, theClock}
+use Rattle.semantics.specs.Model.{Expr, literal, global, local, add, subtract, multiply, lesser, greater, negate, theClock, draw}
 use Rattle.semantics.specs.Model.{Item, get, condition, Claim, Branch, Share, Entity, Action, HOLD, PRIO, TRACE, SET, LSET, DO}
-use Rattle.semantics.specs.Model.{PUTR, PUTB, PUTS, BECOME, REQ, TRY, WHILE, START, CLOSE, Kind, resource, bin, sync, Model}
-use Rattle.semantics.specs.Model.{block, body}
+use Rattle.semantics.specs.Model.{PUTR, PUTB, PUTS, BECOME, REQ, TRY, WHILE, START, CLOSE, Kind, resource, bin, sync, Sampler}
+use Rattle.semantics.specs.Model.{Model, block, body}
 use Rattle.semantics.specs.Decode.{inner, depth}
 use Rattle.semantics.specs.Claim.{sameKind}
 use Rattle.promises.specs.Laws.{AllOf, Ordered, over}
@@ -24,7 +24,7 @@ pub record Within (lo hi n : ℕ) : Type 0 where
   pub low : lo ≤ n
   pub high : n ≤ hi
 
--- Its literals are in the i32 range, its variables are declared, its locals are 0..7.
+-- Its literals are in the i32 range, its variables and samplers are declared, its locals are 0..7.
 abbrev pub ExprFit : Model → Expr → Type 0
 ExprFit m (literal v) = I32 v
 ExprFit m (global i) = i < length (m .vars)
@@ -36,6 +36,7 @@ ExprFit m (lesser a b) = ExprFit m a × ExprFit m b
 ExprFit m (greater a b) = ExprFit m a × ExprFit m b
 ExprFit m (negate a) = ExprFit m a
 ExprFit m theClock = Unit {0}
+ExprFit m (draw i) = i < length (m .samplers)
 
 -- How many things of a kind are declared.
 abbrev pub declared : Model → Kind → ℕ
@@ -89,12 +90,19 @@ ActFit m CLOSE = Unit {0}
 abbrev pub EntityFit : Model → Entity → Type 0
 EntityFit m e = (e .class < length (m .classes)) × (e .offset ≤ No.topAmount)
 
+pub record SamplerFit (x : Sampler) : Type 0 where
+  pub lowest-fits : I32 (x .lowest)
+  pub highest-fits : I32 (x .highest)
+  pub not-above : leZ (x .lowest) (x .highest) ≡ true
+  pub seed-fits : Within 1 No.lastSeed (x .seed)
+
 pub record Fit (m : Model) : Type 0 where
   pub acts : (b : ℕ) → AllOf (ActFit m) (block m b)
   pub totals-fit : AllOf (λ n. n ≤ No.topAmount) (m .totals)
   pub amounts-fit : AllOf (λ n. n ≤ No.topAmount) (m .amounts)
   pub vars-fit : AllOf I32 (m .vars)
   pub entities-fit : AllOf (EntityFit m) (m .entities)
+  pub samplers-fit : AllOf SamplerFit (m .samplers)
   pub few-totals : length (m .totals) ≤ No.mostThings
   pub few-amounts : length (m .amounts) ≤ No.mostThings
   pub few-syncs : m .syncs ≤ No.mostThings
@@ -102,6 +110,7 @@ pub record Fit (m : Model) : Type 0 where
   pub few-classes : length (m .classes) ≤ No.mostClasses
   pub few-blocks : length (m .blocks) ≤ No.mostBlocks
   pub few-entities : length (m .entities) ≤ No.mostEntities
+  pub few-samplers : length (m .samplers) ≤ No.mostSamplers
   pub few-actions : over length (m .blocks) ≤ No.mostActions
 
 -- A block names later ones, which there are, and so does a class.

@@ -8,9 +8,9 @@ use lib.ListN.{length, getD, replicate, length-replicate, length-map}
 use Rattle.semantics.specs.Numbers as No
 use Rattle.semantics.specs.Model.{Model, Entity}
 use Rattle.semantics.specs.State.{State, Process, nobody, newcomer, freePlace, wake, begin, beginAll, bare, fresh}
-use Rattle.promises.specs.Laws.{AllOf, all-map, all-get, all-replicate, Ordered, over-set, over-none, once, once-apart}
-use Rattle.promises.specs.Fit.{EntityFit, Fit}
-use Rattle.promises.specs.Sound.{al, waits, slaved, ProcOk, Ranked, Tied, Sound}
+use Rattle.promises.specs.Laws.{AllOf, all-map, all-mapped, all-get, all-replicate, Ordered, over-set, over-none, once, once-apart}
+use Rattle.promises.specs.Fit.{EntityFit, SamplerFit, Fit}
+use Rattle.promises.specs.Sound.{al, waits, slaved, ProcOk, Ranked, Tied, Seed, Sound}
 use Rattle.promises.specs.Keep.{livingIn, some-free}
 use Rattle.promises.specs.Moves.{nobody-ok}
 use Rattle.promises.specs.Parts.{zeros-at}
@@ -33,6 +33,10 @@ module _ (m : Model) (t : Fit m) where
         last-ok = omega arith;
         globals-ok = t .vars-fit;
         bins-ok = all-map (λ n. n ≤ No.topAmount) (λ n. n ≤ No.fullBin) (λ n h. omega arith) (m .amounts) (t .amounts-fit);
+        seeds-ok = record {
+          many = length-map (m .samplers) (λ x. x .seed);
+          each = all-mapped SamplerFit Seed (λ x. x .seed) (λ x h. h .seed-fits) (m .samplers) (t .samplers-fit);
+        };
         procs-ok = all-replicate (ProcOk m 0) No.places nobody (nobody-ok m 0);
         own-number =
             λ k h.

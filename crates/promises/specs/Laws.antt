@@ -142,6 +142,11 @@ module _ {A : Type 0} where
   all-get P (x ∷ xs) zero d h p = h .0
   all-get P (x ∷ xs) (suc i) d h p = all-get P xs i d (h .1) p
 
+  pub all-in : (P : A → Type 0) (xs : List A) (i : ℕ) (d : A) → AllOf P xs → i < length xs → P (getD xs i d)
+  all-in P [] i d h l = absurd (omega arith)
+  all-in P (x ∷ xs) zero d h l = h .0
+  all-in P (x ∷ xs) (suc i) d h l = all-in P xs i d (h .1) (omega arith)
+
   pub all-at : (P : A → Type 0) (xs : List A) (i : ℕ) (a : A) → AllOf P xs → getElem? xs i ≡ some a → P a
   all-at P [] i a h e = not-some e
   all-at P (x ∷ xs) zero a h e = let z : x ≡ a = cc in rw (← z) (h .0)

@@ -9,7 +9,7 @@ use mathlib.Core.Bool.{Bool, true, false, not}
 use mathlib.Core.Option.{Option, none, some}
 use lib.Dec.{eqb, ltb}
 use borrow.Author.Tests.{ltb-true, ltb-false}
-use lib.IntN.{natAbs}
+use lib.IntN.{ℤ, natAbs}
 use lib.Signed.{leZ}
 use lib.ListN.{length, getD, set, drop, length-append, length-set}
 use Rattle.semantics.specs.Words.{if_then_else_, Outcome, ok, fails, isEmpty, all, largest, more, fewer}
@@ -19,7 +19,7 @@ use Rattle.semantics.specs.Model.{Action, HOLD, PRIO, TRACE, SET, LSET, DO, PUT
 use Rattle.semantics.specs.Model.{CLOSE, Expr, Item, get, condition, resource, bin, sync, Claim, Branch, Share, Model, block}
 use Rattle.semantics.specs.Model.{body, kindOf}
 use Rattle.semantics.specs.State.{State, Process, Frame, Waiter, Event, Notice, wakes, returnsR, returnsB, Floor, empty, heldBy}
-use Rattle.semantics.specs.State.{nobody, process, put, freePlace, living, at-clock, with-last, with-globals, with-free}
+use Rattle.semantics.specs.State.{nobody, process, put, freePlace, living, at-clock, with-last, with-globals, with-free, with-seeds}
 use Rattle.semantics.specs.State.{with-bins, with-waiting, with-floor, with-events, with-priority, with-locals, with-held}
 use Rattle.semantics.specs.State.{with-slaves, with-frames, sooner, enter, wake, higher, join, onward, past, into, newcomer}
 use Rattle.semantics.specs.State.{begin}
@@ -303,38 +303,41 @@ module _ (m : Model) (t : Forward m) (s : State) (p : ℕ) where
   unfolding hold past total weigh
   hold-falls x e =
       let k = passes (HOLD x) e (past (process s p)) refl in
-      good-bind (eval s (process s p) x) λ v.
+      good-bind (eval m s (process s p) x (s .seeds)) λ v.
       good-need _ _ λ h₁.
       good-need _ _ λ h₂.
-      let w = wake-total m (s .clock + natAbs v) p (with-floor (put p (past (process s p)) s) empty) in
+      let u : State = with-seeds (with-floor (put p (past (process s p)) s) empty) (v .seeds) in
+      let w = wake-total m (s .clock + natAbs (v .value)) p u in
       good (exactly (omega arith))
 
   prio-falls : (x : Expr) → At (PRIO x) → Good (Falls m s) (prio m s p x)
-  unfolding prio past weigh
+  unfolding prio past weigh total
   prio-falls x e =
-      good-bind (eval s (process s p) x) λ v.
-      let k = passes (PRIO x) e (past (with-priority (process s p) (if leZ lowest v then v else lowest))) refl in
+      good-bind (eval m s (process s p) x (s .seeds)) λ v.
+      let w : ℤ = if leZ lowest (v .value) then v .value else lowest in
+      let k = passes (PRIO x) e (past (with-priority (process s p) w)) refl in
       good (exactly (omega arith))
 
   trace-falls : (x : Expr) → At (TRACE x) → Good (Falls m s) (trace m s p x)
   unfolding trace past weigh total
   trace-falls x e =
       let k = passes (TRACE x) e (past (process s p)) refl in
-      good-bind (eval s (process s p) x) λ v. good (exactly (omega arith))
+      good-bind (eval m s (process s p) x (s .seeds)) λ v. good (exactly (omega arith))
 
   set-local-falls : (i : ℕ) (x : Expr) → At (LSET i x) → Good (Falls m s) (setLocal m s p i x)
   unfolding setLocal past weigh total
   set-local-falls i x e =
-      good-bind (eval s (process s p) x) λ v.
-      let k = passes (LSET i x) e (past (with-locals (process s p) (set (process s p .locals) i v))) refl in
+      good-bind (eval m s (process s p) x (s .seeds)) λ v.
+      let k = passes (LSET i x) e (past (with-locals (process s p) (set (process s p .locals) i (v .value)))) refl in
       good (exactly (omega arith))
 
   set-global-falls : (i : ℕ) (x : Expr) → At (SET i x) → Good (Falls m s) (setGlobal m s p i x)
   unfolding setGlobal past weigh total
   set-global-falls i x e =
       let k = passes (SET i x) e (past (process s p)) refl in
-      good-bind (eval s (process s p) x) λ v.
-      good (likewise (walk-less m t (with-globals (put p (past (process s p)) s) (set (s .globals) i v))) (omega arith))
+      good-bind (eval m s (process s p) x (s .seeds)) λ v.
+      let u : State = with-seeds (put p (past (process s p)) s) (v .seeds) in
+      good (likewise (walk-less m t (with-globals u (set (s .globals) i (v .value)))) (omega arith))
 
   become-falls : (i : ℕ) → At (BECOME i) → Good (Falls m s) (become m s p i)
   unfolding become past weigh total

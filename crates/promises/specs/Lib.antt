@@ -1,6 +1,7 @@
 pub mod Laws
 pub mod Fit
 pub mod Sound
+pub mod Draws
 pub mod Says
 pub mod Passes
 pub mod Counted

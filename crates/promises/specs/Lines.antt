@@ -93,11 +93,11 @@ module _ (m : Model) (s : State) (h : Listed s) (p : ℕ) where
 
   act-lines : (a : Action) → FewLines (act m s p a)
   unfolding act hold prio trace setGlobal setLocal putr putb notify puts become start request while close
-  act-lines (HOLD x) = good-bind (eval s q x) λ v. good-need _ _ λ a. good-need _ _ λ b. good (omega arith)
-  act-lines (PRIO x) = good-bind (eval s q x) λ v. good (omega arith)
-  act-lines (TRACE x) = good-bind (eval s q x) λ v. good (omega arith)
-  act-lines (SET i x) = good-bind (eval s q x) λ v. good (le-of-lt (walked _ refl))
-  act-lines (LSET i x) = good-bind (eval s q x) λ v. good (omega arith)
+  act-lines (HOLD x) = good-bind (eval m s q x (s .seeds)) λ v. good-need _ _ λ a. good-need _ _ λ b. good (omega arith)
+  act-lines (PRIO x) = good-bind (eval m s q x (s .seeds)) λ v. good (omega arith)
+  act-lines (TRACE x) = good-bind (eval m s q x (s .seeds)) λ v. good (omega arith)
+  act-lines (SET i x) = good-bind (eval m s q x (s .seeds)) λ v. good (le-of-lt (walked _ refl))
+  act-lines (LSET i x) = good-bind (eval m s q x (s .seeds)) λ v. good (omega arith)
   act-lines (DO n b) = do-lines n b
   act-lines (PUTR i n) = good-need _ _ λ a. good-need _ _ λ b. good (omega arith)
   act-lines (PUTB i n) = good-need _ _ λ a. good (omega arith)

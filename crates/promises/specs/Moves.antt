@@ -20,7 +20,7 @@ use Rattle.promises.specs.Laws.{ordered-drop, over-append, over-set, ove
 use Rattle.promises.specs.Laws.{only-none, once-self, once-apart, set-away, over-at}
 use Rattle.promises.specs.Fit.{I32, Within}
 use Rattle.promises.specs.Sound.{al, noticed, inEvents, waits, inAll, slaved, bearing, gives, owes, returning, Fine}
-use Rattle.promises.specs.Sound.{ProcOk, ReturnOk, NoticeOk, EventOk, Late, Ranked, Tied, Stands, InOne, AddsUp, Inv}
+use Rattle.promises.specs.Sound.{ProcOk, ReturnOk, NoticeOk, EventOk, Late, Ranked, Tied, Stands, InOne, AddsUp, SeedsOk, Inv}
 use Rattle.promises.specs.Keep.{enter-all, enter-ordered, enter-over, join-all, join-ordered, join-waits, away, al-one}
 use Rattle.promises.specs.Keep.{alive-in, free-or-fine, FreeAt}
 
@@ -58,8 +58,8 @@ pub nobody-ok : (m : Model) (n : ℕ) → ProcOk m n nobody
 nobody-ok m n = record { dead = λ e. search; live = λ e. absurd (omega arith) }
 
 module _
-    {m : Model} {c n : ℕ} {gs : List ℤ} {fr bi : List ℕ} {wa : List (List Waiter)} {es : List Event} {ps : List Process}
-    {l : List Waiter} {z y : ℕ → ℕ} (h : Inv m c n gs fr bi wa es ps l z y) where
+    {m : Model} {c n : ℕ} {gs : List ℤ} {fr bi sd : List ℕ} {wa : List (List Waiter)} {es : List Event} {ps : List Process}
+    {l : List Waiter} {z y : ℕ → ℕ} (h : Inv m c n gs fr bi sd wa es ps l z y) where
   -- WHO IS IN HAND lives and is in no list; who does not live is in none either.
   pub record Loose (p : ℕ) : Type 0 where
     pub off-blocked : waits p l ≡ 0
@@ -86,7 +86,7 @@ module _
 
   -- What is in hand counts only by how much.
   pub recount :
-      {z′ y′ : ℕ → ℕ} → ((k : ℕ) → z′ k ≡ z k) → ((i : ℕ) → y′ i ≡ y i) → Inv m c n gs fr bi wa es ps l z′ y′
+      {z′ y′ : ℕ → ℕ} → ((k : ℕ) → z′ k ≡ z k) → ((i : ℕ) → y′ i ≡ y i) → Inv m c n gs fr bi sd wa es ps l z′ y′
   recount {z′} {y′} e f =
       let a : (k : ℕ) → InOne es wa ps l z′ k = λ k. let b = h .in-one k in let d = e k in omega arith in
       let b : (i : ℕ) → AddsUp m fr ps es y′ i = λ i. let b = h .adds-up i in let d = f i in omega arith in
@@ -101,7 +101,7 @@ module _
         → slaved k (r .slaves) + only k p (al (getD ps p nobody .frames)) + z′ k
         ≡ slaved k (getD ps p nobody .slaves) + only k p (al (r .frames)) + z k)
         → ((i : ℕ) → getD (r .held) i 0 + y′ i ≡ getD (getD ps p nobody .held) i 0 + y i)
-        → Inv m c n′ gs fr bi wa es (set ps p r) l z′ y′
+        → Inv m c n′ gs fr bi sd wa es (set ps p r) l z′ y′
     replace {n′} more most i o ok ns zs ys =
         let qs : List Process = set ps p r in
         let a : length qs ≡ No.places = length-set ps p r ∙ h .places-64 in
@@ -132,7 +132,7 @@ module _
         1 ≤ z p → Fine m n r → al (r .frames) ≡ 1 → r .number ≡ getD ps p nobody .number
         → ((k : ℕ) → slaved k (r .slaves) + z′ k ≡ slaved k (getD ps p nobody .slaves) + z k)
         → ((i : ℕ) → getD (r .held) i 0 + y′ i ≡ getD (getD ps p nobody .held) i 0 + y i)
-        → Inv m c n gs fr bi wa es (set ps p r) l z′ y′
+        → Inv m c n gs fr bi sd wa es (set ps p r) l z′ y′
     alter e fine lives num zs ys =
         replace (omega arith) (h .last-ok) (hand-in p e) (hand-loose p e)
         (record { dead = λ d. absurd (omega arith); live = λ d. fine })
@@ -144,7 +144,7 @@ module _
   pub remove :
       {z′ : ℕ → ℕ} (p : ℕ) → 1 ≤ z p → ((k : ℕ) → once k p + z′ k ≡ z k)
       → ((k : ℕ) → slaved k (getD ps p nobody .slaves) ≡ 0) → ((i : ℕ) → getD (getD ps p nobody .held) i 0 ≡ 0)
-      → Inv m c n gs fr bi wa es (set ps p nobody) l z′ y
+      → Inv m c n gs fr bi sd wa es (set ps p nobody) l z′ y
   remove p e zs ss hs =
       replace p nobody (omega arith) (h .last-ok) (hand-in p e) (hand-loose p e) (nobody-ok m n)
       (λ k g. let a = h .own-number k g in let b = once-apart k 0 (λ d. absurd (omega arith)) in omega arith)
@@ -175,7 +175,7 @@ module _
   pub create :
       {z′ y′ : ℕ → ℕ} (p : ℕ) (r : Process) → n < No.lastNumber → FreeAt ps p → Fine m (n + 1) r → al (r .frames) ≡ 1
       → r .number ≡ n + 1 → r .slaves ≡ [] → ((k : ℕ) → z′ k ≡ once k p + z k) → ((i : ℕ) → getD (r .held) i 0 + y′ i ≡ y i)
-      → Inv m c (n + 1) gs fr bi wa es (set ps p r) l z′ y′
+      → Inv m c (n + 1) gs fr bi sd wa es (set ps p r) l z′ y′
   create p r more free fine lives num slv zs ys =
       let v = proc-at p .dead (free .1) in
       replace p r (omega arith) (omega arith) (free .0) (dead-loose p (free .1))
@@ -190,7 +190,7 @@ module _
   pub is-entered :
       {z′ y′ : ℕ → ℕ} (e : Event) → EventOk m c n ps e → owes (e .notice) + returning es ≤ No.returns
       → ((k : ℕ) → noticed k (e .notice) + z′ k ≡ z k) → ((i : ℕ) → gives i (e .notice) + y′ i ≡ y i)
-      → Inv m c n gs fr bi wa (enter e es) ps l z′ y′
+      → Inv m c n gs fr bi sd wa (enter e es) ps l z′ y′
   is-entered {z′} {y′} e ok few zs ys =
       let a = enter-all e es (EventOk m c n ps) ok (h .events-ok) in
       let b = enter-ordered e es (h .events-ordered) in
@@ -204,7 +204,7 @@ module _
   -- The waiting list of sync i, and the blocked list, become others.
   waiting-is :
       {z′ : ℕ → ℕ} (i : ℕ) (v : List Waiter) → i < length wa → Ordered Ranked v → AllOf (Tied ps) v
-      → ((k : ℕ) → waits k v + z′ k ≡ waits k (getD wa i []) + z k) → Inv m c n gs fr bi (set wa i v) es ps l z′ y
+      → ((k : ℕ) → waits k v + z′ k ≡ waits k (getD wa i []) + z k) → Inv m c n gs fr bi sd (set wa i v) es ps l z′ y
   waiting-is {z′} i v g o t zs =
       let a : length (set wa i v) ≡ m .syncs = length-set wa i v ∙ h .syncs-many in
       let b = all-set (Ordered Ranked) wa i v (h .waiting-ordered) o in
@@ -215,7 +215,7 @@ module _
 
   blocked-is :
       {l′ : List Waiter} {z′ : ℕ → ℕ} → Ordered Ranked l′ → AllOf (Tied ps) l′ → AllOf (Stands m ps) l′
-      → ((k : ℕ) → waits k l′ + z′ k ≡ waits k l + z k) → Inv m c n gs fr bi wa es ps l′ z′ y
+      → ((k : ℕ) → waits k l′ + z′ k ≡ waits k l + z k) → Inv m c n gs fr bi sd wa es ps l′ z′ y
   blocked-is {l′} {z′} o t g zs =
       let a : (k : ℕ) → InOne es wa ps l′ z′ k = λ k. let a = h .in-one k in let b = zs k in omega arith in
       search
@@ -223,7 +223,7 @@ module _
   -- The first k leave a waiting list.
   pub unwaits :
       {z′ : ℕ → ℕ} (i k : ℕ) → i < length wa → ((j : ℕ) → z′ j ≡ waits j (take k (getD wa i [])) + z j)
-      → Inv m c n gs fr bi (set wa i (drop k (getD wa i []))) es ps l z′ y
+      → Inv m c n gs fr bi sd (set wa i (drop k (getD wa i []))) es ps l z′ y
   unwaits i k g zs =
       let w : List Waiter = getD wa i [] in
       waiting-is i (drop k w) g
@@ -234,30 +234,33 @@ module _
   -- AMOUNTS free and in a bin, and a global.
   pub frees :
       {y′ : ℕ → ℕ} (fr′ : List ℕ) → length fr′ ≡ length fr → ((i : ℕ) → getD fr′ i 0 + y′ i ≡ getD fr i 0 + y i)
-      → Inv m c n gs fr′ bi wa es ps l z y′
+      → Inv m c n gs fr′ bi sd wa es ps l z y′
   frees {y′} fr′ e f =
       let a : length fr′ ≡ length (m .totals) = e ∙ h .frees-many in
       let b : (i : ℕ) → AddsUp m fr′ ps es y′ i = λ i. let a = h .adds-up i in let b = f i in omega arith in
       search
 
-  pub bin-is : (i a : ℕ) → a ≤ No.fullBin → Inv m c n gs fr (set bi i a) wa es ps l z y
+  pub bin-is : (i a : ℕ) → a ≤ No.fullBin → Inv m c n gs fr (set bi i a) sd wa es ps l z y
   bin-is i a e =
       let b : length (set bi i a) ≡ length (m .amounts) = length-set bi i a ∙ h .bins-many in
       let d = all-set (λ x. x ≤ No.fullBin) bi i a (h .bins-ok) e in
       search
 
-  pub global-is : (i : ℕ) (v : ℤ) → I32 v → Inv m c n (set gs i v) fr bi wa es ps l z y
+  pub seeds-are : {d : List ℕ} → SeedsOk m d → Inv m c n gs fr bi d wa es ps l z y
+  seeds-are o = search
+
+  pub global-is : (i : ℕ) (v : ℤ) → I32 v → Inv m c n (set gs i v) fr bi sd wa es ps l z y
   global-is i v e =
       let a : length (set gs i v) ≡ length (m .vars) = length-set gs i v ∙ h .vars-many in
       let b = all-set I32 gs i v (h .globals-ok) e in
       search
 
-module _ {m : Model} {c n : ℕ} {gs : List ℤ} {fr bi : List ℕ} {wa : List (List Waiter)} {z z′ y : ℕ → ℕ} where
+module _ {m : Model} {c n : ℕ} {gs : List ℤ} {fr bi sd : List ℕ} {wa : List (List Waiter)} {z z′ y : ℕ → ℕ} where
   -- The first event is taken out, and the clock becomes its time.
   pub first-out :
-      {y′ : ℕ → ℕ} {e : Event} {es : List Event} {ps : List Process} {l : List Waiter} → Inv m c n gs fr bi wa (e ∷ es) ps l z y
+      {y′ : ℕ → ℕ} {e : Event} {es : List Event} {ps : List Process} {l : List Waiter} → Inv m c n gs fr bi sd wa (e ∷ es) ps l z y
       → ((k : ℕ) → z′ k ≡ noticed k (e .notice) + z k) → ((i : ℕ) → y′ i ≡ gives i (e .notice) + y i)
-      → Inv m (e .time) n gs fr bi wa es ps l z′ y′
+      → Inv m (e .time) n gs fr bi sd wa es ps l z′ y′
   first-out {y′} {e} {es} {ps} {l} h zs ys =
       let a : AllOf (EventOk m (e .time) n ps) es =
       all-map (λ f. Late e f × EventOk m c n ps f) (EventOk m (e .time) n ps)
@@ -271,8 +274,8 @@ module _ {m : Model} {c n : ℕ} {gs : List ℤ} {fr bi : List ℕ} {wa : List (
   -- One of the blocked list is taken out.
   pub unblocks :
       {es : List Event} {ps : List Process} (l : List Waiter) (w : Waiter) (l′ : List Waiter)
-      → Inv m c n gs fr bi wa es ps (l ++ w ∷ l′) z y → ((k : ℕ) → z′ k ≡ once k (w .place) + z k)
-      → Inv m c n gs fr bi wa es ps (l ++ l′) z′ y
+      → Inv m c n gs fr bi sd wa es ps (l ++ w ∷ l′) z y → ((k : ℕ) → z′ k ≡ once k (w .place) + z k)
+      → Inv m c n gs fr bi sd wa es ps (l ++ l′) z′ y
   unblocks {ps = ps} l w l′ h zs =
       blocked-is h (ordered-cut Ranked l w l′ (h .blocked-ordered)) (all-cut (Tied ps) l w l′ (h .blocked-tied))
       (all-cut (Stands m ps) l w l′ (h .blocked-stand))
@@ -282,9 +285,9 @@ module _ {m : Model} {c n : ℕ} {gs : List ℤ} {fr bi : List ℕ} {wa : List (
 
   -- Whoever is in hand joins a waiting list, or the blocked list.
   module _
-      {es : List Event} {l : List Waiter} (s : State) (h : Inv m c n gs fr bi wa es (s .processes) l z y) (p : ℕ)
+      {es : List Event} {l : List Waiter} (s : State) (h : Inv m c n gs fr bi sd wa es (s .processes) l z y) (p : ℕ)
       (zs : (k : ℕ) → once k p + z′ k ≡ z k) where
-    pub joins : (i : ℕ) → i < length wa → Inv m c n gs fr bi (set wa i (join s p (getD wa i []))) es (s .processes) l z′ y
+    pub joins : (i : ℕ) → i < length wa → Inv m c n gs fr bi sd (set wa i (join s p (getD wa i []))) es (s .processes) l z′ y
     joins i g =
         let w : List Waiter = getD wa i [] in
         waiting-is h i (join s p w) g
@@ -294,7 +297,7 @@ module _ {m : Model} {c n : ℕ} {gs : List ℤ} {fr bi : List ℕ} {wa : List (
 
     pub blocks :
         Stands m (s .processes) (record { priority = process s p .priority; place = p })
-        → Inv m c n gs fr bi wa es (s .processes) (join s p l) z′ y
+        → Inv m c n gs fr bi sd wa es (s .processes) (join s p l) z′ y
     blocks g =
         blocked-is h (join-ordered s p l (h .blocked-ordered)) (join-all s p l (Tied (s .processes)) refl (h .blocked-tied))
         (join-all s p l (Stands m (s .processes)) g (h .blocked-stand))

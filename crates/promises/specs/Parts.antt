@@ -15,48 +15,80 @@ use lib.Signed.{mag, leZ}
 use Rattle.semantics.specs.Words.{if_then_else_, Outcome, _>>=_, any, keep, more, fewer}
 use Rattle.semantics.specs.Numbers as No
 use Rattle.semantics.specs.Numbers.{lowest}
-use Rattle.semantics.specs.Model.{Expr, literal, global, local, add, subtract, multiply, lesser, greater, negate, theClock}
+use Rattle.semantics.specs.Model.{Expr, literal, global, local, add, subtract, multiply, lesser, greater, negate, theClock, draw}
 use Rattle.semantics.specs.Model.{Share, Model, block, body, Action, HOLD, PRIO, TRACE, SET, LSET, DO, PUTR, PUTB, PUTS, BECOME}
 use Rattle.semantics.specs.Model.{REQ, TRY, WHILE, START, CLOSE}
 use Rattle.semantics.specs.State.{State, Process, Frame, Slave, Event, Notice, wakes, returnsR, returnsB, process, newcomer}
 use Rattle.semantics.specs.State.{with-priority, with-locals, with-held, with-slaves, with-frames, onward, past}
-use Rattle.semantics.specs.Value.{isI32, inRange, eval}
+use Rattle.semantics.specs.Value.{isI32, inRange, Valued, Drawing, plain, ofOne, ofTwo, drawFrom, eval}
 use Rattle.semantics.specs.Claim.{standsIn}
 use Rattle.semantics.specs.Walk.{Next}
 use Rattle.semantics.specs.Step.{isReturn, handed, kept, freed, stay, comesBack, leave, exhausted, act, moves}
 use Rattle.semantics.specs.Sound.{enters, entersAt, namedThere, chained}
 use Rattle.promises.specs.Laws.{and-true, true-and, or-left, or-right, if-has, not-some, Good, good, good-then, good-need}
-use Rattle.promises.specs.Laws.{AllOf, all-map, all-both, all-set, all-get, all-at, all-replicate, Ordered, some-in, over}
+use Rattle.promises.specs.Laws.{AllOf, all-map, all-both, all-set, all-get, all-in, all-at, all-replicate, Ordered, some-in, over}
 use Rattle.promises.specs.Laws.{over-keep, over-same, only, once, once-apart, set-away, more-at, less-at}
-use Rattle.promises.specs.Fit.{I32, ExprFit, SharesApart, ActFit, Fit}
-use Rattle.promises.specs.Sound.{Below, al, slaved, owes, returning, Fine}
+use Rattle.promises.specs.Fit.{I32, ExprFit, SharesApart, ActFit, SamplerFit, Fit}
+use Rattle.promises.specs.Sound.{Below, al, slaved, owes, returning, Fine, Seed, SeedsOk}
+use Rattle.promises.specs.Draws.{seed-stays, draw-ranged}
 
--- VALUES.
+-- VALUES. A value in its range, with seeds that are as they should.
+pub record ValuedOk (m : Model) (v : Valued) : Type 0 where
+  pub value-ok : I32 (v .value)
+  pub seeds-ok : SeedsOk m (v .seeds)
+
 module _
-    (m : Model) (s : State) (q : Process) (g : AllOf I32 (s .globals)) (l : AllOf I32 (q .locals))
+    (m : Model) (t : Fit m) (s : State) (q : Process) (g : AllOf I32 (s .globals)) (l : AllOf I32 (q .locals))
     (c : s .clock ≤ No.latest) where
   in-range : (v : ℤ) → Good I32 (inRange v)
   in-range v = good-need No.SUM (isI32 v) λ h. good (ltb-true (mag v) 2_147_483_648 h)
 
-  of-two :
-      (a b : Expr) {f : ℤ → ℤ → Outcome ℤ} → Good I32 (eval s q a) → Good I32 (eval s q b)
-      → ((x y : ℤ) → I32 x → I32 y → Good I32 (f x y)) → Good I32 (eval s q a >>= λ x. eval s q b >>= λ y. f x y)
-  of-two a b i j k = good-then I32 I32 (eval s q a) i λ x u. good-then I32 I32 (eval s q b) j λ y v. k x y u v
+  -- What is worked out from such seeds.
+  abbrev Draws : Drawing → Type 0
+  Draws a = (d : List ℕ) → SeedsOk m d → Good (ValuedOk m) (a d)
 
-  pub eval-good : (e : Expr) → ExprFit m e → Good I32 (eval s q e)
+  of-none : {v : ℤ} → I32 v → Draws (plain v)
+  of-none h d o = good (record { value-ok = h; seeds-ok = o })
+
+  of-one : {f : ℤ → Outcome ℤ} {a : Drawing} → ((x : ℤ) → Good I32 (f x)) → Draws a → Draws (ofOne f a)
+  of-one {f} {a} k i d o =
+      good-then (ValuedOk m) (ValuedOk m) (a d) (i d o) λ x u.
+      good-then I32 (ValuedOk m) (f (x .value)) (k (x .value)) λ v h. of-none h (x .seeds) (u .seeds-ok)
+
+  of-two : {f : ℤ → ℤ → Outcome ℤ} {a b : Drawing} → ((x y : ℤ) → I32 x → I32 y → Good I32 (f x y)) → Draws a → Draws b
+      → Draws (ofTwo f a b)
+  of-two {f} {a} {b} k i j d o =
+      good-then (ValuedOk m) (ValuedOk m) (a d) (i d o) λ x u.
+      good-then (ValuedOk m) (ValuedOk m) (b (x .seeds)) (j (x .seeds) (u .seeds-ok)) λ y w.
+      good-then I32 (ValuedOk m) (f (x .value) (y .value)) (k (x .value) (y .value) (u .value-ok) (w .value-ok)) λ v h.
+      of-none h (y .seeds) (w .seeds-ok)
+
+  of-draw : (i : ℕ) → i < length (m .samplers) → Draws (drawFrom m i)
+  of-draw i k d o =
+      let n = o .many in
+      let f = all-in SamplerFit (m .samplers) i _ (t .samplers-fit) k in
+      let e = seed-stays (getD d i 0) (all-in Seed d i 0 (o .each) (omega arith)) in
+      good
+      (record {
+        value-ok = draw-ranged _ _ _ (f .lowest-fits) (f .highest-fits) (f .not-above);
+        seeds-ok = record { many = length-set d i _ ∙ n; each = all-set Seed d i _ (o .each) e };
+      })
+
+  pub eval-good : (e : Expr) → ExprFit m e → Draws (eval m s q e)
   unfolding eval
-  eval-good (literal v) h = good h
-  eval-good (global i) h = good (all-get I32 (s .globals) i (pos 0) g (omega arith))
-  eval-good (local i) h = good (all-get I32 (q .locals) i (pos 0) l (omega arith))
-  eval-good (add a b) h = of-two a b (eval-good a (h .0)) (eval-good b (h .1)) λ x y i j. in-range (x +ℤ y)
-  eval-good (subtract a b) h = of-two a b (eval-good a (h .0)) (eval-good b (h .1)) λ x y i j. in-range (x -ℤ y)
-  eval-good (multiply a b) h = of-two a b (eval-good a (h .0)) (eval-good b (h .1)) λ x y i j. in-range (x *ℤ y)
+  eval-good (literal v) h = of-none h
+  eval-good (global i) h = of-none (all-get I32 (s .globals) i (pos 0) g (omega arith))
+  eval-good (local i) h = of-none (all-get I32 (q .locals) i (pos 0) l (omega arith))
+  eval-good (add a b) h = of-two (λ x y i j. in-range (x +ℤ y)) (eval-good a (h .0)) (eval-good b (h .1))
+  eval-good (subtract a b) h = of-two (λ x y i j. in-range (x -ℤ y)) (eval-good a (h .0)) (eval-good b (h .1))
+  eval-good (multiply a b) h = of-two (λ x y i j. in-range (x *ℤ y)) (eval-good a (h .0)) (eval-good b (h .1))
   eval-good (lesser a b) h =
-      of-two a b (eval-good a (h .0)) (eval-good b (h .1)) λ x y i j. good (if-has I32 (leZ x y) (λ e. i) (λ e. j))
+      of-two (λ x y i j. good (if-has I32 (leZ x y) (λ e. i) (λ e. j))) (eval-good a (h .0)) (eval-good b (h .1))
   eval-good (greater a b) h =
-      of-two a b (eval-good a (h .0)) (eval-good b (h .1)) λ x y i j. good (if-has I32 (leZ x y) (λ e. j) (λ e. i))
-  eval-good (negate a) h = good-then I32 I32 (eval s q a) (eval-good a h) λ x i. in-range (negℤ x)
-  eval-good theClock h = good {a = pos (s .clock)} (omega arith)
+      of-two (λ x y i j. good (if-has I32 (leZ x y) (λ e. j) (λ e. i))) (eval-good a (h .0)) (eval-good b (h .1))
+  eval-good (negate a) h = of-one (λ x. in-range (negℤ x)) (eval-good a h)
+  eval-good theClock h = of-none {v = pos (s .clock)} (omega arith)
+  eval-good (draw i) h = of-draw i h
 
 -- A priority that is asked for, but never below the lowest.
 pub priority-ok : (v : ℤ) → I32 v → I32 (if leZ lowest v then v else lowest) × Below lowest (if leZ lowest v then v else lowest)

@@ -80,8 +80,8 @@ module _ (bs : List ℕ) (m : Model) (e : decode bs ≡ accepted m) where
   pub never-20 : (l : List Ask) (a : Ask) → call bs a (leaves bs l (fresh m)) .answer ≡ FAULT No.STATE → ⊥
   never-20 = C.never-20 bs m e
 
-  -- DEMAND 3: no WHILE, and each START's class body later than the START's block. The steps of all calls together are at most the
-  -- bound, whatever its size.
+  -- DEMAND 3: no WHILE, and each START's class body later than the START's block. The steps of all calls together are at most
+  -- the bound, whatever its size.
   module _ (l : loops m ≡ false) where
     pub steps-at-most : (asks : List Ask) → stepsOf bs asks (fresh m) ≤ bound m
     steps-at-most = D.steps-at-most bs m e (accepted-forward bs m e l)

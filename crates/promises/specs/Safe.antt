@@ -9,12 +9,12 @@ use lib.Dec.{ltb}
 use borrow.Author.Tests.{ltb-true}
 use lib.IntN.{ℤ, negℤ, _+ℤ_, _-ℤ_, _*ℤ_}
 use Rattle.semantics.specs.Words.{if_then_else_, Outcome, ok, fails, _>>=_, _>>_, need, isEmpty}
-use Rattle.semantics.specs.Model.{Expr, literal, global, local, add, subtract, multiply, lesser, greater, negate, theClock}
+use Rattle.semantics.specs.Model.{Expr, literal, global, local, add, subtract, multiply, lesser, greater, negate, theClock, draw}
 use Rattle.semantics.specs.Model.{Model, Action, HOLD, PRIO, TRACE, SET, LSET, DO, PUTR, PUTB, PUTS, BECOME, REQ, TRY, WHILE}
 use Rattle.semantics.specs.Model.{START, CLOSE}
 use Rattle.semantics.specs.State.{State, Process, Frame, Event, Notice, wakes, returnsR, returnsB, Floor, empty, heldBy, process}
 use Rattle.semantics.specs.State.{with-floor, with-events, at-clock}
-use Rattle.semantics.specs.Value.{isI32, inRange, eval}
+use Rattle.semantics.specs.Value.{isI32, inRange, Drawing, ofTwo, eval}
 use Rattle.semantics.specs.Claim.{offers, Choice, choice}
 use Rattle.semantics.specs.Walk.{Next}
 use Rattle.semantics.specs.Step as Step
@@ -51,19 +51,24 @@ safe-need k false e h = let f = and-true (ltb 20 k) (ltb k 30) e in above (ltb-t
 safe-range : (v : ℤ) → Safe (inRange v)
 safe-range v = safe-need 21 (isI32 v) refl safe
 
-module _ (s : State) (q : Process) where
-  eval-safe : (e : Expr) → Safe (eval s q e)
+module _ (m : Model) (s : State) (q : Process) where
+  of-two-safe : (f : ℤ → ℤ → Outcome ℤ) (a b : Drawing) → ((x y : ℤ) → Safe (f x y)) → ((d : List ℕ) → Safe (a d))
+      → ((d : List ℕ) → Safe (b d)) → (d : List ℕ) → Safe (ofTwo f a b d)
+  of-two-safe f a b h i j d = safe-bind (i d) λ x. safe-bind (j (x .seeds)) λ y. safe-bind (h (x .value) (y .value)) λ v. safe
+
+  eval-safe : (e : Expr) (d : List ℕ) → Safe (eval m s q e d)
   unfolding eval
-  eval-safe (literal v) = safe
-  eval-safe (global i) = safe
-  eval-safe (local i) = safe
-  eval-safe (add a b) = safe-bind (eval-safe a) λ x. safe-bind (eval-safe b) λ y. safe-range (x +ℤ y)
-  eval-safe (subtract a b) = safe-bind (eval-safe a) λ x. safe-bind (eval-safe b) λ y. safe-range (x -ℤ y)
-  eval-safe (multiply a b) = safe-bind (eval-safe a) λ x. safe-bind (eval-safe b) λ y. safe-range (x *ℤ y)
-  eval-safe (lesser a b) = safe-bind (eval-safe a) λ x. safe-bind (eval-safe b) λ y. safe
-  eval-safe (greater a b) = safe-bind (eval-safe a) λ x. safe-bind (eval-safe b) λ y. safe
-  eval-safe (negate a) = safe-bind (eval-safe a) λ x. safe-range (negℤ x)
-  eval-safe theClock = safe
+  eval-safe (literal v) d = safe
+  eval-safe (global i) d = safe
+  eval-safe (local i) d = safe
+  eval-safe (add a b) d = of-two-safe _ _ _ (λ x y. safe-range (x +ℤ y)) (eval-safe a) (eval-safe b) d
+  eval-safe (subtract a b) d = of-two-safe _ _ _ (λ x y. safe-range (x -ℤ y)) (eval-safe a) (eval-safe b) d
+  eval-safe (multiply a b) d = of-two-safe _ _ _ (λ x y. safe-range (x *ℤ y)) (eval-safe a) (eval-safe b) d
+  eval-safe (lesser a b) d = of-two-safe _ _ _ (λ x y. safe) (eval-safe a) (eval-safe b) d
+  eval-safe (greater a b) d = of-two-safe _ _ _ (λ x y. safe) (eval-safe a) (eval-safe b) d
+  eval-safe (negate a) d = safe-bind (eval-safe a d) λ x. safe-bind (safe-range (negℤ (x .value))) λ v. safe
+  eval-safe theClock d = safe
+  eval-safe (draw i) d = safe
 
 -- AN ACTION of the process q in place p.
 module _ (m : Model) (s : State) (p : ℕ) where
@@ -80,11 +85,11 @@ module _ (m : Model) (s : State) (p : ℕ) where
 
   act-safe : (a : Action) → Safe (act m s p a)
   unfolding act hold prio trace setGlobal setLocal putr putb notify puts become start request while close
-  act-safe (HOLD x) = safe-bind (eval-safe s q x) λ v. safe-need _ _ refl (safe-need _ _ refl safe)
-  act-safe (PRIO x) = safe-bind (eval-safe s q x) λ v. safe
-  act-safe (TRACE x) = safe-bind (eval-safe s q x) λ v. safe
-  act-safe (SET i x) = safe-bind (eval-safe s q x) λ v. safe
-  act-safe (LSET i x) = safe-bind (eval-safe s q x) λ v. safe
+  act-safe (HOLD x) = safe-bind (eval-safe m s q x (s .seeds)) λ v. safe-need _ _ refl (safe-need _ _ refl safe)
+  act-safe (PRIO x) = safe-bind (eval-safe m s q x (s .seeds)) λ v. safe
+  act-safe (TRACE x) = safe-bind (eval-safe m s q x (s .seeds)) λ v. safe
+  act-safe (SET i x) = safe-bind (eval-safe m s q x (s .seeds)) λ v. safe
+  act-safe (LSET i x) = safe-bind (eval-safe m s q x (s .seeds)) λ v. safe
   act-safe (DO n b) = do-safe n b
   act-safe (PUTR i n) = safe-need _ _ refl (safe-need _ _ refl safe)
   act-safe (PUTB i n) = safe-need _ _ refl safe

@@ -146,9 +146,17 @@ InOne es wa ps l z k = inEvents k es + inAll k wa + owned k ps + waits k l + z k
 abbrev pub AddsUp : Model → List ℕ → List Process → List Event → (ℕ → ℕ) → ℕ → Type 0
 AddsUp m fr ps es y i = getD fr i 0 + heldIn i ps + backIn i es + y i ≡ getD (m .totals) i 0
 
+-- SEEDS: one for each sampler, each in its range.
+abbrev pub Seed : ℕ → Type 0
+Seed = Within 1 No.lastSeed
+
+pub record SeedsOk (m : Model) (d : List ℕ) : Type 0 where
+  pub many : length d ≡ length (m .samplers)
+  pub each : AllOf Seed d
+
 -- WHAT HOLDS IN THE MIDDLE OF A STEP, over the parts of a state: l is the blocked list, z counts the places in hand (on the
 -- floor, or being moved), y is what of each resource is in hand.
-pub record Inv (m : Model) (c n : ℕ) (gs : List ℤ) (fr bi : List ℕ) (wa : List (List Waiter)) (es : List Event)
+pub record Inv (m : Model) (c n : ℕ) (gs : List ℤ) (fr bi sd : List ℕ) (wa : List (List Waiter)) (es : List Event)
     (ps : List Process) (l : List Waiter) (z y : ℕ → ℕ) : Type 0 where
   pub places-64 : length ps ≡ No.places
   pub syncs-many : length wa ≡ m .syncs
@@ -159,6 +167,7 @@ pub record Inv (m : Model) (c n : ℕ) (gs : List ℤ) (fr bi : List ℕ) (wa : 
   pub last-ok : n ≤ No.lastNumber
   pub globals-ok : AllOf I32 gs
   pub bins-ok : AllOf (λ x. x ≤ No.fullBin) bi
+  pub seeds-ok : SeedsOk m sd
   pub procs-ok : AllOf (ProcOk m n) ps
   pub own-number : (k : ℕ) → 1 ≤ k → bearing k ps ≤ 1
   pub events-ok : AllOf (EventOk m c n ps) es
@@ -173,7 +182,8 @@ pub record Inv (m : Model) (c n : ℕ) (gs : List ℤ) (fr bi : List ℕ) (wa : 
   pub adds-up : (i : ℕ) → AddsUp m fr ps es y i
 
 abbrev pub Held : Model → State → List Waiter → (ℕ → ℕ) → (ℕ → ℕ) → Type 0
-Held m s l z y = Inv m (s .clock) (s .last) (s .globals) (s .free) (s .bins) (s .waiting) (s .events) (s .processes) l z y
+Held m s l z y =
+    Inv m (s .clock) (s .last) (s .globals) (s .free) (s .bins) (s .seeds) (s .waiting) (s .events) (s .processes) l z y
 
 -- BETWEEN STEPS only the floor's process is in hand, and nothing of a resource.
 abbrev pub Sound : Model → State → Type 0

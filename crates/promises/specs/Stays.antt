@@ -18,9 +18,9 @@ use Rattle.semantics.specs.Model.{Expr, Share, Model, Action, HOLD, PRIO, TRACE
 use Rattle.semantics.specs.Model.{TRY, WHILE, START, CLOSE}
 use Rattle.semantics.specs.State.{State, Process, Frame, Waiter, Event, Notice, wakes, returnsR, returnsB, Floor, empty, heldBy}
 use Rattle.semantics.specs.State.{nobody, process, put, freePlace, living, newcomer, at-clock, with-last, with-globals}
-use Rattle.semantics.specs.State.{with-free, with-bins, with-waiting, with-floor, with-events, with-priority, with-locals}
+use Rattle.semantics.specs.State.{with-free, with-bins, with-waiting, with-floor, with-events, with-seeds, with-priority, with-locals}
 use Rattle.semantics.specs.State.{with-held, with-slaves, with-frames, wake, join, past, into, begin}
-use Rattle.semantics.specs.Value.{eval}
+use Rattle.semantics.specs.Value.{Valued, eval}
 use Rattle.semantics.specs.Claim.{Offer, offers, standsIn, goes, choice, grant}
 use Rattle.semantics.specs.Walk.{Next, quiet}
 use Rattle.semantics.specs.Step.{isReturn, handed, kept, freed, stay, freeAll, leave, ends, exhausted, hold}
@@ -32,9 +32,9 @@ use Rattle.promises.specs.Laws.{all-get, all-hold, empty-is, over, over-
 use Rattle.promises.specs.Fit.{I32, ExprFit, ShareFit, ActFit, Fit}
 use Rattle.promises.specs.Sound.{al, onFloor, noticed, slaved, gives, owes, Fine, NoticeOk, Held, Sound}
 use Rattle.promises.specs.Keep.{livingIn, living-are, some-free}
-use Rattle.promises.specs.Moves.{hand-fine, recount, remove, create, is-entered, frees, bin-is, global-is, first-out}
+use Rattle.promises.specs.Moves.{hand-fine, recount, remove, create, is-entered, frees, bin-is, seeds-are, global-is, first-out}
 use Rattle.promises.specs.Moves.{joins, blocks}
-use Rattle.promises.specs.Parts.{eval-good, priority-ok, fit-at, moves-has, onward-al, chain-into, chain-parts}
+use Rattle.promises.specs.Parts.{ValuedOk, eval-good, priority-ok, fit-at, moves-has, onward-al, chain-into, chain-parts}
 use Rattle.promises.specs.Parts.{chain-again, leave-chain, leave-al, fine-held, fine-slaves, fine-local, fine-priority}
 use Rattle.promises.specs.Parts.{new-fine, zeros-at, handOver, handed-length, handed-at, kept-length, kept-at, freed-stay}
 use Rattle.promises.specs.Parts.{stay-all, returning-are}
@@ -89,48 +89,53 @@ module _ (m : Model) (t : Fit m) (r : State) (p : ℕ) where
     passes a e = goes-past m s h p one q a e fine refl refl (λ k. refl) (λ j. refl)
 
     value :
-        (x : Expr) {f : ℤ → Outcome Next} → ExprFit m x → ((v : ℤ) → I32 v → Leads m (f v)) → Leads m (eval s q x >>= f)
+        (x : Expr) {f : Valued → Outcome Next} → ExprFit m x → ((v : Valued) → ValuedOk m v → Leads m (f v))
+        → Leads m (eval m s q x (s .seeds) >>= f)
     value x k g =
-        good-then I32 (λ n. Sound m (n .state)) (eval s q x)
-        (eval-good m s q (h .globals-ok) (fine .locals-ok) (h .clock-ok) x k) g
+        good-then (ValuedOk m) (λ n. Sound m (n .state)) (eval m s q x (s .seeds))
+        (eval-good m t s q (h .globals-ok) (fine .locals-ok) (h .clock-ok) x k (s .seeds) (h .seeds-ok)) g
 
     hold-sound : (x : Expr) → At (HOLD x) → ExprFit m x → Leads m (hold m s p x)
     unfolding hold
     hold-sound x e k =
         value x k λ v i.
-        good-need No.BACK (nonNeg v) λ h₁.
-        good-need No.LATE (leb (s .clock + natAbs v) No.latest) λ h₂.
+        let n : ℕ = s .clock + natAbs (v .value) in
+        good-need No.BACK (nonNeg (v .value)) λ h₁.
+        good-need No.LATE (leb n No.latest) λ h₂.
         good
-        (wakes-up m (with-floor (put p (past q) s) empty) (passes (HOLD x) e) (s .clock + natAbs v) p (omega arith)
-        (leb-true (s .clock + natAbs v) No.latest h₂) (λ k. omega arith))
+        (wakes-up m (with-seeds (with-floor (put p (past q) s) empty) (v .seeds)) (seeds-are (passes (HOLD x) e) (i .seeds-ok)) n p
+        (omega arith)
+        (leb-true n No.latest h₂) (λ k. omega arith))
 
     prio-sound : (x : Expr) → At (PRIO x) → ExprFit m x → Leads m (prio m s p x)
     unfolding prio
     prio-sound x e k =
         value x k λ v i.
-        let w : ℤ = if leZ lowest v then v else lowest in
-        let b = priority-ok v i in
+        let w : ℤ = if leZ lowest (v .value) then v .value else lowest in
+        let b = priority-ok (v .value) (i .value-ok) in
         good
-        (goes-past m s h p one (with-priority q w) (PRIO x) e (fine-priority fine w (b .0) (b .1)) refl refl
-        (λ k. refl) (λ j. refl))
+        (seeds-are (goes-past m s h p one (with-priority q w) (PRIO x) e (fine-priority fine w (b .0) (b .1)) refl refl
+        (λ k. refl) (λ j. refl)) (i .seeds-ok))
 
     trace-sound : (x : Expr) → At (TRACE x) → ExprFit m x → Leads m (trace m s p x)
     unfolding trace
-    trace-sound x e k = value x k λ v i. good (passes (TRACE x) e)
+    trace-sound x e k = value x k λ v i. good (seeds-are (passes (TRACE x) e) (i .seeds-ok))
 
     set-local-sound : (j : ℕ) (x : Expr) → At (LSET j x) → ExprFit m x → Leads m (setLocal m s p j x)
     unfolding setLocal
     set-local-sound j x e k =
         value x k λ v i.
         good
-        (goes-past m s h p one (with-locals q (set (q .locals) j v)) (LSET j x) e (fine-local fine j v i) refl refl
-        (λ k. refl) (λ j. refl))
+        (seeds-are (goes-past m s h p one (with-locals q (set (q .locals) j (v .value))) (LSET j x) e
+        (fine-local fine j (v .value) (i .value-ok)) refl refl (λ k. refl) (λ j. refl)) (i .seeds-ok))
 
     set-global-sound : (j : ℕ) (x : Expr) → At (SET j x) → ExprFit m x → Leads m (setGlobal m s p j x)
     unfolding setGlobal
     set-global-sound j x e k =
         value x k λ v i.
-        good (walk-sound m t (with-globals (put p (past q) s) (set (s .globals) j v)) (global-is (passes (SET j x) e) j v i))
+        good
+        (walk-sound m t (with-globals (with-seeds (put p (past q) s) (v .seeds)) (set (s .globals) j (v .value)))
+        (global-is (seeds-are (passes (SET j x) e) (i .seeds-ok)) j (v .value) (i .value-ok)))
 
     do-sound : (n b : ℕ) → At (DO n b) → Leads m (doTimes m s p n b)
     unfolding doTimes into

@@ -9,22 +9,24 @@ use mathlib.Core.Option.{Option, none, some}
 use lib.Dec.{eqb, leb, ltb}
 use borrow.Author.Tests.{leb-true, ltb-true, ltb-false, eqb-true}
 use lib.ListN.{length, getD, drop, length-map}
+use lib.IntN.{pos, _-ℤ_}
+use lib.Signed.{leZ}
 use Rattle.semantics.specs.Words.{all, any, within}
 use Rattle.semantics.specs.Numbers as No
 use Rattle.semantics.specs.Kinds as K
-use Rattle.semantics.specs.Model.{Expr, add, subtract, multiply, lesser, greater, negate, theClock, resource, bin, sync, Item}
-use Rattle.semantics.specs.Model.{get, condition, Model}
+use Rattle.semantics.specs.Model.{Expr, add, subtract, multiply, lesser, greater, negate, theClock, draw, resource, bin, sync}
+use Rattle.semantics.specs.Model.{Item, get, condition, Model}
 use Rattle.semantics.specs.Bytes.{u8, u16, u32, i32, signed, parts}
 use Rattle.semantics.specs.Record.{Node, leaf, unary, binary, nodeOf, onto, pile, nodes, theTree, expressionIn, Part, item}
 use Rattle.semantics.specs.Record.{share, partSize, partValid, samePart, repeats, partsOf, listValid, listTwice, relationOf}
 use Rattle.semantics.specs.Record.{itemOf, claimIn, shareOf, sharesIn, branchesFrom, branchOf, branchesIn, Tail, expression}
 use Rattle.semantics.specs.Record.{branches, listOf, claim, shares, valid, twice, inSet, Entry, RES, BIN, SYNC, VAR, CLASS}
-use Rattle.semantics.specs.Record.{BLOCK, ENTITY, ACTION, Row, table, rowOf}
+use Rattle.semantics.specs.Record.{BLOCK, ENTITY, SAMPLER, ACTION, Row, table, rowOf, samplerOf, samplerValid}
 use Rattle.semantics.specs.Decode.{nodeKnown, partKnown, tailKnown, fieldKnown, Gathered}
 use Rattle.promises.specs.Laws.{no-way, and-true, or-false, or-true, if-has, _&_, AllOf, all-both, all-get, all-mapped}
 use Rattle.promises.specs.Laws.{all-hold, none-hold, Ordered}
 use Rattle.promises.specs.Fit.{I32, Within, ExprFit, ItemFit, Apart, ClaimFit, BranchFit, ShareFit, SharesApart, ActFit}
-use Rattle.promises.specs.Fit.{EntityFit}
+use Rattle.promises.specs.Fit.{EntityFit, SamplerFit}
 use Rattle.promises.specs.Says.{says-within}
 use Rattle.promises.specs.Passes.{Judged, Named, its-row}
 use Rattle.promises.specs.Counted.{counts}
@@ -101,6 +103,7 @@ EntryFit m (VAR v) = I32 v
 EntryFit m (CLASS b) = b < length (m .blocks)
 EntryFit m BLOCK = Unit {0}
 EntryFit m (ENTITY x) = EntityFit m x
+EntryFit m (SAMPLER x) = SamplerFit x
 EntryFit m (ACTION a) = ActFit m a
 
 -- IN THE MODEL m, where n has the counts that check 8 goes by.
@@ -133,25 +136,35 @@ module _ (n : List ℕ) (g : Gathered) (c : (j : ℕ) → getD n j 0 ≡ getD (c
   onto-fits (binary u) (x ∷ []) f h = tt
   onto-fits (binary u) (x ∷ y ∷ es) f h = (f x y (h .0) (h .1 .0), h .1 .1)
 
-  node-fits : (op v : ℕ)
-      → (not (eqb op 1) || ltb v (getD n K.VAR 0)) && (not (eqb op 2) || ltb v No.locals) ≡ true → NodeFit (nodeOf op v)
+  -- What check 8 asks of a node with this op and operand.
+  abbrev known : ℕ → ℕ → Bool
+  known op v =
+      (not (eqb op 1) || ltb v (getD n K.VAR 0))
+      && ((not (eqb op 2) || ltb v No.locals) && (not (eqb op 10) || ltb v (getD n K.SAMPLER 0)))
+
+  of-two : (x y : Expr) → ExprFit m x → ExprFit m y → ExprFit m x × ExprFit m y
+  of-two x y a b = (a, b)
+
+  node-fits : (op v : ℕ) → known op v ≡ true → NodeFit (nodeOf op v)
   node-fits zero v e = signed-fits v
   node-fits (suc zero) v e = there K.VAR v (and-true (ltb v (getD n K.VAR 0)) _ e .0)
-  node-fits (suc (suc zero)) v e = ltb-true v No.locals e
-  node-fits (suc (suc (suc op))) v e =
-      all-get NodeFit
-      (binary add ∷ binary subtract ∷ binary multiply ∷ binary lesser ∷ binary greater ∷ leaf theClock ∷ unary negate ∷ []) op
-      (leaf theClock) (two & two & two & two & two & tt & (λ x a. a) & tt) tt
-    where
-      two : (x y : Expr) → ExprFit m x → ExprFit m y → ExprFit m x × ExprFit m y
-      two x y a b = (a, b)
+  node-fits (suc (suc zero)) v e = ltb-true v No.locals (and-true (ltb v No.locals) _ e .0)
+  node-fits (suc (suc (suc zero))) v e = of-two
+  node-fits (suc (suc (suc (suc zero)))) v e = of-two
+  node-fits (suc (suc (suc (suc (suc zero))))) v e = of-two
+  node-fits (suc (suc (suc (suc (suc (suc zero)))))) v e = of-two
+  node-fits (suc (suc (suc (suc (suc (suc (suc zero))))))) v e = of-two
+  node-fits (suc (suc (suc (suc (suc (suc (suc (suc zero)))))))) v e = tt
+  node-fits (suc (suc (suc (suc (suc (suc (suc (suc (suc zero))))))))) v e = λ x a. a
+  node-fits (suc (suc (suc (suc (suc (suc (suc (suc (suc (suc zero)))))))))) v e = there K.SAMPLER v e
+  node-fits (suc (suc (suc (suc (suc (suc (suc (suc (suc (suc (suc op))))))))))) v e = tt
 
-  pile-fits : (ns : List (List ℕ)) → all (nodeKnown (getD n K.VAR 0)) ns ≡ true → PileFit (pile ns)
+  pile-fits : (ns : List (List ℕ)) → all (nodeKnown (getD n K.VAR 0) (getD n K.SAMPLER 0)) ns ≡ true → PileFit (pile ns)
   unfolding pile
   pile-fits [] e = tt
-  pile-fits (d ∷ ns) e = let a = and-true (nodeKnown (getD n K.VAR 0) d) _ e in go (pile ns) (a .0) (pile-fits ns (a .1))
+  pile-fits (d ∷ ns) e = let a = and-true (nodeKnown (getD n K.VAR 0) (getD n K.SAMPLER 0) d) _ e in go (pile ns) (a .0) (pile-fits ns (a .1))
     where
-      go : (p : Option (List Expr)) → nodeKnown (getD n K.VAR 0) d ≡ true → PileFit p
+      go : (p : Option (List Expr)) → nodeKnown (getD n K.VAR 0) (getD n K.SAMPLER 0) d ≡ true → PileFit p
           → PileFit (elim p [ none ↦ none | some es ↦ onto (nodeOf (u16 d 0) (u32 d 2)) es ])
       go none e h = tt
       go (some es) e h = onto-fits (nodeOf (u16 d 0) (u32 d 2)) es (node-fits (u16 d 0) (u32 d 2) e) h
@@ -225,6 +238,18 @@ module _ (n : List ℕ) (g : Gathered) (c : (j : ℕ) → getD n j 0 ≡ getD (c
       let w : Within 1 No.mostBranches (u16 bs 0) = says-within .yes (a .0) in
       (omega (arith, length-map xs branchOf, branches-many (u16 bs 0) (drop 2 bs)), each-branch xs (a .1) (t .1) (t .2))
 
+  -- Samplers.
+  sampler-fits : (bs : List ℕ) → samplerValid (samplerOf bs) ≡ true → SamplerFit (samplerOf bs)
+  sampler-fits bs s =
+      let a = and-true (leZ (i32 bs 0) (i32 bs 4)) _ s in
+      let b = and-true (leZ (i32 bs 4 -ℤ i32 bs 0) (pos No.topSpread)) _ (a .1) in
+      record {
+        lowest-fits = signed-fits (u32 bs 0);
+        highest-fits = signed-fits (u32 bs 4);
+        not-above = a .0;
+        seed-fits = says-within .yes (b .1);
+      }
+
   -- THE ROWS, in the table's order: s is that the field is in its set, k that it is known, t what the tail says.
   abbrev RowFit : Row → Type 0
   RowFit r =
@@ -240,6 +265,7 @@ module _ (n : List ℕ) (g : Gathered) (c : (j : ℕ) → getD n j 0 ≡ getD (c
       & (λ bs s k t. there K.BLOCK (u16 bs 0) k)
       & (λ bs s k t. tt)
       & (λ bs s k t. (there K.CLASS (u16 bs 0) k, says-within .yes s .high))
+      & (λ bs s k t. sampler-fits bs s)
       & (λ bs s k t. expression-fits bs t)
       & (λ bs s k t. expression-fits bs t)
       & (λ bs s k t. (there K.VAR (u16 bs 0) k, expression-fits (drop 2 bs) t))

@@ -46,6 +46,8 @@ module _ (b t : ℕ) {w : List ℕ} (d : Doing w Roomy (λ s. begins b t s)) whe
         events-ok = c .events-ok;
         places-64 = c .places-64;
         processes-ok = c .processes-ok;
+        seeds-few = c .seeds-few;
+        seeds-ok = c .seeds-ok;
       }
 
   numbered-sized : Sized (numbered b s)
@@ -70,6 +72,8 @@ module _ (b t : ℕ) {w : List ℕ} (d : Doing w Roomy (λ s. begins b t s)) whe
         events-ok = c .events-ok;
         places-64 = a .places-64;
         processes-ok = a .processes-ok;
+        seeds-few = c .seeds-few;
+        seeds-ok = c .seeds-ok;
       }
 
   module _ {n : ℕ} (e : n ≡ getD w 2 0 + 1) where

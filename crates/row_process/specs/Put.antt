@@ -41,6 +41,8 @@ module _ (s : State) (p : ℕ) (q : Process) where
         events-ok = h .events-ok;
         places-64 = length-set (s .processes) p q ∙ h .places-64;
         processes-ok = all-set ProcessSized (s .processes) p q (h .processes-ok) k;
+        seeds-few = h .seeds-few;
+        seeds-ok = h .seeds-ok;
       }
 
   -- What was put there is as large as the state allows.

@@ -8,7 +8,7 @@ use lib.Dec.{leb}
 use borrow.Author.Tests.{le-leb, lt-ltb, eq-eqb}
 use lib.ListN.{length}
 use lib.Signed.{mag}
-use Rattle.semantics.specs.Words.{if_then_else_, all, keep}
+use Rattle.semantics.specs.Words.{if_then_else_, all, keep, within}
 use Rattle.semantics.specs.Model.{Model}
 use Rattle.semantics.specs.State.{State, isFree}
 use Rattle.semantics.specs.Step.{isReturn}
@@ -17,7 +17,8 @@ use Rattle.semantics.specs.Sound.{vacant, furnished, eventTied, waiterTied, pro
 use Rattle.semantics.specs.Sound.{inOne, addsUp}
 use Rattle.promises.specs.Laws.{_&_, all-map}
 use Rattle.promises.specs.Fit.{I32}
-use Rattle.promises.specs.Says.{Says, says-is, says-for, _and_, says-also}
+use Rattle.promises.specs.Sound.{Seed}
+use Rattle.promises.specs.Says.{Says, says-is, says-for, says-within, _and_, says-also}
 use Rattle.row_process.specs.Process.{Shown}
 use Rattle.row_lists.specs.Lists.{Any}
 use Rattle.semantics.specs.Numbers as No
@@ -128,6 +129,9 @@ module _ {w totals : List ℕ} {resources bins syncs : ℕ} (v : Counted w total
   bins-in : all (λ n. leb n No.fullBin) (s .bins) ≡ true
   bins-in = all-true _ (s .bins) (all-map (λ n. n ≤ No.fullBin) _ (λ n i. le-leb n No.fullBin i) (s .bins) (v .sized .bins-low))
 
+  seeds-in : all (within 1 No.lastSeed) (s .seeds) ≡ true
+  seeds-in = all-true _ (s .seeds) (all-map Seed _ (λ n i. says-within .back i) (s .seeds) (v .sized .seeds-ok))
+
   pub tests-decide :
       ((few && ((each No.places (placeFits w syncs) && each No.places (placeListed w syncs))
       && (eventsFit w resources bins && (queueFits w Row.QUEUE Row.BLOCKED && waitingFits w syncs))))
@@ -145,17 +149,17 @@ module _ {w totals : List ℕ} {resources bins syncs : ℕ} (v : Counted w total
       let bs = lists .1 .0 in
       let ws = lists .1 .1 in
       (eq-eqb _ _ (v .sized .places-64) & eq-eqb _ _ (v .shaped .frees-many) & eq-eqb _ _ (v .shaped .bins-many)
-      & eq-eqb _ _ (v .shaped .vars-many) & eq-eqb _ _ (v .shaped .syncs-many)
+      & eq-eqb _ _ (v .shaped .vars-many) & eq-eqb _ _ (v .shaped .syncs-many) & eq-eqb _ _ (v .shaped .seeds-many)
       & places .0 .0 & es .1 .1 .0 & bs .1 & ws .1)
-      & (le-leb _ _ (v .sized .clock-low) & le-leb _ _ (v .sized .last-low) & globals-in & bins-in
+      & (le-leb _ _ (v .sized .clock-low) & le-leb _ _ (v .sized .last-low) & globals-in & bins-in & seeds-in
       & places .0 .1 .0 & es .1 .1 .1 & h .0 .0)
       & (es .0 & bs .0 & ws .0 & es .1 .0)
       & places .0 .1 .1
       & places .1
       & h .1)
       (λ h.
-      let shape = h .0 .1 .1 .1 .1 .1 in
-      let range = h .1 .0 .1 .1 .1 .1 in
+      let shape = h .0 .1 .1 .1 .1 .1 .1 in
+      let range = h .1 .0 .1 .1 .1 .1 .1 in
       let order = h .1 .1 .0 in
       let rest = h .1 .1 .1 in
       (range .1 .1
@@ -163,7 +167,7 @@ module _ {w totals : List ℕ} {resources bins syncs : ℕ} (v : Counted w total
       & (order .0 & order .1 .1 .1 & shape .1 .0 & range .1 .0)
       & (order .1 .0 & shape .1 .1 .0) & (order .1 .1 .0 & shape .1 .1 .1))
       & rest .1 .1))
-      ((says-is and says-is and says-is and says-is and says-is and is shapes and says-is and says-is and says-is)
-      and (says-is and says-is and says-is and says-is and is ranges and says-is and is few)
+      ((says-is and says-is and says-is and says-is and says-is and says-is and is shapes and says-is and says-is and says-is)
+      and (says-is and says-is and says-is and says-is and says-is and is ranges and says-is and is few)
       and (says-is and says-is and says-is and is times)
       and is numbers and is (inOne s) and is (addsUp m s))

@@ -26,6 +26,7 @@ pub record Shaped (m : Model) (s : State) : Type 0 where
   pub bins-many : length (s .bins) ≡ length (m .amounts)
   pub vars-many : length (s .globals) ≡ length (m .vars)
   pub syncs-many : length (s .waiting) ≡ m .syncs
+  pub seeds-many : length (s .seeds) ≡ length (m .samplers)
   pub furnished : AllOf (Furnished m) (s .processes)
 
 -- How many things the model declares, and the totals of its resources.
@@ -59,6 +60,7 @@ sound-shaped m s h =
       bins-many = h .bins-many;
       vars-many = h .vars-many;
       syncs-many = h .syncs-many;
+      seeds-many = h .seeds-ok .many;
       furnished =
           all-map (ProcOk m (s .last)) (Furnished m) (λ q o. by (q .frames) refl (o .dead) (o .live)) (s .processes)
           (h .procs-ok);

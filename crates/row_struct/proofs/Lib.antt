@@ -1,4 +1,3 @@
-pub mod Copies
 pub mod Laying
 pub mod Packing
 pub mod Places

@@ -10,7 +10,7 @@ use Rattle.promises.specs.Laws.{AllOf, all-map}
 use Rattle.base_numbers.specs.Row as Row
 use Rattle.base_numbers.specs.Process as Process
 use Rattle.row_work.specs.Laid.{laid, Wide, laid-length, even-length}
-use Rattle.row_work.specs.Work.{processWidths, workWidths}
+use Rattle.row_work.specs.Work.{processWidths, workWidths, seedsPart}
 use Rattle.row_struct.specs.declared.Process.{Process}
 use Rattle.row_struct.specs.declared.State.{State}
 use Rattle.row_struct.specs.State.{processPartsOf, processRowOf, partsOf, rowOf, ProcessFull, ProcessesFull, Full}
@@ -104,6 +104,7 @@ stateOf ps qs =
       words = getD ps 7 [];
       waiting = getD ps 8 [];
       processes = qs;
+      seeds = getD ps seedsPart [];
     }
 
 pub state-long : (s : State) → Full s → length (rowOf s) ≡ Row.WORDS

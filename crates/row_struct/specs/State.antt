@@ -20,7 +20,7 @@ unfoldable pub processRowOf : Process → List ℕ
 unfolding laid
 processRowOf q = laid (processPartsOf q)
 
--- A STATE has a row of 10,696 numbers, laid as `workOf` lays it.
+-- A STATE has a row of 10,712 numbers, laid as `workOf` lays it.
 abbrev pub partsOf : State → List (List ℕ)
 partsOf s =
     (s .clock ∷ s .closed ∷ s .last ∷ s .floor ∷ s .living ∷ s .events ∷ s .blocked ∷ s .spare ∷ [])
@@ -33,6 +33,7 @@ partsOf s =
     ∷ s .words
     ∷ s .waiting
     ∷ collect processRowOf (s .processes)
+    ∷ s .seeds
     ∷ []
 
 unfoldable pub rowOf : State → List ℕ

@@ -1,5 +1,5 @@
-// An open run's state as a struct of arrays, by value. The engine works on one lent row of numbers (crate row_work): the struct is
-// unpacked into it when a call begins and packed from it when the call ends.
+// An open run's state as a struct of arrays, by value. The engine works on one lent row of numbers (crate row_work): the struct
+// is unpacked into it when a call begins and packed from it when the call ends.
 use base_numbers::limit;
 use base_numbers::process;
 use base_numbers::row;
@@ -51,25 +51,13 @@ pub struct State {
     pub seeds: [u64; limit::SAMPLERS],
 }
 
-// `from`, number by number, over a row of its length.
-pub fn copy_words(from: &[u64], to: &mut [u64])
-    requires { ⌜ length (now from) ≡ length (now to) ⌝ }
-    ensures { λ _. ⌜ now (to .exit) ≡ now (from .entry) ⌝ }
-{
-    let mut i = 0;
-    while i < from.len() {
-        to[i] = from[i];
-        i += 1;
-    }
-}
-
 // A part of a row, laid over what stands there from `at` on.
 fn lay(part: &[u64], w: &mut [u64], at: usize)
     requires { ⌜ at + length (now part) ≤ length (now w) ⌝ }
     ensures { λ _. ⌜ now (w .exit) ≡ over at (now (part .entry)) (now (w .entry)) ⌝ }
 {
     let to = at + part.len();
-    copy_words(part, &mut w[at..to]);
+    row_work::copy_words(part, &mut w[at..to]);
 }
 
 // ---- from the struct to the row
@@ -142,7 +130,7 @@ fn lift(w: &[u64], at: usize, part: &mut [u64])
     ensures { λ _. ⌜ now (part .exit) ≡ take (length (now (part .entry))) (drop at (now (w .entry))) ⌝ }
 {
     let to = at + part.len();
-    copy_words(&w[at..to], part);
+    row_work::copy_words(&w[at..to], part);
 }
 
 // The part as an array of each length that a field has.

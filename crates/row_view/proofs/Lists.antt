@@ -3,14 +3,15 @@ use Prim.Native.Nat.{ℕ, suc, _+_, _-_, _≤_}
 use native.Mathlib.Omega.{arith}
 use mathlib.Core.Path.{_≡_, refl, sym, _∙_, ap}
 use mathlib.Core.List.{List, [], _∷_, _++_, map}
+use mathlib.Core.Bool.{Bool}
 use lib.Dec.{leb}
 use lib.ListN.{length, take, length-append, length-map, length-take}
 use lib.Seq.{length-take-le}
-use Rattle.semantics.specs.Words.{all}
 use Rattle.semantics.specs.Numbers as No
 use Rattle.semantics.specs.State.{Frame, Event}
 use Rattle.promises.specs.Laws.{AllOf, all-append, all-split, _&_}
-use Rattle.promises.specs.Says.{Says, says-le, says-true, says-for, _and_}
+use Rattle.promises.specs.Sound.{Seed}
+use Rattle.promises.specs.Says.{Says, says-le, says-within, says-all, says-for}
 use Rattle.base_numbers.specs.Most as Most
 use Rattle.base_numbers.specs.Row as Row
 use Rattle.base_i32.specs.Laws.{value-fits}
@@ -18,22 +19,23 @@ use Rattle.base_ordered.specs.Lines.{pad, eventKey, waiterWord, dataOf}
 use Rattle.row_work.specs.Work.{frameWord, stacked, waitersRow, FrameSized, NoticeSized, EventSized, WaiterSized, WaitersSized}
 use Rattle.row_work.specs.Shown.{stacked-length}
 use Rattle.row_view.specs.View.{frameOf, noticeOf, eventOf, waiterOf, framesOf, eventsOf, waitersOf}
-use Rattle.row_view.specs.Fits.{frameFits, fits, fitsBelow}
+use Rattle.row_view.specs.Fits.{frameFits, seedFits, fits, fitsBelow}
 use Rattle.row_view.proofs.Words.{says-frame, says-waiter}
 use Rattle.row_view.proofs.Shown.{says-row, says-words, says-shown}
 
--- AMOUNTS.
-says-within : (most : ℕ) (xs : List ℕ) → Says (all (λ x. leb x most) xs) ((xs ≡ xs) × AllOf (λ x. x ≤ most) xs)
-says-within most xs = says-for (go xs) (λ h. (refl, h)) (λ h. h .1)
-  where
-    go : (xs : List ℕ) → Says (all (λ x. leb x most) xs) (AllOf (λ x. x ≤ most) xs)
-    go [] = says-true
-    go (x ∷ xs) = says-le and go xs
+-- NUMBERS that stand for themselves; amounts; seeds.
+says-numbers : (t : ℕ → Bool) (P : ℕ → Type 0) → ((x : ℕ) → Says (t x) (P x)) → (n k : ℕ) (row : List ℕ) → length row ≡ n
+    → Says (fits t k row) ((k ≤ n) × ((row ≡ pad n (take k row)) × AllOf P (take k row)))
+says-numbers t P each =
+    says-row t (λ xs. xs) (AllOf P) (λ xs. refl) (λ xs. says-for (says-all each xs) (λ h. (refl, h)) (λ h. h .1))
 
 pub says-amounts : (most n k : ℕ) (row : List ℕ) → length row ≡ n
     → Says (fitsBelow k most row) ((k ≤ n) × ((row ≡ pad n (take k row)) × AllOf (λ x. x ≤ most) (take k row)))
-says-amounts most n k row l =
-    says-row (λ x. leb x most) (λ xs. xs) (AllOf (λ x. x ≤ most)) (λ xs. refl) (says-within most) n k row l
+says-amounts most = says-numbers (λ x. leb x most) (λ x. x ≤ most) (λ x. says-le)
+
+pub says-seeds : (n k : ℕ) (row : List ℕ) → length row ≡ n
+    → Says (fits seedFits k row) ((k ≤ n) × ((row ≡ pad n (take k row)) × AllOf Seed (take k row)))
+says-seeds = says-numbers seedFits Seed (λ x. says-within)
 
 -- BLOCKS: the outermost stands first in the row.
 stacked-more : (fs : List Frame) (f : Frame) → stacked (fs ++ f ∷ []) ≡ frameWord f ∷ stacked fs

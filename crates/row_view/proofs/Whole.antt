@@ -11,6 +11,7 @@ use Rattle.semantics.specs.Numbers as No
 use Rattle.semantics.specs.State.{State, Waiter}
 use Rattle.promises.specs.Laws.{AllOf, all-map, all-mapped, _&_}
 use Rattle.promises.specs.Fit.{I32}
+use Rattle.promises.specs.Sound.{Seed}
 use Rattle.promises.specs.Says.{Says, says-le, says-eq, says-for, _and_}
 use Rattle.base_numbers.specs.Row as Row
 use Rattle.base_numbers.specs.Limit as Limit
@@ -25,15 +26,15 @@ use Rattle.row_view.specs.Fits.{Few, workFits}
 use Rattle.row_view.proofs.Words.{says-code, says-key, says-notice}
 use Rattle.row_view.proofs.Shown.{says-shown}
 use Rattle.row_view.proofs.Lists.{says-amounts, Timely, byKey, events-long, keys-are, words-are, events-all, events-each}
-use Rattle.row_view.proofs.Lists.{Listed, says-waiters}
+use Rattle.row_view.proofs.Lists.{says-seeds, Listed, says-waiters}
 use Rattle.row_view.proofs.Waiting.{Waits, says-waiting}
 use Rattle.row_view.proofs.Living.{Lives, says-living}
 use Rattle.row_view.proofs.Head.{closed-is, closed-low, floor-is, floor-ok, floor-low, processes-long, waiting-many}
 use Rattle.row_view.proofs.Cuts.{laid-cuts, cut-long, cut-words}
 
-module _ (r b y v : ℕ) (few : Few r b y v) (w : List ℕ) (long : length w ≡ Row.WORDS) where
+module _ (r b y v g : ℕ) (few : Few r b y v g) (w : List ℕ) (long : length w ≡ Row.WORDS) where
   abbrev s : State
-  s = viewBy r b y v w
+  s = viewBy r b y v g w
 
   abbrev n : ℕ
   n = getD w Row.EVENTS 0
@@ -46,6 +47,9 @@ module _ (r b y v : ℕ) (few : Few r b y v) (w : List ℕ) (long : length w ≡
 
   abbrev values : List ℕ
   values = take v (cut Row.GLOBALS Limit.THINGS w)
+
+  abbrev seeds : List ℕ
+  seeds = take g (cut Row.SEEDS Limit.SAMPLERS w)
 
   -- What the tests say.
   pub record Tested : Type 0 where
@@ -70,11 +74,13 @@ module _ (r b y v : ℕ) (few : Few r b y v) (w : List ℕ) (long : length w ≡
     pub data-ok : AllOf NoticeSized (map noticeOf data′)
     pub waiting : Waits (cut Row.WAITS y w) (cut Row.WAITING Row.WAITERS_ALL w)
     pub living : Lives r (few .few-resources) No.places (cut Row.PROCESSES Row.PROCESSES_ALL w) (getD w Row.LIVING 0)
+    pub seeds-are : cut Row.SEEDS Limit.SAMPLERS w ≡ pad Limit.SAMPLERS seeds
+    pub seeds-ok : AllOf Seed seeds
 
   part-long : (a k : ℕ) → a + k ≤ Row.WORDS → length (cut a k w) ≡ k
   part-long a k h = cut-long a k w (omega arith)
 
-  says-tested : Says (workFits r b y v w) Tested
+  says-tested : Says (workFits r b y v g w) Tested
   unfolding workFits
   says-tested =
       let u = few .few-syncs in
@@ -95,7 +101,8 @@ module _ (r b y v : ℕ) (few : Few r b y v) (w : List ℕ) (long : length w ≡
       and says-waiting (cut Row.WAITS y w) (cut Row.WAITING Row.WAITERS_ALL w)
       (omega (arith, part-long Row.WAITS y (omega arith), part-long Row.WAITING Row.WAITERS_ALL (omega arith))))
       and says-living r (few .few-resources) No.places (cut Row.PROCESSES Row.PROCESSES_ALL w) (getD w Row.LIVING 0)
-      (part-long Row.PROCESSES Row.PROCESSES_ALL (omega arith)))
+      (part-long Row.PROCESSES Row.PROCESSES_ALL (omega arith))
+      and says-seeds Limit.SAMPLERS g (cut Row.SEEDS Limit.SAMPLERS w) (part-long Row.SEEDS Limit.SAMPLERS (omega arith)))
       (λ h.
       record {
         clock-low = h .0 .0;
@@ -118,7 +125,9 @@ module _ (r b y v : ℕ) (few : Few r b y v) (w : List ℕ) (long : length w ≡
         data-made = h .1 .1 .0 .1 .1 .0 .1 .0;
         data-ok = h .1 .1 .0 .1 .1 .0 .1 .1;
         waiting = h .1 .1 .0 .1 .1 .1;
-        living = h .1 .1 .1;
+        living = h .1 .1 .1 .0;
+        seeds-are = h .1 .1 .1 .1 .1 .0;
+        seeds-ok = h .1 .1 .1 .1 .1 .1;
       })
       (λ t.
       (t .clock-low & t .closed-bit & t .last-low & t .floor-low & t .spare)
@@ -127,7 +136,8 @@ module _ (r b y v : ℕ) (few : Few r b y v) (w : List ℕ) (long : length w ≡
       & (few .few-variables & t .globals-are & t .globals-ok)
       & few .few-syncs & t .counts-are & t .counts-low)
       & (t .blocked & (t .events-few & t .keys-made & t .keys-ok) & (t .events-few & t .data-made & t .data-ok) & t .waiting)
-      & t .living)
+      & t .living
+      & few .few-samplers & t .seeds-are & t .seeds-ok)
 
   -- The counts of the waiting lists, and the lists.
   abbrev counts : List ℕ
@@ -166,8 +176,8 @@ module _ (r b y v : ℕ) (few : Few r b y v) (w : List ℕ) (long : length w ≡
       let e = part-long Row.NOTICES Row.EVENTS_MOST (omega arith) in
       omega arith
 
-  few-of : (k : ℕ) (row : List ℕ) → length row ≡ Limit.THINGS → length (take k row) ≤ Limit.THINGS
-  few-of k row l = let a = length-take k row in omega arith
+  few-of : (k most : ℕ) (row : List ℕ) → length row ≡ most → length (take k row) ≤ most
+  few-of k most row l = let a = length-take k row in omega arith
 
   abbrev Is : Type 0
   Is = (w ≡ workOf s) × Sized s
@@ -183,12 +193,12 @@ module _ (r b y v : ℕ) (few : Few r b y v) (w : List ℕ) (long : length w ≡
           clock-low = t .clock-low;
           last-low = t .last-low;
           floor-ok = floor-ok (getD w Row.FLOOR 0) (t .floor-low);
-          free-few = few-of r (cut Row.FREE Limit.THINGS w) (part-long Row.FREE Limit.THINGS (omega arith));
+          free-few = few-of r Limit.THINGS (cut Row.FREE Limit.THINGS w) (part-long Row.FREE Limit.THINGS (omega arith));
           free-low = t .free-low;
-          bins-few = few-of b (cut Row.BINS Limit.THINGS w) (part-long Row.BINS Limit.THINGS (omega arith));
+          bins-few = few-of b Limit.THINGS (cut Row.BINS Limit.THINGS w) (part-long Row.BINS Limit.THINGS (omega arith));
           bins-low = t .bins-low;
           globals-few =
-              let a = few-of v (cut Row.GLOBALS Limit.THINGS w) (part-long Row.GLOBALS Limit.THINGS (omega arith)) in
+              let a = few-of v Limit.THINGS (cut Row.GLOBALS Limit.THINGS w) (part-long Row.GLOBALS Limit.THINGS (omega arith)) in
               let c : length (map valueOf values) ≡ length values = length-map values valueOf in
               omega arith;
           globals-ok = t .globals-ok;
@@ -206,6 +216,8 @@ module _ (r b y v : ℕ) (few : Few r b y v) (w : List ℕ) (long : length w ≡
           events-ok = events-all keys data′ same-many (t .keys-ok) (t .data-ok);
           places-64 = processes-long r No.places (cut Row.PROCESSES Row.PROCESSES_ALL w);
           processes-ok = t .living .1 .0;
+          seeds-few = few-of g Limit.SAMPLERS (cut Row.SEEDS Limit.SAMPLERS w) (part-long Row.SEEDS Limit.SAMPLERS (omega arith));
+          seeds-ok = t .seeds-ok;
         }
 
     head : cut 0 8 w ≡ headOf s
@@ -235,12 +247,12 @@ module _ (r b y v : ℕ) (few : Few r b y v) (w : List ℕ) (long : length w ≡
               ∙ (λ z.
               laid
               (head z ∷ t .free-are z ∷ t .bins-are z ∷ t .globals-are z ∷ counts-are z ∷ t .blocked .0 z
-              ∷ keys-shown z ∷ data-shown z ∷ lists-are z ∷ t .living .0 z ∷ [])),
+              ∷ keys-shown z ∷ data-shown z ∷ lists-are z ∷ t .living .0 z ∷ t .seeds-are z ∷ [])),
           sized,
         )
 
   module _ (h : Is) where
-    part : (k : ℕ) → k < 10 → cut (sum (take k workWidths)) (getD workWidths k 0) w ≡ getD (workParts s) k []
+    part : (k : ℕ) → k < length workWidths → cut (sum (take k workWidths)) (getD workWidths k 0) w ≡ getD (workParts s) k []
     unfolding workOf
     part k l =
         ap (cut (sum (take k workWidths)) (getD workWidths k 0)) (h .0)
@@ -293,7 +305,9 @@ module _ (r b y v : ℕ) (few : Few r b y v) (w : List ℕ) (long : length w ≡
           data-ok = e .1;
           waiting = subst (λ ns. Waits ns (cut Row.WAITING Row.WAITERS_ALL w)) (sym counts-cut) waits-back;
           living = part 9 (omega arith) & z .processes-ok & at 4;
+          seeds-are = part 10 (omega arith);
+          seeds-ok = z .seeds-ok;
         }
 
-  pub says-work : Says (workFits r b y v w) Is
+  pub says-work : Says (workFits r b y v g w) Is
   says-work = says-for says-tested there back

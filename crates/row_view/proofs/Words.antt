@@ -21,9 +21,6 @@ use Rattle.row_work.specs.Work.{frameWord, slaveWord, FrameSized, SlaveSized, W
 use Rattle.row_view.specs.View.{frameOf, slaveOf, waiterOf, noticeOf, eventOf}
 use Rattle.row_view.specs.Fits.{frameFits, returnFits, noticeFits}
 
-pub says-plain : (most x : ℕ) → Says (leb x most) ((x ≡ x) × (x ≤ most))
-says-plain most x = says-for says-le (λ h. (refl, h)) (λ h. h .1)
-
 pub says-code : (x : ℕ) → Says (leb x Code.HIGHEST) ((code (valueOf x) ≡ x) × I32 (valueOf x))
 says-code x =
     record {

@@ -202,6 +202,7 @@ pub record Shaped (m : Model) (s : State) : Type 0 where
   pub syncs-many : length (s .waiting) ≡ m .syncs
   pub vars-many : length (s .globals) ≡ length (m .vars)
   pub furnished : AllOf (Furnished (length (m .totals))) (s .processes)
+  pub seeds-many : length (s .seeds) ≡ length (m .samplers)
 
 pub view-back : (m : Model) (s : State) → Sized s → Shaped m s → viewIn m (workOf s) ≡ s
 unfolding viewBy workOf
@@ -220,6 +221,7 @@ view-back m s h f =
     let lists-are : row Row.WAITING Row.WAITERS_ALL ≡ pad Row.WAITERS_ALL (collect waitersRow (s .waiting)) =
     part 8 (omega arith) in
     let places-are : row Row.PROCESSES Row.PROCESSES_ALL ≡ collect processRow (s .processes) = part 9 (omega arith) in
+    let seeds-are : row Row.SEEDS Limit.SAMPLERS ≡ pad Limit.SAMPLERS (s .seeds) = part 10 (omega arith) in
     let a =
     ap (λ x. map valueOf (take (length (m .vars)) x)) globals-are
     ∙ row-back code valueOf I32 valueOf-code Limit.THINGS (length (m .vars)) (s .globals) (h .globals-ok) (sym (f .vars-many)) in
@@ -238,6 +240,7 @@ view-back m s h f =
     ap (λ x. processesOf r No.places x) places-are
     ∙ ap (λ i. processesOf r i (collect processRow (s .processes))) (sym (h .places-64))
     ∙ processes-back r (s .processes) (h .processes-ok) (f .furnished) in
+    let q = ap (take (length (m .samplers))) seeds-are ∙ front-back Limit.SAMPLERS _ (s .seeds) (sym (f .seeds-many)) in
     let u = closed-back (s .closed) in
     let v = floor-back (s .floor) in
     λ t.
@@ -253,4 +256,5 @@ view-back m s h f =
       events = e t;
       blocked = k t;
       processes = p t;
+      seeds = q t;
     }

@@ -5,7 +5,7 @@ use mathlib.Core.List.{List, [], _∷_}
 use mathlib.Core.Bool.{Bool, _&&_}
 use lib.Dec.{eqb, leb, ltb}
 use lib.ListN.{length, getD, take, drop}
-use Rattle.semantics.specs.Words.{if_then_else_, all}
+use Rattle.semantics.specs.Words.{if_then_else_, all, within}
 use Rattle.semantics.specs.Numbers as No
 use Rattle.semantics.specs.Model.{Model}
 use Rattle.base_numbers.specs.Row as Row
@@ -19,18 +19,20 @@ use Rattle.row_work.specs.Work.{workOf, Sized}
 use Rattle.row_view.specs.View.{cut, seated, viewIn}
 use Rattle.row_view.specs.declared.Rule.{Rule}
 
--- HOW MANY resources, bins, syncs and variables a model has, said of four numbers; and no more than a file may declare.
-pub record Counted (m : Model) (resources bins syncs variables : ℕ) : Type 0 where
+-- HOW MANY resources, bins, syncs, variables and samplers a model has, said of five numbers; and no more than a file may declare.
+pub record Counted (m : Model) (resources bins syncs variables samplers : ℕ) : Type 0 where
   pub resources-are : length (m .totals) ≡ resources
   pub bins-are : length (m .amounts) ≡ bins
   pub syncs-are : m .syncs ≡ syncs
   pub variables-are : length (m .vars) ≡ variables
+  pub samplers-are : length (m .samplers) ≡ samplers
 
-pub record Few (resources bins syncs variables : ℕ) : Type 0 where
+pub record Few (resources bins syncs variables samplers : ℕ) : Type 0 where
   pub few-resources : resources ≤ Limit.THINGS
   pub few-bins : bins ≤ Limit.THINGS
   pub few-syncs : syncs ≤ Limit.THINGS
   pub few-variables : variables ≤ Limit.THINGS
+  pub few-samplers : samplers ≤ Limit.SAMPLERS
 
 -- A ROW SHOWS a state of the model: it is the one form of it, and the work can hold it.
 pub record Showing (m : Model) (w : List ℕ) : Type 0 where
@@ -53,11 +55,15 @@ returnFits x =
 abbrev pub noticeFits : ℕ → Bool
 noticeFits x = if eqb (kindOf x) 0 then ltb x (Word.KINDS * No.places) else returnFits x
 
+abbrev pub seedFits : ℕ → Bool
+seedFits x = within 1 No.lastSeed x
+
 -- What a rule of the code asks of a word.
 abbrev pub passes : Rule → ℕ → Bool
 passes (Rule.Most n) = λ x. leb x n
 passes Rule.Frame = frameFits
 passes Rule.Notice = noticeFits
+passes Rule.Seed = seedFits
 
 -- A ROW whose first n words pass a test, and behind them stands nothing.
 unfoldable pub fits : (ℕ → Bool) → ℕ → List ℕ → Bool
@@ -113,9 +119,11 @@ listsFit syncs w =
     && (fits noticeFits (getD w Row.EVENTS 0) (cut Row.NOTICES Row.EVENTS_MOST w)
     && waitingFits (cut Row.WAITS syncs w) (cut Row.WAITING Row.WAITERS_ALL w)))
 
-unfoldable pub workFits : ℕ → ℕ → ℕ → ℕ → List ℕ → Bool
+unfoldable pub workFits : ℕ → ℕ → ℕ → ℕ → ℕ → List ℕ → Bool
 unfolding fits waitingFits processesFit
-workFits resources bins syncs variables w =
+workFits resources bins syncs variables samplers w =
     headFits w
     && (thingsFit resources bins syncs variables w
-    && (listsFit syncs w && processesFit resources No.places (cut Row.PROCESSES Row.PROCESSES_ALL w) (getD w Row.LIVING 0)))
+    && (listsFit syncs w
+    && (processesFit resources No.places (cut Row.PROCESSES Row.PROCESSES_ALL w) (getD w Row.LIVING 0)
+    && fits seedFits samplers (cut Row.SEEDS Limit.SAMPLERS w))))

@@ -49,6 +49,7 @@ sound-shaped m s h =
       syncs-many = h .syncs-many;
       vars-many = h .vars-many;
       furnished = all-map _ _ (furnished-by m (s .last)) (s .processes) (h .procs-ok);
+      seeds-many = h .seeds-ok .many;
     }
 
 -- THE WORK of a state of the model shows it.
@@ -87,16 +88,17 @@ module _ (bs : List ℕ) (m : Model) (e : decode bs ≡ accepted m) where
         says-sound-row (workOf s) .back (ap workOf (sym v) & (ap (soundIn m) v ∙ t))
 
   -- The counts of an accepted file are few.
-  pub counted-by : {k : Counts} → k ≡ countsIn m → Counted m (k .resources) (k .bins) (k .syncs) (k .variables)
+  pub counted-by : {k : Counts} → k ≡ countsIn m → Counted m (k .resources) (k .bins) (k .syncs) (k .variables) (k .samplers)
   counted-by c =
       record {
         resources-are = ap (λ x. x .resources) (sym c);
         bins-are = ap (λ x. x .bins) (sym c);
         syncs-are = ap (λ x. x .syncs) (sym c);
         variables-are = ap (λ x. x .variables) (sym c);
+        samplers-are = ap (λ x. x .samplers) (sym c);
       }
 
-  pub few-by : {k : Counts} → k ≡ countsIn m → Few (k .resources) (k .bins) (k .syncs) (k .variables)
+  pub few-by : {k : Counts} → k ≡ countsIn m → Few (k .resources) (k .bins) (k .syncs) (k .variables) (k .samplers)
   few-by c =
       let f = accepted-fit bs m e in
       let n = counted-by c in
@@ -105,6 +107,7 @@ module _ (bs : List ℕ) (m : Model) (e : decode bs ≡ accepted m) where
         few-bins = omega (arith, n .bins-are, f .few-amounts);
         few-syncs = omega (arith, n .syncs-are, f .few-syncs);
         few-variables = omega (arith, n .variables-are, f .few-vars);
+        few-samplers = omega (arith, n .samplers-are, f .few-samplers);
       }
 
 pub sound-row : (bs : List ℕ) (s : State) → AllOf IsByte bs → sound bs s ≡ true → soundRow bs (workOf s) ≡ true

@@ -93,8 +93,8 @@ processesOf resources zero row = []
 processesOf resources (suc n) row =
     processOf resources (take Process.WORDS row) ∷ processesOf resources n (drop Process.WORDS row)
 
--- THE STATE that the work w shows, for a model with so many resources, bins, syncs and variables.
-module _ (resources bins syncs variables : ℕ) where
+-- THE STATE that the work w shows, for a model with so many resources, bins, syncs, variables and samplers.
+module _ (resources bins syncs variables samplers : ℕ) where
   unfoldable pub viewBy : List ℕ → State
   unfolding eventsOf waitingOf processesOf
   viewBy w =
@@ -112,10 +112,11 @@ module _ (resources bins syncs variables : ℕ) where
             (take (getD w Row.EVENTS 0) (cut Row.NOTICES Row.EVENTS_MOST w));
         blocked = waitersOf (getD w Row.BLOCKED 0) (cut Row.QUEUE Row.WAITERS_MOST w);
         processes = processesOf resources No.places (cut Row.PROCESSES Row.PROCESSES_ALL w);
+        seeds = take samplers (cut Row.SEEDS Limit.SAMPLERS w);
       }
 
 abbrev pub viewIn : Model → List ℕ → State
-viewIn m w = viewBy (length (m .totals)) (length (m .amounts)) (m .syncs) (length (m .vars)) w
+viewIn m w = viewBy (length (m .totals)) (length (m .amounts)) (m .syncs) (length (m .vars)) (length (m .samplers)) w
 
 -- SOUND. What is not used is zero: a row is sound only if it is the one form of the state that it shows, and that is sound.
 unfoldable pub sameRow : List ℕ → List ℕ → Bool

@@ -6,6 +6,7 @@ pub mod Head
 pub mod Codes
 pub mod Events
 pub mod Blocked
+pub mod Seeds
 pub mod Waiting
 pub mod Places
 pub mod Sized

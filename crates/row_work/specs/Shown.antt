@@ -109,6 +109,7 @@ module _ (s : State) (h : Sized s) where
       & row-length Row.EVENTS_MOST (λ e. dataOf (e .notice)) (s .events) (h .events-few)
       & pad-length Row.WAITERS_ALL (collect waitersRow (s .waiting)) (omega arith)
       & omega arith
+      & pad-length Limit.SAMPLERS (s .seeds) (h .seeds-few)
       & tt
 
   pub work-long : length (workOf s) ≡ Row.WORDS

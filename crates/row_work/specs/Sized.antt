@@ -14,7 +14,8 @@ use Rattle.semantics.specs.Words.{any}
 use Rattle.semantics.specs.Model.{Model, block, Action, HOLD, PRIO, TRACE, SET, LSET, DO, PUTR, PUTB, PUTS, BECOME, REQ}
 use Rattle.semantics.specs.Model.{TRY, WHILE, START, CLOSE}
 use Rattle.semantics.specs.Bytes.{u16, Raw, raw, torn, cut, recordsFrom, spans, whole}
-use Rattle.semantics.specs.Record.{Entry, RES, BIN, SYNC, VAR, CLASS, BLOCK, ENTITY, ACTION, Row, table, rowIn, rowOf}
+use Rattle.semantics.specs.Record.{Entry, RES, BIN, SYNC, VAR, CLASS, BLOCK, ENTITY, SAMPLER, ACTION, Row, table}
+use Rattle.semantics.specs.Record.{rowIn, rowOf}
 use Rattle.semantics.specs.Decode.{accepted, Gathered, adds, gather, decode}
 use Rattle.semantics.specs.State.{State, Process, Frame, Slave, Waiter, Notice, wakes, returnsR, returnsB}
 use Rattle.semantics.specs.State.{Floor, empty, heldBy, nobody}
@@ -268,6 +269,8 @@ module _ (m : Model) (f : Fit m) (n : Nested m) (r : Rounds m) where
           events-ok = events-sized;
           places-64 = h .places-64;
           processes-ok = processes-sized;
+          seeds-few = omega (arith, h .seeds-ok .many, f .few-samplers);
+          seeds-ok = h .seeds-ok .each;
         }
 
   -- BETWEEN STEPS who has the floor lives.
@@ -310,6 +313,7 @@ EntryRounds (VAR v) = Unit {0}
 EntryRounds (CLASS b) = Unit {0}
 EntryRounds BLOCK = Unit {0}
 EntryRounds (ENTITY x) = Unit {0}
+EntryRounds (SAMPLER x) = Unit {0}
 EntryRounds (ACTION a) = FewRounds a
 
 u16-low : (bs : List ℕ) (k : ℕ) → AllOf IsByte bs → u16 bs k < Byte.TWO
@@ -337,6 +341,7 @@ adds-rounds g (VAR v) a h = h
 adds-rounds g (CLASS b) a h = h
 adds-rounds g BLOCK a h = (tt, h)
 adds-rounds g (ENTITY x) a h = h
+adds-rounds g (SAMPLER x) a h = h
 adds-rounds g (ACTION x) a h = ((a, h .0), h .1)
 
 gather-rounds : (rs : List Raw) → AllOf BodyBytes rs → GatheredRounds (gather rs)

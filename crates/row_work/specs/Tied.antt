@@ -13,7 +13,7 @@ starts n (w ∷ ws) = n ∷ starts (n + w) ws
 
 pub work-places : starts 0 workWidths
     ≡ Row.CLOCK ∷ Row.FREE ∷ Row.BINS ∷ Row.GLOBALS ∷ Row.WAITS ∷ Row.QUEUE ∷ Row.KEYS ∷ Row.NOTICES ∷ Row.WAITING
-    ∷ Row.PROCESSES ∷ Row.WORDS ∷ []
+    ∷ Row.PROCESSES ∷ Row.SEEDS ∷ Row.WORDS ∷ []
 work-places = refl
 
 pub process-places : starts 0 processWidths

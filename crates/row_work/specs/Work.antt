@@ -11,6 +11,7 @@ use Rattle.semantics.specs.State.{State, Process, Frame, Slave, Waiter, Event, 
 use Rattle.semantics.specs.State.{Floor, empty, heldBy}
 use Rattle.promises.specs.Laws.{AllOf}
 use Rattle.promises.specs.Fit.{I32}
+use Rattle.promises.specs.Sound.{Seed}
 use Rattle.base_numbers.specs.Row as Row
 use Rattle.base_numbers.specs.Process as Process
 use Rattle.base_numbers.specs.Word as Word
@@ -52,7 +53,7 @@ processRow q = laid (processParts q)
 -- THE WORK (places: base_numbers, Row): first the clock, whether the run is closed, the last number given, who has the floor (0
 -- for nobody, else the place and 1), the living places as bits, how many events and how many blocked there are, and 0; what is
 -- free; the bins; the codes of the variables; how many wait for each sync; the blocked; the keys of the events; what they do; a
--- row for each sync's waiting list; the processes' rows.
+-- row for each sync's waiting list; the processes' rows; the seeds.
 abbrev pub closedWord : Bool → ℕ
 closedWord true = 1
 closedWord false = 0
@@ -81,12 +82,17 @@ workParts s =
     ∷ pad Row.EVENTS_MOST (map (λ e. dataOf (e .notice)) (s .events))
     ∷ pad Row.WAITERS_ALL (collect waitersRow (s .waiting))
     ∷ collect processRow (s .processes)
+    ∷ pad Limit.SAMPLERS (s .seeds)
     ∷ []
 
 abbrev pub workWidths : List ℕ
 workWidths =
     Row.FREE ∷ Limit.THINGS ∷ Limit.THINGS ∷ Limit.THINGS ∷ Limit.THINGS ∷ Row.WAITERS_MOST ∷ Row.EVENTS_MOST ∷ Row.EVENTS_MOST
-    ∷ Row.WAITERS_ALL ∷ Row.PROCESSES_ALL ∷ []
+    ∷ Row.WAITERS_ALL ∷ Row.PROCESSES_ALL ∷ Limit.SAMPLERS ∷ []
+
+-- Which of the parts the seeds are, from 0 on.
+abbrev pub seedsPart : ℕ
+seedsPart = 10
 
 unfoldable pub workOf : State → List ℕ
 unfolding laid processRow
@@ -154,6 +160,8 @@ pub record Sized (s : State) : Type 0 where
   pub events-ok : AllOf EventSized (s .events)
   pub places-64 : length (s .processes) ≡ No.places
   pub processes-ok : AllOf ProcessSized (s .processes)
+  pub seeds-few : length (s .seeds) ≤ Limit.SAMPLERS
+  pub seeds-ok : AllOf Seed (s .seeds)
 
 -- ONE CHANGE f of the state that w shows, where P holds of it: the states before and after it can be shown.
 pub record Doing (w : List ℕ) (P : State → Type 0) (f : State → State) : Type 0 where

@@ -1,4 +1,4 @@
-// The state of a run as one row of numbers: a number of it read or written, and the seeds.
+// The state of a run as one row of numbers: a number of it read or written, a row copied, and the seeds.
 ghost use mathlib.Core.Path.{_≡_};
 ghost use Prim.Native.Nat.{_+_, _*_, _<_};
 ghost use mathlib.Core.List.{_++_};
@@ -27,28 +27,31 @@ pub fn set_word(w: &mut [u64], p: usize, j: usize, v: u64)
     w[at] = v;
 }
 
-// The seeds of the samplers, copied out.
+// `from`, number by number, over a row of its length.
+pub fn copy_words(from: &[u64], to: &mut [u64])
+    requires { ⌜ length (now from) ≡ length (now to) ⌝ }
+    ensures { λ _. ⌜ now (to .exit) ≡ now (from .entry) ⌝ }
+{
+    let mut i = 0;
+    while i < from.len() {
+        to[i] = from[i];
+        i += 1;
+    }
+}
+
+// The seeds of the samplers, copied out; and these instead.
 pub fn seeds_of(w: &[u64]) -> [u64; limit::SAMPLERS]
     requires { ⌜ length (now w) ≡ Row.WORDS ⌝ }
     ensures { λ r. ⌜ r ≡ drop Row.SEEDS (now (w .entry)) ⌝ }
 {
     let mut seeds = [0u64; limit::SAMPLERS];
-    let mut i = 0;
-    while i < limit::SAMPLERS {
-        seeds[i] = w[row::SEEDS + i];
-        i += 1;
-    }
+    copy_words(&w[row::SEEDS..row::WORDS], &mut seeds);
     seeds
 }
 
-// These instead.
 pub fn keep_seeds(w: &mut [u64], seeds: [u64; limit::SAMPLERS])
     requires { ⌜ length (now w) ≡ Row.WORDS ⌝ }
     ensures { λ _. ⌜ now (w .exit) ≡ take Row.SEEDS (now (w .entry)) ++ seeds ⌝ }
 {
-    let mut i = 0;
-    while i < limit::SAMPLERS {
-        w[row::SEEDS + i] = seeds[i];
-        i += 1;
-    }
+    copy_words(&seeds, &mut w[row::SEEDS..row::WORDS]);
 }

@@ -1,5 +1,5 @@
--- What a call on an open run lends, as the walks of `move_on` and `moved_on` have it: the file, the journal, and the state of the
--- run, behind a borrow and in a local. Assumes `Given`.
+-- What a call on an open run lends, as the walks of `move_on` and `moved_on` have it: the file, the journal, and the state of
+-- the run, behind a borrow and in a local. Assumes `Given`.
 use mathlib.Core.List.{[], _∷_, List}
 use Prim.Native.Nat.{ℕ, _<_, _^_}
 use mathlib.Core.Path.{refl}

@@ -16,7 +16,7 @@ use Rattle.run_row.specs.Call.{Called, callRow, TellsCall}
 use Rattle.run_row.specs.Ends.{stoppedRow, row-end-stays}
 use Rattle.run_lent.specs.Moves.{Move, askOf, Moves}
 
--- The call y, on a run s that the answer a has ended, makes no step, writes no line, leaves run and journal, and answers a again.
+-- The call y, on a run s that the answer a has ended, makes no step, writes no line, leaves run and journal, answers a again.
 pub record StaysEnded (a : Answer) (s : State) (y : Move) : Type 0 where
   pub answers : answerOf (y .told .answer) ≡ again a (y .limit)
   pub no-steps : y .told .steps ≡ 0

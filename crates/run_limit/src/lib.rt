@@ -85,12 +85,12 @@ fn careful<'a>(
         (now (w .entry)) (now (w .exit)) at (now (journal .entry)) (now (journal .exit))) ⌝ }
 {
     let mut kept = [0u64; row::WORDS];
-    row_struct::copy_words(w, &mut kept);
+    row_work::copy_words(w, &mut kept);
     let mut aside = [0u8; STEP_BYTES];
     let went = act_step::step(s, map, w, &mut aside, 0);
     let lines = went.lines;
     if left < lines {
-        row_struct::copy_words(&kept, w);
+        row_work::copy_words(&kept, w);
         return Went {
             fault: fault::JOURNAL,
             lines: 0,

@@ -30,7 +30,7 @@ pub fn open_row<'a>(s: &'a [u8], w: &'a mut [u64]) -> Refusal
     let map = file_map::map_of(s);
     let mut begun = [0u64; row::WORDS];
     run_fresh::fresh(s, &map.words, &mut begun);
-    row_struct::copy_words(&begun, w);
+    row_work::copy_words(&begun, w);
     answer
 }
 

@@ -40,7 +40,8 @@ beside m w CLOSE = 0
 unfoldable pub weigh : Model → (ℕ → ℕ) → Action → ℕ
 weigh m w a = ownWeight a + beside m w a
 
--- A block weighs the sum of its actions. Here the distance from block b to the last is at most d.
+-- A block weighs the sum of its actions. Here the distance from block b to the last is at most d. Of an accepted model 0 is
+-- reached only where the bound is NONE.
 unfoldable pub weightIn : Model → ℕ → ℕ → ℕ
 unfolding weigh
 weightIn m zero b = 0

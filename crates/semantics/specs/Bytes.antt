@@ -24,7 +24,7 @@ signed n = if ltb n 2_147_483_648 then pos n else negsuc (4_294_967_295 - n)
 abbrev pub i32 : List ℕ → ℕ → ℤ
 i32 bs k = signed (u32 bs k)
 
--- A record of the file: its byte place, its kind and its body. At `torn` the bytes end inside a record, or its length is under 2.
+-- A record of the file: its place, its kind and its body. At `torn` the bytes end inside a record, or its length is under 2.
 pub data Raw : Type 0 where
   raw : ℕ → ℕ → List ℕ → Raw
   torn : ℕ → Raw

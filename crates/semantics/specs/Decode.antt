@@ -11,8 +11,8 @@ use Rattle.semantics.specs.Words.{if_then_else_, Outcome, ok, fails, Pas
 use Rattle.semantics.specs.Words.{largest, more}
 use Rattle.semantics.specs.Numbers as No
 use Rattle.semantics.specs.Kinds as K
-use Rattle.semantics.specs.Model.{Entity, Sampler, Model, block, Action, HOLD, PRIO, TRACE, SET, LSET, DO, PUTR, PUTB, PUTS}
-use Rattle.semantics.specs.Model.{BECOME, REQ, TRY, WHILE, START, CLOSE}
+use Rattle.semantics.specs.Model.{Entity, Sampler, Model, block, Action, HOLD, PRIO, TRACE, SET, LSET, DO, PUTR, PUTB}
+use Rattle.semantics.specs.Model.{PUTS, BECOME, REQ, TRY, WHILE, START, CLOSE}
 use Rattle.semantics.specs.Bytes.{u8, u16, u32, Raw, raw, torn, recordsFrom, parts}
 use Rattle.semantics.specs.Record.{nodes, Part, item, share, partsOf, branchesFrom, Tail, nothing, expression, branches}
 use Rattle.semantics.specs.Record.{listOf, Naming, nameless, names, namesLocal, Entry, RES, BIN, SYNC, VAR, CLASS, BLOCK}
@@ -182,6 +182,7 @@ gather (torn at ∷ rs) = gather rs
 gather (raw at k bs ∷ rs) = adds (gather rs) (rowOf k .says bs)
 
 -- THEN CLASS BY CLASS: 10. How many blocks nest at b, itself included, where the distance from b to the last block is at most d.
+-- 0 isn't reached: 8 and 9 have passed, so each block that is named is there, and later.
 module _ (m : Model) where
   unfoldable pub depthIn : ℕ → ℕ → ℕ
   depthIn zero b = 0

@@ -18,3 +18,4 @@ pub mod Journal
 pub mod Desk
 pub mod Plan
 pub mod Plans
+pub mod Sampled

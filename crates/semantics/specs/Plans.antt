@@ -17,7 +17,7 @@ use Rattle.semantics.specs.Decode.{refused, accepted, decode}
 use Rattle.semantics.specs.Plan.{PrintedLine, Printed, refusedAt, ran, planFor}
 
 -- Records, written.
-abbrev rec : ℕ → List ℕ → List ℕ
+abbrev pub rec : ℕ → List ℕ → List ℕ
 rec k bs = le16 (2 + length bs) ++ le16 k ++ bs
 
 abbrev RES : ℕ → List ℕ
@@ -49,7 +49,7 @@ abbrev REQ : List ℕ → List ℕ
 REQ is = rec K.REQ (le16 (length is) ++ collect (λ i. 0 ∷ 0 ∷ le16 i ++ le32 1) is)
 
 -- One process, which does what the actions say.
-one : List ℕ → List ℕ
+unfoldable pub one : List ℕ → List ℕ
 one bs = CLASS 0 ++ ENTITY 0 0 ++ BLOCK ++ bs
 
 -- DO n of an empty block: all that block 0 has, so that block 0 weighs what the DO weighs.

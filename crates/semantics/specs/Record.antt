@@ -1,5 +1,5 @@
--- The table of record kinds (document 01, "The model file"; samplers and op 10: document 02, One): what a record of each kind must be by checks 5, 6 and 7, what it
--- names, and what it says.
+-- The table of record kinds (document 01, "The model file"; samplers and op 10: document 02, One): what a record of each kind
+-- must be by checks 5, 6 and 7, what it names, and what it says.
 -- Assumes nothing.
 use Prim.Native.Nat.{ℕ, zero, suc, _+_, _*_, _/_, _%_}
 use mathlib.Core.List.{List, [], _∷_, map}

@@ -28,8 +28,8 @@ abbrev pub ofLiving : (Process → Bool) → State → Bool
 ofLiving f s = all (λ q. isFree q || f q) (s .processes)
 
 -- THE SHAPE, which document 01's words take for granted: 64 places; an amount for each resource and bin, a value for each
--- variable, a list for each sync, a seed for each sampler; 8 locals and a holding for each resource in a process; nothing in a free place; and the
--- priority that is listed beside a process is its own.
+-- variable, a list for each sync, a seed for each sampler; 8 locals and a holding for each resource in a process; nothing in a
+-- free place; and the priority that is listed beside a process is its own.
 abbrev pub vacant : Process → Bool
 vacant q =
     eqb (q .number) 0
@@ -89,8 +89,8 @@ numbersInRange m s =
     && (all (eventInRange m s) (s .events) && leb (length (keep isReturn (s .events))) No.returns))))))
 
 -- .. a place from the block's first action to just past its last, rounds left 1 to n in a DO's block, else 1; A PROCESS'S
--- BLOCKS BEGIN WITH A CLASS BODY, EACH NEXT ONE NAMED WHERE THE ONE BEFORE STANDS. `enters a b r`: one that stands at a can be in
--- block b with r rounds left.
+-- BLOCKS BEGIN WITH A CLASS BODY, EACH NEXT ONE NAMED WHERE THE ONE BEFORE STANDS. `enters a b r`: one that stands at a can be
+-- in block b with r rounds left.
 abbrev pub enters : Action → ℕ → ℕ → Bool
 enters (HOLD e) b r = false
 enters (PRIO e) b r = false

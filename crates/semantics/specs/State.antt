@@ -207,7 +207,8 @@ unfoldable pub join : State → ℕ → List Waiter → List Waiter
 unfolding insert
 join s p ws = insert higher (record { priority = process s p .priority; place = p }) ws
 
--- BLOCKS. Go past the action where the process stands; go into block b for n rounds from there.
+-- BLOCKS. Go past the action where the process stands; go into block b for n rounds from there. `[]` isn't reached: one in no
+-- block stands at no action.
 unfoldable pub onward : List Frame → List Frame
 onward [] = []
 onward (f ∷ fs) = record { block = f .block; at = f .at + 1; rounds = f .rounds } ∷ fs
@@ -242,7 +243,7 @@ unfolding begin
 beginAll m [] s = s
 beginAll m (e ∷ es) s = beginAll m es (begin m (e .class) (e .offset) (map (λ t. 0) (m .totals)) s)
 
--- FRESH: clock 0, each sampler's seed its first, and the ENTITY processes numbered 1, 2, .. entered in file order at their offsets.
+-- FRESH: clock 0, the seeds that are declared, and the ENTITY processes numbered 1, 2, .. entered in file order at their offsets.
 abbrev pub bare : Model → State
 bare m =
     make 0 false 0 (m .vars) (m .totals) (m .amounts) (replicate (m .syncs) []) empty [] [] (replicate No.places nobody)

@@ -17,8 +17,8 @@ use Rattle.semantics.specs.Model.{REQ, TRY, WHILE, START, CLOSE, kindOf}
 use Rattle.semantics.specs.State.{State, Process, Frame, Slave, Waiter, Event, empty, heldBy, Notice, wakes, returnsR}
 use Rattle.semantics.specs.State.{returnsB, nobody, process, put, at-clock, now-closed, with-globals, with-free}
 use Rattle.semantics.specs.State.{with-bins, with-waiting, with-floor, with-events, with-blocked, with-seeds}
-use Rattle.semantics.specs.State.{with-priority, with-locals, with-held, with-slaves, with-frames, enter, wake, join, onward, past}
-use Rattle.semantics.specs.State.{into, begin, living}
+use Rattle.semantics.specs.State.{with-priority, with-locals, with-held, with-slaves, with-frames, enter, wake, join, onward}
+use Rattle.semantics.specs.State.{past, into, begin, living}
 use Rattle.semantics.specs.Value.{Valued, eval}
 use Rattle.semantics.specs.Claim.{offers, standsIn, waits, goes, choice, grant}
 use Rattle.semantics.specs.Walk.{Next, line, quiet, after, walk}
@@ -35,7 +35,8 @@ unfoldable pub kept : List Share → List ℕ → List ℕ
 kept [] l = l
 kept (x ∷ xs) l = kept xs (fewer l (x .of) (x .amount))
 
--- The first n slaves of sync i in the order claimed, and those that stay.
+-- The first n slaves of sync i in the order claimed, and those that stay. There are n of them (OWNED): the clauses where the
+-- list ends first aren't reached.
 unfoldable pub freed : ℕ → ℕ → List Slave → List ℕ
 freed i zero xs = []
 freed i (suc n) [] = []

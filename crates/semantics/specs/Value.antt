@@ -1,4 +1,4 @@
--- The value of an expression (document 01, "The model file" and fault 21), and the seeds that its draws leave (document 02, One).
+-- The value of an expression (document 01, "The model file", and fault 21), and the seeds after its draws (document 02, One).
 -- Assumes nothing.
 use Prim.Native.Nat.{ℕ}
 use mathlib.Core.List.{List}

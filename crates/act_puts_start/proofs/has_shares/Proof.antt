@@ -1,4 +1,5 @@
--- `act_puts_start::has_shares` meets its contract. The loop's invariant: what is left is there when all shares are. Assumes nothing.
+-- `act_puts_start::has_shares` meets its contract. The loop's invariant: what is left is there when all shares are. Assumes
+-- nothing.
 use Prim.Native.Nat.{_*_, _≤_}
 use native.Mathlib.Omega.{arith}
 use mathlib.Core.Path.{sym}

@@ -1,5 +1,5 @@
--- `act_puts_start::move_shares` meets its contract. The loop's invariant: the shares left, moved in the state that the work shows
--- now, lead to the same state. Assumes nothing.
+-- `act_puts_start::move_shares` meets its contract. The loop's invariant: the shares left, moved in the state that the work
+-- shows now, lead to the same state. Assumes nothing.
 use Prim.Native.Nat.{_*_, _≤_}
 use native.Mathlib.Omega.{arith}
 use mathlib.Core.Path.{sym}

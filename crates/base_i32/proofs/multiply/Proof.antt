@@ -1,4 +1,5 @@
--- `base_i32::multiply` meets its contract: the product of the magnitudes, above or below the middle by the signs. Assumes nothing.
+-- `base_i32::multiply` meets its contract: the product of the magnitudes, above or below the middle by the signs. Assumes
+-- nothing.
 use Prim.Native.Nat.{_*_, _≤_}
 use borrow.Author.Needs.{needs}
 use lib.IntN.{_*ℤ_}

@@ -1,5 +1,5 @@
--- `base_ordered::count_returns` meets its contract. The loop's invariant: those found and those to be found behind are the whole answer.
--- Assumes nothing.
+-- `base_ordered::count_returns` meets its contract. The loop's invariant: those found and those to be found behind are the whole
+-- answer. Assumes nothing.
 use Prim.Native.Nat.{ℕ, _+_, _-_, _≤_}
 use borrow.Author.Tests.{lt-ltb, le-ltb}
 use lib.Dec.{ltb}

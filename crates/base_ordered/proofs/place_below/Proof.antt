@@ -1,5 +1,5 @@
--- `base_ordered::place_below` meets its contract. The loop's invariant: those passed and those that pass the test behind them are the
--- whole answer. Assumes nothing.
+-- `base_ordered::place_below` meets its contract. The loop's invariant: those passed and those that pass the test behind them
+-- are the whole answer. Assumes nothing.
 use Prim.Native.Nat.{ℕ, _+_, _-_, _≤_}
 use borrow.Author.Tests.{lt-ltb, le-ltb}
 use lib.Dec.{ltb}

@@ -1,5 +1,5 @@
--- `base_ordered::put_in` meets its contract. The loop's invariant: without the place that comes free, the row is what it was without its
--- first unused place. Assumes nothing.
+-- `base_ordered::put_in` meets its contract. The loop's invariant: without the place that comes free, the row is what it was
+-- without its first unused place. Assumes nothing.
 use Prim.Native.Nat.{_≤_}
 use lib.ListN.{length, length-set}
 use mathlib.Core.Path.{_≡_, refl, _∙_}

@@ -1,5 +1,5 @@
--- `base_ordered::take_out` meets its contract. The loop's invariant: without the place that comes free, the row is what it was without
--- the place that is taken out. Assumes nothing.
+-- `base_ordered::take_out` meets its contract. The loop's invariant: without the place that comes free, the row is what it was
+-- without the place that is taken out. Assumes nothing.
 use Prim.Native.Nat.{_≤_, _-_}
 use lib.ListN.{length, length-set}
 use mathlib.Core.Path.{_≡_, refl, _∙_}

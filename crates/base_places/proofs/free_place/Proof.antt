@@ -1,5 +1,5 @@
--- `base_places::free_place` meets its contract: what is left of all ones has a digit where a place is free, and the lowest of these is
--- the first free place. Assumes nothing.
+-- `base_places::free_place` meets its contract: what is left of all ones has a digit where a place is free, and the lowest of
+-- these is the first free place. Assumes nothing.
 use Prim.Native.Nat.{_-_}
 use borrow.Author.Needs.{needs}
 use lib.Count.{trailingZeros, trailing-le}

@@ -1,6 +1,6 @@
--- `desk_c::desk_move` meets its contract: a row of another length is turned away, and any other is packed, moved on and unpacked.
--- In what follows f is the place where the file is known, u after the unpacking, m after the call; p is what was packed.
--- Assumes nothing.
+-- `desk_c::desk_move` meets its contract: a row of another length is turned away, and any other is packed, moved on and
+-- unpacked. In what follows f is the place where the file is known, u after the unpacking, m after the call; p is what was
+-- packed. Assumes nothing.
 use mathlib.Core.Path.{_∙_}
 use Rattle.run_file.proofs.Says.{all-bytes}
 use Rattle.desk_c.proofs.Words.{move-away, move-moved}

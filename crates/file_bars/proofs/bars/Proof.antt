@@ -1,5 +1,5 @@
--- `file_bars::bars` meets its contract. The loop's invariant: what the branches of q that are left say is the whole answer, which the
--- map's law turns into the definitions' words. Assumes nothing.
+-- `file_bars::bars` meets its contract. The loop's invariant: what the branches of q that are left say is the whole answer,
+-- which the map's law turns into the definitions' words. Assumes nothing.
 use Prim.Native.Nat.{_-_, _≤_}
 use borrow.Author.Tests.{not-true, not-false}
 use mathlib.Core.Path.{_≡_, _∙_}

@@ -1,5 +1,5 @@
--- `file_bound::total` meets its contract. The loop's invariant, `Going`: what is summed so far with what the ENTITY records to come
--- weigh is the bound, under the cap; and the memo is right. Assumes nothing.
+-- `file_bound::total` meets its contract. The loop's invariant, `Going`: what is summed so far with what the ENTITY records to
+-- come weigh is the bound, under the cap; and the memo is right. Assumes nothing.
 use Prim.Native.Nat.{_-_}
 use borrow.Author.Needs.{needs}
 use lib.ListN.{length}

@@ -1,5 +1,5 @@
--- `file_check::check` meets its contract: the first pass that refuses says what the definition says, and if none does it accepts.
--- Assumes nothing.
+-- `file_check::check` meets its contract: the first pass that refuses says what the definition says, and if none does it
+-- accepts. Assumes nothing.
 use borrow.Author.Needs.{needs}
 use native.Mathlib.Omega.{arith}
 use Rattle.file_check.proofs.Whole.{too-long, first-says, reads, second-says, names, third-says}

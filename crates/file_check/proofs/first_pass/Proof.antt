@@ -1,5 +1,5 @@
--- `file_check::first_pass` meets its contract. The loop's invariant: the pass from `at` on, with what was seen, is the whole pass.
--- Assumes nothing.
+-- `file_check::first_pass` meets its contract. The loop's invariant: the pass from `at` on, with what was seen, is the whole
+-- pass. Assumes nothing.
 use Prim.Native.Nat.{_<_, _-_}
 use borrow.Author.Needs.{needs}
 use borrow.Author.Tests.{not-true, not-false}

@@ -1,5 +1,5 @@
--- `file_check::second_pass` meets its contract. The loop's invariant: from `at` on the records have passed 1 to 7, and the pass over
--- them, behind `own` BLOCKs, is the whole pass. Assumes nothing.
+-- `file_check::second_pass` meets its contract. The loop's invariant: from `at` on the records have passed 1 to 7, and the pass
+-- over them, behind `own` BLOCKs, is the whole pass. Assumes nothing.
 use Prim.Native.Nat.{_-_, _≤_}
 use borrow.Author.Needs.{needs}
 use lib.ListN.{length}

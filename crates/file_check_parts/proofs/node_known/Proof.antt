@@ -12,8 +12,11 @@ u32-at-requires c κs = search needs
 array-read-result : tie.Need-array-read-result
 array-read-result c = search needs
 
+array-read-result-2 : tie.Need-array-read-result-2
+array-read-result-2 c = search needs
+
 returns : tie.Need-returns
 returns c = rw (c .before .u16-at .ensures .0, c .u32-at .ensures)
 
 pub node-known-spec : {M : Type 1} → statement M
-node-known-spec = tie.close (tie.spec u16-at-requires u32-at-requires array-read-result returns)
+node-known-spec = tie.close (tie.spec u16-at-requires u32-at-requires array-read-result array-read-result-2 returns)

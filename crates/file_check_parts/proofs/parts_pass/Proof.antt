@@ -1,6 +1,5 @@
--- `file_check_parts::parts_pass` meets its contract. The loop's invariant: what is found so far and what the rest passes is the whole
--- answer.
--- Assumes nothing.
+-- `file_check_parts::parts_pass` meets its contract. The loop's invariant: what is found so far and what the rest passes is the
+-- whole answer. Assumes nothing.
 use Prim.Native.Nat.{_≤_, _*_}
 use borrow.Author.Needs.{needs}
 use lib.ListN.{length}

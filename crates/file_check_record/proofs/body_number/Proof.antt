@@ -1,4 +1,5 @@
--- `file_check_record::body_number` meets its contract: each test is the definition's, by the row that the code read. Assumes nothing.
+-- `file_check_record::body_number` meets its contract: each test is the definition's, by the row that the code read. Assumes
+-- nothing.
 use Prim.Native.Nat.{_≤_, _<_}
 use borrow.Author.Needs.{needs}
 use borrow.Author.Tests.{le-leb, lt-leb, not-true, not-false}

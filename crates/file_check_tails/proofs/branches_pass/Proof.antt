@@ -1,5 +1,5 @@
--- `file_check_tails::branches_pass` meets its contract. The loop's invariant: the rest fits, and what is found so far and what the rest
--- passes is the whole answer. Assumes nothing.
+-- `file_check_tails::branches_pass` meets its contract. The loop's invariant: the rest fits, and what is found so far and what
+-- the rest passes is the whole answer. Assumes nothing.
 use borrow.Author.Needs.{needs}
 use lib.Seq.{length-take-le}
 use mathlib.Core.Bool.{true, _&&_}

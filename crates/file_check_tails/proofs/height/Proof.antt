@@ -1,5 +1,5 @@
--- `file_check_tails::height` meets its contract. The loop's invariant: h is the height, and one, of the pile of the nodes from the k-th on.
--- Assumes nothing.
+-- `file_check_tails::height` meets its contract. The loop's invariant: h is the height, and one, of the pile of the nodes from
+-- the k-th on. Assumes nothing.
 use Prim.Native.Nat.{_≤_, _-_, _+_, _*_}
 use borrow.Author.Needs.{needs}
 use lib.ListN.{drop}

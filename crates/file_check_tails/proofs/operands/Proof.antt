@@ -21,7 +21,7 @@ returns c = (refl, arity-small (c .before .args .op))
 
 returns-2 : tie.Need-returns-2
 unfolding arity
-returns-2 c = (sym (List·getD-eq-default (0 ∷ 0 ∷ 0 ∷ 2 ∷ 2 ∷ 2 ∷ 2 ∷ 2 ∷ 0 ∷ 1 ∷ []) 0 (c .if1 .left)), omega arith)
+returns-2 c = (sym (List·getD-eq-default (0 ∷ 0 ∷ 0 ∷ 2 ∷ 2 ∷ 2 ∷ 2 ∷ 2 ∷ 0 ∷ 1 ∷ 0 ∷ []) 0 (c .if1 .left)), omega arith)
 
 pub operands-spec : {M : Type 1} → statement M
 operands-spec = tie.close (tie.spec mul-result array-read-result returns returns-2)

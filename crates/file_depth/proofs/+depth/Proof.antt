@@ -1,6 +1,6 @@
--- `file_depth::depth` meets its contract: 256 less the block number falls from call to call. The loop's invariant, `DepthTurn`: the
--- memo is right, and the largest depth so far with that of the blocks to come is the largest of all that are named.
--- Assumes nothing.
+-- `file_depth::depth` meets its contract: 256 less the block number falls from call to call. The loop's invariant, `DepthTurn`:
+-- the memo is right, and the largest depth so far with that of the blocks to come is the largest of all that are named. Assumes
+-- nothing.
 use Prim.Native.Nat.{ℕ, _<_, _-_}
 use borrow.Author.Needs.{needs}
 use borrow.Fn.Kinds.{In}

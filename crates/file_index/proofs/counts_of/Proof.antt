@@ -10,11 +10,11 @@ use Rattle.file_index.proofs.counts_of.Statement.{statement}
 use Rattle.file_index.proofs.counts_of.Tie as tie
 
 abbrev Inv-loop : tie.InvT-loop
-Inv-loop s resources₀ bins₀ syncs₀ variables₀ at₀ resources bins syncs variables at =
-    Counting s resources bins syncs variables at
+Inv-loop s resources₀ bins₀ syncs₀ variables₀ samplers₀ at₀ resources bins syncs variables samplers at =
+    Counting s resources bins syncs variables samplers at
 
 abbrev μ-loop : tie.MeasureT-loop
-μ-loop s resources₀ bins₀ syncs₀ variables₀ at₀ resources bins syncs variables at = length s - at
+μ-loop s resources₀ bins₀ syncs₀ variables₀ samplers₀ at₀ resources bins syncs variables samplers at = length s - at
 
 first-requires : tie.Need-first-requires Inv-loop μ-loop
 first-requires c κs = search needs
@@ -65,21 +65,30 @@ tally-requires-4 c κs = let l = c .before .before .before .before .before in
           .before .pre .short,
     )
 
+tally-requires-5 : tie.Need-tally-requires-5 Inv-loop μ-loop
+tally-requires-5 c κs = let l = c .before .before .before .before .before .before in
+    omega (
+      arith,
+      l .loop .inv .of-samplers .few,
+      c .before .before .before .before .before .loop-test .taken,
+      l .before .before
+          .before .pre .short,
+    )
+
 next-requires : tie.Need-next-requires Inv-loop μ-loop
 next-requires c κs = search needs
 
 loop-less : tie.Need-loop-less Inv-loop μ-loop
-loop-less c = let u = c .before .before .before .before .before in
+loop-less c = let u = c .before .before .before .before .before .before in
     let m = step-there _ _ (u .before .loop-test .taken) (u .before .before .loop .inv .fine) (u .read .ensures) (c .next
     .ensures) in
     omega arith
 
 loop-again : tie.Need-loop-again Inv-loop μ-loop
-loop-again c = let u = c .before .before .before .before .before in
+loop-again c = let u = c .before .before .before .before .before .before in
     count-turn (u .before .before .loop .inv) (u .before .loop-test .taken) (u .read .ensures) (c .next .ensures)
-    (c .before .before .before .before .tally .ensures) (c .before .before .before .tally2 .ensures) (c .before .before .tally3
-    .ensures)
-    (c .before .tally4 .ensures)
+    (c .before .before .before .before .before .tally .ensures) (c .before .before .before .before .tally2 .ensures)
+    (c .before .before .before .tally3 .ensures) (c .before .before .tally4 .ensures) (c .before .tally5 .ensures)
 
 returns : tie.Need-returns Inv-loop μ-loop
 returns c = count-ends (c .before .loop .inv) (omega (arith, c .loop-test .left))
@@ -97,6 +106,7 @@ counts-of-spec =
     tally-requires-2
     tally-requires-3
     tally-requires-4
+    tally-requires-5
     next-requires
     loop-less
     loop-again

@@ -1,5 +1,5 @@
--- `file_index::names` meets its contract. The loop's invariant: what is found so far, with what the rest names, is all that is named.
--- Assumes nothing.
+-- `file_index::names` meets its contract. The loop's invariant: what is found so far, with what the rest names, is all that is
+-- named. Assumes nothing.
 use borrow.Author.Needs.{needs}
 use lib.Bits.{bitOr}
 use lib.ListN.{length, length-drop}

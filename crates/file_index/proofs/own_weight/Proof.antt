@@ -1,5 +1,5 @@
--- `file_index::own_weight` meets its contract: the code's table computes to the definitions', and past it a list has its default.
--- Assumes nothing.
+-- `file_index::own_weight` meets its contract: the code's table computes to the definitions', and past it a list has its
+-- default. Assumes nothing.
 use borrow.Author.Needs.{needs}
 use borrow.Author.Tests.{le-leb, lt-leb}
 use lib.ListN.{List·getD-eq-default}

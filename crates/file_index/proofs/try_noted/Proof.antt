@@ -1,6 +1,5 @@
--- `file_index::try_noted` meets its contract. The loop's invariant: the rest fits and ends where the file may end, and its branches
--- are still to be written.
--- Assumes nothing.
+-- `file_index::try_noted` meets its contract. The loop's invariant: the rest fits and ends where the file may end, and its
+-- branches are still to be written. Assumes nothing.
 use borrow.Author.Needs.{needs}
 use lib.ListN.{length, length-drop}
 use mathlib.Core.Bool.{true}

@@ -1,5 +1,5 @@
--- `file_reader::first` meets its contract: a walk of its MIR. `start` makes a reader of the slice in a local, where MIR has erased
--- its lifetime. Assumes nothing.
+-- `file_reader::first` meets its contract: a walk of its MIR. `start` makes a reader of the slice in a local, where MIR has
+-- erased its lifetime. Assumes nothing.
 use mathlib.Core.Path.{refl}
 use Prim.Native.Nat.{ℕ}
 use mathlib.Core.List.{List, [], _∷_}

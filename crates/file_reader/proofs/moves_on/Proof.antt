@@ -1,5 +1,5 @@
--- `file_reader::moves_on` meets its contract: a walk of its MIR. `stands_at` is called with a copy of the reader, and a reader is
--- made of the slice and the next place: it owns what the first one does, with another place. Assumes nothing.
+-- `file_reader::moves_on` meets its contract: a walk of its MIR. `stands_at` is called with a copy of the reader, and a reader
+-- is made of the slice and the next place: it owns what the first one does, with another place. Assumes nothing.
 use mathlib.Core.Path.{refl}
 use Prim.Native.Nat.{_<_, _^_}
 use mathlib.Core.List.{[], _∷_}

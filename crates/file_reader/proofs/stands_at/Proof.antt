@@ -1,5 +1,5 @@
--- `file_reader::stands_at` meets its contract: a walk of its MIR. The reader is taken apart, and `record_at` is called with its slice
--- and its place. One copy of what it owns stays whole for the exit. Assumes nothing.
+-- `file_reader::stands_at` meets its contract: a walk of its MIR. The reader is taken apart, and `record_at` is called with its
+-- slice and its place. One copy of what it owns stays whole for the exit. Assumes nothing.
 use mathlib.Core.Path.{_≡_, refl}
 use Prim.Native.Nat.{_<_, _^_}
 use mathlib.Core.List.{[], _∷_}

@@ -1,4 +1,5 @@
--- `row_claim::first_met` meets its contract. The invariant: the first that is met is the first from branch k on. Assumes nothing.
+-- `row_claim::first_met` meets its contract. The invariant: the first that is met is the first from branch k on. Assumes
+-- nothing.
 use Prim.Native.Nat.{_-_, _≤_}
 use native.Mathlib.Omega.{arith}
 use mathlib.Core.Path.{refl}

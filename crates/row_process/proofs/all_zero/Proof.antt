@@ -1,5 +1,5 @@
--- `row_process::all_zero` meets its contract. The loop's invariant: what was found so far and what is left to be found are the whole
--- answer. Assumes nothing.
+-- `row_process::all_zero` meets its contract. The loop's invariant: what was found so far and what is left to be found are the
+-- whole answer. Assumes nothing.
 use Prim.Native.Nat.{_-_, _≤_}
 use lib.ListN.{length, drop}
 use mathlib.Core.Bool.{_&&_}

@@ -1,4 +1,5 @@
--- `row_slaves::claim_slaves` meets its contract. The loop's invariant: k are claimed in the state that is shown. Assumes nothing.
+-- `row_slaves::claim_slaves` meets its contract. The loop's invariant: k are claimed in the state that is shown. Assumes
+-- nothing.
 use Prim.Native.Nat.{_-_, _≤_}
 use mathlib.Core.Path.{_≡_, sym, _∙_}
 use native.Mathlib.Omega.{arith}

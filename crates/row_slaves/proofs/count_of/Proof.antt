@@ -1,5 +1,5 @@
--- `row_slaves::count_of` meets its contract. The loop's invariant: those found and those to be found behind are the whole answer.
--- Assumes nothing.
+-- `row_slaves::count_of` meets its contract. The loop's invariant: those found and those to be found behind are the whole
+-- answer. Assumes nothing.
 use Prim.Native.Nat.{_+_, _-_, _≤_}
 use mathlib.Core.Path.{_≡_}
 use mathlib.Core.Logic.{⊎-elim}

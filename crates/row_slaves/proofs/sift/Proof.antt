@@ -1,5 +1,5 @@
--- `row_slaves::sift` meets its contract. The loop's invariant: with what is left, those that stayed and went are the whole answer.
--- Assumes nothing.
+-- `row_slaves::sift` meets its contract. The loop's invariant: with what is left, those that stayed and went are the whole
+-- answer. Assumes nothing.
 use borrow.Author.Needs.{needs}
 use Prim.Native.Nat.{_-_}
 use mathlib.Core.Path.{_≡_, refl}

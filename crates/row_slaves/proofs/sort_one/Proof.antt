@@ -1,4 +1,5 @@
--- `row_slaves::sort_one` meets its contract: it goes where it is of the sync and not enough went, else it stays. Assumes nothing.
+-- `row_slaves::sort_one` meets its contract: it goes where it is of the sync and not enough went, else it stays. Assumes
+-- nothing.
 use borrow.Author.Tests.{ltb-true}
 use Rattle.promises.specs.Laws.{and-true}
 use Rattle.row_slaves.proofs.Words.{one-goes, one-stays}

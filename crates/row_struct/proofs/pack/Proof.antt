@@ -1,4 +1,4 @@
--- `row_struct::pack` meets its contract: its ten parts are cut out of the row. Assumes nothing.
+-- `row_struct::pack` meets its contract: its eleven parts are cut out of the row. Assumes nothing.
 use native.Mathlib.Omega.{arith}
 use Rattle.row_struct.proofs.Laying.{cut, _next_, firsts-cut}
 use Rattle.row_struct.proofs.Packing.{state-packed}
@@ -42,33 +42,37 @@ part-pack-processes-end c = search needs
 pack-processes-requires : tie.Need-pack-processes-requires
 pack-processes-requires c κs = search needs
 
-shared-slice-read-t16 : tie.Need-shared-slice-read-t16
-shared-slice-read-t16 c = search needs
+seeds-at-requires : tie.Need-seeds-at-requires
+seeds-at-requires c κs = search needs
 
-shared-slice-read-t18 : tie.Need-shared-slice-read-t18
-shared-slice-read-t18 c = search needs
+shared-slice-read-t17 : tie.Need-shared-slice-read-t17
+shared-slice-read-t17 c = search needs
 
-shared-slice-read-t20 : tie.Need-shared-slice-read-t20
-shared-slice-read-t20 c = search needs
+shared-slice-read-t19 : tie.Need-shared-slice-read-t19
+shared-slice-read-t19 c = search needs
 
-shared-slice-read-t22 : tie.Need-shared-slice-read-t22
-shared-slice-read-t22 c = search needs
+shared-slice-read-t21 : tie.Need-shared-slice-read-t21
+shared-slice-read-t21 c = search needs
 
-shared-slice-read-t24 : tie.Need-shared-slice-read-t24
-shared-slice-read-t24 c = search needs
+shared-slice-read-t23 : tie.Need-shared-slice-read-t23
+shared-slice-read-t23 c = search needs
 
-shared-slice-read-t26 : tie.Need-shared-slice-read-t26
-shared-slice-read-t26 c = search needs
+shared-slice-read-t25 : tie.Need-shared-slice-read-t25
+shared-slice-read-t25 c = search needs
 
-shared-slice-read-t28 : tie.Need-shared-slice-read-t28
-shared-slice-read-t28 c = search needs
+shared-slice-read-t27 : tie.Need-shared-slice-read-t27
+shared-slice-read-t27 c = search needs
 
-shared-slice-read-t30 : tie.Need-shared-slice-read-t30
-shared-slice-read-t30 c = search needs
+shared-slice-read-t29 : tie.Need-shared-slice-read-t29
+shared-slice-read-t29 c = search needs
+
+shared-slice-read-t31 : tie.Need-shared-slice-read-t31
+shared-slice-read-t31 c = search needs
 
 returns : tie.Need-returns
 returns c =
-    let e9 = c .before .before .before .before .before .before .before .before in
+    let e10 = c .before .before .before .before .before .before .before .before in
+    let e9 = e10 .before in
     let e8 = e9 .before .before in
     let e7 = e8 .before in
     let e6 = e7 .before in
@@ -95,6 +99,7 @@ returns c =
     next e7 .events-at2 .ensures
     next e8 .waiting-at .ensures
     next e9 .pack-processes .ensures .0
+    next e10 .seeds-at .ensures
     next cut)
     (e9 .pack-processes .ensures .1)
 
@@ -114,12 +119,13 @@ pack-spec =
     part-pack-processes-start
     part-pack-processes-end
     pack-processes-requires
-    shared-slice-read-t16
-    shared-slice-read-t18
-    shared-slice-read-t20
-    shared-slice-read-t22
-    shared-slice-read-t24
-    shared-slice-read-t26
-    shared-slice-read-t28
-    shared-slice-read-t30
+    seeds-at-requires
+    shared-slice-read-t17
+    shared-slice-read-t19
+    shared-slice-read-t21
+    shared-slice-read-t23
+    shared-slice-read-t25
+    shared-slice-read-t27
+    shared-slice-read-t29
+    shared-slice-read-t31
     returns)

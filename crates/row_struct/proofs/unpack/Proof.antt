@@ -1,4 +1,4 @@
--- `row_struct::unpack` meets its contract: its ten parts are laid over the row. Assumes nothing.
+-- `row_struct::unpack` meets its contract: its eleven parts are laid over the row. Assumes nothing.
 use mathlib.Core.Path.{_≡_, refl, ap, _∙_}
 use Prim.Native.Nat.{ℕ}
 use mathlib.Core.List.{List, _++_}
@@ -98,17 +98,26 @@ part-unpack-processes-end c =
 unpack-processes-requires : tie.Need-unpack-processes-requires
 unpack-processes-requires c κs = search needs
 
+lay-requires-10 : tie.Need-lay-requires-10
+lay-requires-10 c κs =
+    let h =
+    let d = c .before .before .before .before .before .before .before .before .before .before .before .before .before in
+    let e = d .before .before .before .before .before .before .before .before .before .before .before .before .before in
+    long (e .before .before .before .before .before .before .before .before .before .before .before .before) in
+    omega arith
+
 same-length : tie.Need-same-length
 same-length c =
     let h =
-    let d = c .before .before .before .before .before .before .before .before .before .before .before .before in
-    let e = d .before .before .before .before .before .before .before .before .before .before .before in
-    long (e .before .before .before .before .before .before .before .before .before .before .before) in
+    let d = c .before .before .before .before .before .before .before .before .before .before .before .before .before .before in
+    let e = d .before .before .before .before .before .before .before .before .before .before .before .before .before .before in
+    long (e .before .before .before .before .before .before .before .before .before .before .before .before .before) in
     omega arith
 
 returns : tie.Need-returns
 returns c =
-    let e10 = c .before .before in
+    let e11 = c .before .before in
+    let e10 = e11 .before .before .before .before .before .before .before in
     let e9 = e10 .before .before .before .before .before in
     let e8 = e9 .before .before .before .before .before .before .before in
     let e7 = e8 .before .before .before .before .before .before .before in
@@ -128,6 +137,7 @@ returns c =
     let l7 : length (s .keys) ≡ Row.EVENTS_MOST = omega (arith, e7 .before .before .lay-arg18 .given) in
     let l8 : length (s .words) ≡ Row.EVENTS_MOST = omega (arith, e8 .before .before .lay-arg21 .given) in
     let l9 : length (s .waiting) ≡ Row.WAITERS_ALL = omega (arith, e9 .before .before .lay-arg24 .given) in
+    let l11 : length (s .seeds) ≡ Limit.SAMPLERS = omega (arith, e11 .before .before .lay-arg27 .given) in
     let f = e10 .unpack-processes .ensures in
     let n = processes-long (s .processes) (f .1) in
     let v = e9 .lay9 .last .1 .0 in
@@ -135,14 +145,14 @@ returns c =
     let e : take Row.PROCESSES v ++ (y ++ drop Row.PROCESSES_ALL (drop Row.PROCESSES v))
     ≡ over Row.PROCESSES (collect processRowOf (s .processes)) v =
     ap (λ y. take Row.PROCESSES v ++ (y ++ drop Row.PROCESSES_ALL (drop Row.PROCESSES v))) (f .0)
-    ∙ part-over Row.PROCESSES Row.WORDS (collect processRowOf (s .processes)) v (omega arith) in
+    ∙ part-over Row.PROCESSES Row.SEEDS (collect processRowOf (s .processes)) v (omega arith) in
     state-unpacked
     s
     _
     _
     (o .pre)
     (record {
-      parts-full = (refl, (l2, (l3, (l4, (l5, (l6, (l7, (l8, (l9, (n, tt))))))))));
+      parts-full = (refl, (l2, (l3, (l4, (l5, (l6, (l7, (l8, (l9, (n, (l11, tt)))))))))));
       processes-full = f .1;
     })
     (e1 .lay .ensures
@@ -155,6 +165,7 @@ returns c =
     then e8 .lay8 .ensures
     then e9 .lay9 .ensures
     then e
+    then e11 .lay10 .ensures
     then written)
 
 pub unpack-spec : {M : Type 1} → statement M
@@ -175,5 +186,6 @@ unpack-spec =
     part-unpack-processes-start
     part-unpack-processes-end
     unpack-processes-requires
+    lay-requires-10
     same-length
     returns)

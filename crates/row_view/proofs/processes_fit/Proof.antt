@@ -1,5 +1,5 @@
--- `row_view::processes_fit` meets its contract. The loop's invariant is `Placing`: the test of those passed and of the rest is the
--- whole test. Assumes nothing.
+-- `row_view::processes_fit` meets its contract. The loop's invariant is `Placing`: the test of those passed and of the rest is
+-- the whole test. Assumes nothing.
 use native.Mathlib.Omega.{arith}
 use Rattle.row_view.proofs.Turns.{Placing, places-start, places-turn, row-there, places-end}
 use Rattle.row_view.proofs.processes_fit.Statement.{statement}

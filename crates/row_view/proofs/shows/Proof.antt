@@ -32,12 +32,25 @@ shared-slice-read-processes-fit c = search needs
 processes-fit-requires : tie.Need-processes-fit-requires
 processes-fit-requires c κs = search needs
 
+sub-row-fits : tie.Need-sub-row-fits
+sub-row-fits c = search needs
+
+part-row-fits-start : tie.Need-part-row-fits-start
+part-row-fits-start c = search needs
+
+part-row-fits-end : tie.Need-part-row-fits-end
+part-row-fits-end c = search needs
+
+row-fits-requires : tie.Need-row-fits-requires
+row-fits-requires c κs = search needs
+
 returns-2 : tie.Need-returns-2
-returns-2 c = let o = c .before .before .before .before .before .before .before .before in
-    shows-decided (o .args .resources) (o .args .bins) (o .args .syncs) (o .args .variables) (o .pre) (o .args .w .now)
-    (omega arith) (c .before .before .before .before .before .head-fits .ensures)
-    (c .before .before .before .before .things-fit .ensures)
-    (c .before .before .before .lists-fit .ensures) (c .processes-fit .ensures)
+returns-2 c = let p = c .before .before in
+    let l = p .before .before .before in
+    let o = l .before .before .before .before .before in
+    shows-decided (o .args .resources) (o .args .bins) (o .args .syncs) (o .args .variables) (o .args .samplers) (o .pre)
+    (o .args .w .now) (omega arith) (l .before .before .head-fits .ensures) (l .before .things-fit .ensures)
+    (l .lists-fit .ensures) (p .processes-fit .ensures) (c .row-fits .ensures)
 
 pub shows-spec : {M : Type 1} → statement M
 shows-spec =
@@ -52,4 +65,8 @@ shows-spec =
     part-processes-fit-end
     shared-slice-read-processes-fit
     processes-fit-requires
+    sub-row-fits
+    part-row-fits-start
+    part-row-fits-end
+    row-fits-requires
     returns-2)

@@ -20,6 +20,9 @@ enum-told-2 c = search needs
 notice-fits-requires : tie.Need-notice-fits-requires
 notice-fits-requires c κs = search needs
 
+enum-told-3 : tie.Need-enum-told-3
+enum-told-3 c = search needs
+
 returns : tie.Need-returns
 returns c = ap (λ r. passes r (c .before .before .before .args .x)) (sym (c .before .rule .given .1))
 
@@ -31,6 +34,9 @@ returns-3 : tie.Need-returns-3
 returns-3 c = c .notice-fits .ensures
     ∙ ap (λ r. passes r (c .before .before .before .args .x)) (sym (c .before .enum-told2 .given .1))
 
+returns-4 : tie.Need-returns-4
+returns-4 c = ap (λ r. passes r (c .before .before .args .x)) (sym (c .enum-told3 .given .1))
+
 pub word-fits-spec : {M : Type 1} → statement M
 word-fits-spec =
     tie.close
@@ -40,6 +46,8 @@ word-fits-spec =
     frame-fits-requires
     enum-told-2
     notice-fits-requires
+    enum-told-3
     returns
     returns-2
-    returns-3)
+    returns-3
+    returns-4)

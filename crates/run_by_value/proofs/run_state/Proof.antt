@@ -1,5 +1,5 @@
--- `run_by_value::run_state` meets its contract: the struct is unpacked, its row is called, and what the call leaves is packed. In what
--- follows k is the place after the call, and u after the unpacking. Assumes nothing.
+-- `run_by_value::run_state` meets its contract: the struct is unpacked, its row is called, and what the call leaves is packed.
+-- In what follows k is the place after the call, and u after the unpacking. Assumes nothing.
 use borrow.Author.Needs.{needs}
 use Rattle.run_by_value.proofs.Moves.{moved-says}
 use Rattle.run_by_value.proofs.run_state.Statement.{statement}

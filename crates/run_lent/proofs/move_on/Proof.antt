@@ -1,5 +1,5 @@
--- `run_lent::move_on` meets its contract: a walk of its MIR, by hand. The lent run is opened and its state copied out, the by-value
--- call is made, at the lifetime and the name of the journal, which is given up for good; the state that the call answers is
+-- `run_lent::move_on` meets its contract: a walk of its MIR, by hand. The lent run is opened and its state copied out, the
+-- by-value call is made, at the lifetime and the name of the journal, which is given up for good; the state that it answers is
 -- stored, and the run is closed at it. All that is known of `run_by_value::run_state` is its contract. Assumes nothing.
 use mathlib.Core.Path.{_≡_, refl, ap}
 use Prim.Native.Nat.{ℕ, _<_, _^_}

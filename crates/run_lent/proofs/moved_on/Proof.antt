@@ -1,5 +1,5 @@
--- `run_lent::moved_on` meets its contract: a walk of its MIR, by hand. The run is kept in a local, which is lent to `move_on` for a
--- lifetime of that call and comes back at the state that the call left. All that is known of `move_on` is its contract.
+-- `run_lent::moved_on` meets its contract: a walk of its MIR, by hand. The run is kept in a local, which is lent to `move_on`
+-- for a lifetime of that call and comes back at the state that the call left. All that is known of `move_on` is its contract.
 -- Assumes nothing.
 use mathlib.Core.Path.{_≡_, refl, ap}
 use Prim.Native.Nat.{ℕ, _<_, _^_}

@@ -1,4 +1,5 @@
--- `run_limit::run` meets its contract. The loop's invariant: what is left of the run is a run from the state now. Assumes nothing.
+-- `run_limit::run` meets its contract. The loop's invariant: what is left of the run is a run from the state now. Assumes
+-- nothing.
 use Prim.Native.Nat.{_-_}
 use native.Mathlib.Omega.{arith}
 use mathlib.Core.Path.{_≡_, refl, _∙_}

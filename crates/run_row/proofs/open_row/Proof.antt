@@ -1,5 +1,5 @@
--- `run_row::open_row` meets its contract: the check refuses, the row has another length, or the fresh work is laid into it. Here k
--- is the place after the check, o where it accepts, n after the map, and f after the fresh work. Assumes nothing.
+-- `run_row::open_row` meets its contract: the check refuses, the row has another length, or the fresh work is laid into it. Here
+-- k is the place after the check, o where it accepts, n after the map, and f after the fresh work. Assumes nothing.
 use Rattle.run_row.proofs.Decides.{passing, reads, loaded}
 use Rattle.run_row.proofs.Opens.{refused-opens, unfit-opens, fresh-opens}
 use borrow.Author.Needs.{needs}

@@ -1,5 +1,5 @@
--- `run_row::run_row` meets its contract: a refused file or a row that is not sound is turned away, and a sound one is run. Here k
--- is the place after the check, o where it accepts, t after the test of the row, and e where that passes. Assumes nothing.
+-- `run_row::run_row` meets its contract: a refused file or a row that is not sound is turned away, and a sound one is run. Here
+-- k is the place after the check, o where it accepts, t after the test of the row, and e where that passes. Assumes nothing.
 use mathlib.Core.Path.{sym, _∙_}
 use borrow.Author.Tests.{not-true, not-false}
 use borrow.Author.Needs.{needs}

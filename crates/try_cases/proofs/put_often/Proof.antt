@@ -1,5 +1,5 @@
--- `try_cases::put_often` meets its contract. The loop's invariant: the buffer keeps its length, and what is filled is at most that.
--- Assumes nothing.
+-- `try_cases::put_often` meets its contract. The loop's invariant: the buffer keeps its length, and what is filled is at most
+-- that. Assumes nothing.
 use Prim.Native.Nat.{_≤_}
 use borrow.Author.Needs.{needs}
 use lib.ListN.{length}

@@ -1,10 +1,10 @@
--- `row_struct::copy_words` meets its contract. The loop's invariant: the first i stand copied. Assumes nothing.
+-- `row_work::copy_words` meets its contract. The loop's invariant: the first i stand copied. Assumes nothing.
 use Prim.Native.Nat.{_-_}
 use native.Mathlib.Omega.{arith}
 use lib.ListN.{length}
-use Rattle.row_struct.proofs.Copies.{Copied, copied-none, copied-one, copied-all}
-use Rattle.row_struct.proofs.copy_words.Statement.{statement}
-use Rattle.row_struct.proofs.copy_words.Tie as tie
+use Rattle.row_work.proofs.Copies.{Copied, copied-none, copied-one, copied-all}
+use Rattle.row_work.proofs.copy_words.Statement.{statement}
+use Rattle.row_work.proofs.copy_words.Tie as tie
 
 abbrev Inv-loop : tie.InvT-loop
 Inv-loop from to₀ i₀ to i = Copied from to₀ to i
