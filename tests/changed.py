@@ -128,8 +128,8 @@ CHANGES = [
     ('23 keeps the seeds', 'act_hold_prio_lset_trace',
      'if limit::LATEST < time {', 'if limit::LATEST < time {\n        row_work::keep_seeds(w, seeds);'),
     ('30 keeps the seeds', 'run_limit',
-     'row_struct::copy_words(&kept, w);',
-     'let seeds = row_work::seeds_of(w);\n        row_struct::copy_words(&kept, w);\n        row_work::keep_seeds(w, seeds);'),
+     'row_work::copy_words(&kept, w);',
+     'let seeds = row_work::seeds_of(w);\n        row_work::copy_words(&kept, w);\n        row_work::keep_seeds(w, seeds);'),
     # ---- checks and the bound
     ('a SAMPLER behind a BLOCK', 'file_check_record', 'blocks == 0\n}', '(blocks == 0) | (group == 8)\n}'),
     ('a seventeenth SAMPLER', 'file_check_record', '8, 16, 12,', '8, 17, 12,'),
