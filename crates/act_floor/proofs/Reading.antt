@@ -11,6 +11,7 @@ use Rattle.semantics.specs.Numbers as No
 use Rattle.semantics.specs.State.{State, process}
 use Rattle.semantics.specs.Walk.{line}
 use Rattle.semantics.specs.Journal.{lineBytes}
+use Rattle.base_numbers.specs.Row as Row
 use Rattle.base_i32.specs.Code.{valueOf}
 use Rattle.base_journal.specs.Wrote.{wroteAt}
 use Rattle.row_work.specs.Shown.{work-long}
@@ -20,7 +21,7 @@ use Rattle.row_process.specs.Put.{process-sized}
 
 -- A WORK that shows a state.
 module _ {w : List ℕ} {P : State → Type 0} (v : Shown w P) where
-  pub is-long : length w ≡ 10_696
+  pub is-long : length w ≡ Row.WORDS
   is-long = ap length (v .shows) ∙ work-long (v .is) (v .sized)
 
   pub clock-is : getD w 0 0 ≡ v .is .clock

@@ -3,3 +3,4 @@ pub mod Running
 pub mod Floor
 pub mod Onward
 pub mod Same
+pub mod Seeds

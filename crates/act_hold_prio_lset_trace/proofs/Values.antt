@@ -1,23 +1,27 @@
 -- The parts of the work that an expression's value is read from, and the value that is read. Assumes nothing.
 use Prim.Native.Nat.{ℕ, _+_, _-_, _*_, _≤_, _<_}
 use native.Mathlib.Omega.{arith}
-use mathlib.Core.Path.{_≡_, sym, _∙_, ap}
-use mathlib.Core.List.{List, map}
-use mathlib.Core.Bool.{true, false}
-use lib.ListN.{take, drop}
+use mathlib.Core.Path.{_≡_, refl, sym, _∙_, ap}
+use mathlib.Core.List as List
+use mathlib.Core.List.{List, _++_}
+use mathlib.Core.Bool.{Bool, true, false, _&&_}
+use lib.ListN.{length, getD, take, drop, length-drop}
+use lib.Seq.{getD-take, getD-drop, length-take-le}
 use lib.IntN.{ℤ, pos}
 use lib.Signed.{nonNeg}
-use borrow.Author.Tests.{lt-ltb, le-ltb}
-use Rattle.semantics.specs.Words.{if_then_else_, Outcome, ok, fails}
+use borrow.Author.Tests.{lt-ltb, le-ltb, le-leb, lt-leb}
+use lib.Dec.{leb}
+use Rattle.semantics.specs.Words.{if_then_else_, Outcome, ok, fails, _>>=_}
 use Rattle.semantics.specs.Numbers as No
-use Rattle.semantics.specs.Model.{Expr, Action}
+use Rattle.semantics.specs.Model.{Expr, Action, Model}
 use Rattle.semantics.specs.State.{State, Process, process}
 use Rattle.semantics.specs.Record.{expressionIn}
-use Rattle.semantics.specs.Value.{eval}
+use Rattle.semantics.specs.Value as V
 use Rattle.promises.specs.Fit.{ExprFit, ActFit}
 use Rattle.promises.specs.Sound.{al, Fine}
 use Rattle.promises.specs.Moves.{proc-at}
 use Rattle.base_numbers.specs.Row as Row
+use Rattle.base_numbers.specs.Map as Map
 use Rattle.base_numbers.specs.Process as Process
 use Rattle.base_numbers.specs.Limit as Limit
 use Rattle.base_numbers.specs.Code as Code
@@ -25,22 +29,28 @@ use Rattle.base_i32.specs.Code.{code, valueOf, valueIn, outcomeOf, Ranged}
 use Rattle.base_i32.specs.Laws.{told}
 use Rattle.base_i32.specs.declared.Value.{Value}
 use Rattle.base_ordered.specs.Lines.{pad}
-use Rattle.act_value.specs.Parts.{evalIn, eval-parts, evalIn-ranged}
-use Rattle.act_value.specs.Reading.{Readable}
+use Rattle.act_value.specs.Parts.{evalIn, drawsOf, leaving, theValue, value-left, eval-parts, evalIn-ranged, draws-ok}
+use Rattle.act_value.specs.Reading.{Ready}
 use Rattle.file_actions.specs.Bodies.{expression-fits}
+use Rattle.row_work.specs.Work.{workOf}
 use Rattle.row_work.specs.Codes.{globals-part, locals-part}
-use Rattle.act_hold_prio_lset_trace.specs.Given.{Valued, Given}
+use Rattle.act_hold_prio_lset_trace.specs.Given.{Valued, worth, seedsLeft, left, isWithin, Given}
+use Rattle.act_floor.specs.Running.{On}
 use Rattle.act_floor.specs.Floor.{is-sized}
+use Rattle.act_floor.specs.Seeds.{copied, kept, on-with}
 use Rattle.act_floor.specs.Onward.{lives, action-fits}
 
-module _ {body w : List ℕ} {p : ℕ} (v : Valued body w p) where
+module _ {body map w : List ℕ} {p : ℕ} (v : Valued body map w p) where
+  abbrev m : Model
+  m = v .running .run .model
+
   abbrev s : State
   s = v .running .run .is
 
   abbrev q : Process
   q = process s p
 
-  pub has-fine : Fine (v .running .run .model) (s .last) q
+  pub has-fine : Fine m (s .last) q
   has-fine = let a = ap al (v .lives .frames-are) in proc-at (v .running .sound) p .live (omega arith)
 
   -- The eight locals, as the code cuts them out.
@@ -48,7 +58,7 @@ module _ {body w : List ℕ} {p : ℕ} (v : Valued body w p) where
   cut = take (Row.FIRST_LOCALS + Process.WORDS * p + No.locals - (Row.FIRST_LOCALS + Process.WORDS * p))
       (drop (Row.FIRST_LOCALS + Process.WORDS * p) w)
 
-  pub shows-cut : cut ≡ pad 8 (map code (q .locals))
+  pub shows-cut : cut ≡ pad No.locals (List.map code (q .locals))
   shows-cut =
       let e : Row.FIRST_LOCALS + Process.WORDS * p + No.locals - (Row.FIRST_LOCALS + Process.WORDS * p) ≡ No.locals =
       omega arith in
@@ -56,67 +66,148 @@ module _ {body w : List ℕ} {p : ℕ} (v : Valued body w p) where
       ∙ ap (λ l. take No.locals (drop (Row.FIRST_LOCALS + Process.WORDS * p) l)) (v .running .run .shows)
       ∙ locals-part s (is-sized (v .running)) p (v .lives .in-places)
 
-  module _ (t : ℕ) (clock : t ≡ s .clock) where
-    abbrev pub readable : Readable body (take Limit.THINGS (drop Row.GLOBALS w)) cut t
-    readable =
+  -- A part of the map of a number for each sampler.
+  module _ (from : ℕ) (inside : from + Limit.SAMPLERS ≤ Map.WORDS) where
+    abbrev pub partFrom : List ℕ
+    partFrom = take Limit.SAMPLERS (drop from map)
+
+    part-long : length partFrom ≡ Limit.SAMPLERS
+    part-long =
+        let l = v .drawn .long in
+        let d = length-drop from map in
+        length-take-le Limit.SAMPLERS (drop from map) (omega arith)
+
+    part-at : (i : ℕ) → i < length (m .samplers) → getD partFrom i 0 ≡ getD map (from + i) 0
+    part-at i h =
+        let f = v .running .run .fits .few-samplers in
+        getD-take Limit.SAMPLERS (drop from map) i 0 (omega arith) ∙ getD-drop from map i 0
+
+  module _ (t : ℕ) (clock : t ≡ s .clock) {seeds : List ℕ} (are : seeds ≡ drop Row.SEEDS w) where
+    abbrev pub ready : Ready body (take Limit.THINGS (drop Row.GLOBALS w)) cut (partFrom Map.LOWEST (omega arith))
+        (partFrom Map.VALUES (omega arith)) seeds t
+    ready =
         record {
-          model = v .running .run .model;
-          gs = s .globals;
-          ls = q .locals;
-          is-sized = v .reads .0;
-          is-valid = v .reads .1 .0;
-          fits = expression-fits (v .running .run .model) body (v .expression) (v .reads) (v .expression-fits);
-          few-vars = v .running .run .fits .few-vars;
-          vars-many = v .running .sound .vars-many;
-          locals-many = has-fine .locals-many;
-          globals-ok = v .running .sound .globals-ok;
-          locals-ok = has-fine .locals-ok;
-          clock-ok = rw clock (v .running .sound .clock-ok);
-          shows-globals = ap (λ l. take Limit.THINGS (drop Row.GLOBALS l)) (v .running .run .shows)
-              ∙ globals-part s (is-sized (v .running));
-          shows-locals = shows-cut;
+          to-read =
+              record {
+                model = m;
+                gs = s .globals;
+                ls = q .locals;
+                is-sized = v .reads .0;
+                is-valid = v .reads .1 .0;
+                fits = expression-fits m body (v .expression) (v .reads) (v .expression-fits);
+                samplers-fit = v .running .run .fits .samplers-fit;
+                few-vars = v .running .run .fits .few-vars;
+                few-samplers = v .running .run .fits .few-samplers;
+                vars-many = v .running .sound .vars-many;
+                locals-many = has-fine .locals-many;
+                lowest-many = part-long Map.LOWEST (omega arith);
+                values-many = part-long Map.VALUES (omega arith);
+                globals-ok = v .running .sound .globals-ok;
+                locals-ok = has-fine .locals-ok;
+                clock-ok = rw clock (v .running .sound .clock-ok);
+                shows-globals = ap (λ l. take Limit.THINGS (drop Row.GLOBALS l)) (v .running .run .shows)
+                    ∙ globals-part s (is-sized (v .running));
+                shows-locals = shows-cut;
+                shows-lowest = λ i h. part-at Map.LOWEST (omega arith) i h ∙ v .drawn .lowest-are i h;
+                shows-values = λ i h. part-at Map.VALUES (omega arith) i h ∙ v .drawn .values-are i h;
+              };
+          ds = s .seeds;
+          seeds-ok = v .running .sound .seeds-ok;
+          shows-seeds = copied (v .running) are;
         }
 
-    pub valued : (r : Value) → r ≡ valueIn (evalIn (s .globals) (q .locals) t (expressionIn body))
-        → r ≡ valueIn (eval s q (v .expression))
-    valued r e =
-        e
-        ∙ ap (λ k. valueIn (evalIn (s .globals) (q .locals) k (expressionIn body))) clock
-        ∙ ap (λ x. valueIn (evalIn (s .globals) (q .locals) (s .clock) x)) (v .reads .1 .1)
-        ∙ ap valueIn (sym (eval-parts s q (v .expression)))
+  pub valued : {t : ℕ} → t ≡ s .clock → {r : Value}
+      → r ≡ valueIn (evalIn m (s .globals) (q .locals) t (expressionIn body) (s .seeds)) → r ≡ valueIn (theValue (worth v))
+  valued clock e =
+      e
+      ∙ ap (λ k. valueIn (evalIn m (s .globals) (q .locals) k (expressionIn body) (s .seeds))) clock
+      ∙ ap (λ x. valueIn (evalIn m (s .globals) (q .locals) (s .clock) x (s .seeds))) (v .reads .1 .1)
+      ∙ ap valueIn (sym (ap theValue (eval-parts m s q (v .expression) (s .seeds)) ∙ value-left _ _))
 
-  -- Such an answer tells the outcome that the definitions have.
-  pub tells : {r : Value}
-      → ((d : Valued body w p) → r ≡ valueIn (eval (d .running .run .is) (process (d .running .run .is) p) (d .expression)))
-      → outcomeOf r ≡ eval s q (v .expression)
-  tells answer =
-      ap outcomeOf (answer v) ∙ told (eval s q (v .expression)) (rw (eval-parts s q (v .expression)) has-range)
-    where
-      has-range : Ranged (evalIn (s .globals) (q .locals) (s .clock) (v .expression))
-      has-range =
-          evalIn-ranged (v .running .run .model) (s .globals) (q .locals) (s .clock) (v .running .sound .globals-ok)
-          (has-fine .locals-ok) (v .running .sound .clock-ok) (v .expression) (v .expression-fits)
+  pub moved-on : {after : List ℕ} → after ≡ pad Limit.SAMPLERS (drawsOf (expressionIn body) (s .seeds))
+      → after ≡ pad Limit.SAMPLERS (seedsLeft v)
+  moved-on e = e ∙ ap (λ x. pad Limit.SAMPLERS (drawsOf x (s .seeds))) (v .reads .1 .1)
 
--- The expression of the action where the process on the floor stands is such a one, and fits as the action does.
-abbrev pub to-value : {body w : List ℕ} {p : ℕ} {x : Expr → Action} (v : Given body w p x)
-    → (ActFit (v .on .running .run .model) (x (v .expression)) → ExprFit (v .on .running .run .model) (v .expression))
-    → Valued body w p
-to-value v f =
-    record {
-      running = v .on .running;
-      lives = lives (v .on);
-      expression = v .expression;
-      reads = v .reads;
-      expression-fits = f (action-fits (v .on));
-    }
+  -- THE WORK, when the seeds are kept and when they aren't.
+  pub work-kept : {w₁ seeds : List ℕ} {t : Bool} → w₁ ≡ take Row.SEEDS w ++ seeds → seeds ≡ pad Limit.SAMPLERS (seedsLeft v)
+      → t ≡ true → w₁ ≡ workOf (left v t)
+  work-kept e f k = rw k (kept (v .running) (seedsLeft v) e f)
+
+  pub work-as-it-was : {t : Bool} → t ≡ false → w ≡ workOf (left v t)
+  work-as-it-was k = rw k (v .running .run .shows)
+
+  -- SUCH AN ANSWER tells the outcome that the definitions have, with the seeds that they leave.
+  abbrev alone : Outcome ℤ
+  alone = evalIn m (s .globals) (q .locals) (s .clock) (v .expression) (s .seeds)
+
+  parts : worth v ≡ leaving alone (seedsLeft v)
+  parts = eval-parts m s q (v .expression) (s .seeds)
+
+  has-range : Ranged alone
+  has-range =
+      evalIn-ranged m (v .running .run .fits .samplers-fit) (s .globals) (q .locals) (s .clock) (v .running .sound .globals-ok)
+      (has-fine .locals-ok) (v .running .sound .clock-ok) (v .expression) (v .expression-fits) (s .seeds)
+
+  pub tells : {r : Value} → r ≡ valueIn (theValue (worth v)) → worth v ≡ leaving (outcomeOf r) (seedsLeft v)
+  tells {r} answer =
+      let e : outcomeOf r ≡ alone =
+      ap outcomeOf (answer ∙ ap valueIn (ap theValue parts ∙ value-left alone _)) ∙ told alone has-range in
+      parts ∙ ap (λ o. leaving o (seedsLeft v)) (sym e)
+
+-- THE EXPRESSION OF THE ACTION where the process on the floor stands is such a one, and fits as the action does.
+module _ {body map w : List ℕ} {p : ℕ} {x : Expr → Action} (v : Given body map w p x)
+    (f : ActFit (v .on .running .run .model) (x (v .expression)) → ExprFit (v .on .running .run .model) (v .expression)) where
+  abbrev pub to-value : Valued body map w p
+  to-value =
+      record {
+        running = v .on .running;
+        drawn = v .drawn;
+        lives = lives (v .on);
+        expression = v .expression;
+        reads = v .reads;
+        expression-fits = f (action-fits (v .on));
+      }
+
+  -- When the seeds that it leaves are kept, the process stands there still; and when they aren't, nothing has changed.
+  abbrev pub still-on : {w₁ : List ℕ} {t : Bool} → w₁ ≡ workOf (left to-value t) → t ≡ true → On w₁ p (x (v .expression))
+  still-on e k =
+      on-with (v .on) (seedsLeft to-value)
+      (draws-ok (v .on .running .run .model) (v .expression) (f (action-fits (v .on))) _ (v .on .running .sound .seeds-ok))
+      (e ∙ ap (λ b. workOf (left to-value b)) k)
+
+  pub unchanged : {w₁ : List ℕ} {t : Bool} → w₁ ≡ workOf (left to-value t) → t ≡ false → w₁ ≡ w
+  unchanged e k = e ∙ ap (λ b. workOf (left to-value b)) k ∙ sym (v .on .running .run .shows)
+
+-- WHICH VALUES are kept: all; or those of a HOLD.
+pub all-within : (r : Value) → r .code < Code.CODES → isWithin 0 Code.HIGHEST r ≡ r .ok
+all-within r h = go (r .ok)
+  where
+    go : (t : Bool) → (t && leb 0 (r .code)) && leb (r .code) Code.HIGHEST ≡ t
+    go true = rw (le-leb 0 (r .code) (omega arith), le-leb (r .code) Code.HIGHEST (omega arith))
+    go false = refl
+
+module _ (low high : ℕ) (r : Value) where
+  pub none-within : r .ok ≡ false → isWithin low high r ≡ false
+  none-within e = rw e
+
+  pub is-within : r .ok ≡ true → low ≤ r .code → r .code ≤ high → isWithin low high r ≡ true
+  is-within e h k = rw (e, le-leb low (r .code) h, le-leb (r .code) high k)
+
+  pub is-below : r .ok ≡ true → r .code < low → isWithin low high r ≡ false
+  is-below e h = rw (e, lt-leb low (r .code) h)
+
+  pub is-above : r .ok ≡ true → low ≤ r .code → high < r .code → isWithin low high r ≡ false
+  is-above e h k = rw (e, le-leb low (r .code) h, lt-leb (r .code) high k)
 
 -- WHAT AN ANSWER SAYS: there is no value; there is one, below 0 or not.
-module _ (r : Value) {o : Outcome ℤ} (t : outcomeOf r ≡ o) where
+module _ (r : Value) {o : Outcome V.Valued} (d : List ℕ) (t : o ≡ leaving (outcomeOf r) d) where
   pub no-value : r .ok ≡ false → o ≡ fails No.SUM
-  no-value e = sym t ∙ ap (λ b. if b then ok (valueOf (r .code)) else fails No.SUM) e
+  unfolding _>>=_
+  no-value e = t ∙ ap (λ b. leaving (if b then ok (valueOf (r .code)) else fails No.SUM) d) e
 
-  pub a-value : r .ok ≡ true → o ≡ ok (valueOf (r .code))
-  a-value e = sym t ∙ ap (λ b. if b then ok (valueOf (r .code)) else fails No.SUM) e
+  pub a-value : r .ok ≡ true → o ≡ ok (record { value = valueOf (r .code); seeds = d })
+  unfolding _>>=_
+  a-value e = t ∙ ap (λ b. leaving (if b then ok (valueOf (r .code)) else fails No.SUM) d) e
 
 pub below-zero : (c : ℕ) → c < Code.ZERO → nonNeg (valueOf c) ≡ false
 unfolding valueOf

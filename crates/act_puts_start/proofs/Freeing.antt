@@ -12,6 +12,7 @@ use Rattle.semantics.specs.Step.{freeAll}
 use Rattle.promises.specs.Laws.{over, once, once-self}
 use Rattle.promises.specs.Sound.{onFloor, Held}
 use Rattle.promises.specs.Takes.{wakes-up}
+use Rattle.base_numbers.specs.Row as Row
 use Rattle.base_journal.specs.Wrote.{wroteAt}
 use Rattle.base_journal.specs.Laws.{wrote-length}
 use Rattle.row_work.specs.Work.{workOf, FloorSized, Sized, Doing, Done}
@@ -65,7 +66,7 @@ module _ {first places : List ℕ} {i n : ℕ} (v : Freeing first i places n) (a
         same-long = refl;
       }
 
-  pub left-long : {k : ℕ} {w out : List ℕ} → LeftOf k w out → length w ≡ 10_696
+  pub left-long : {k : ℕ} {w out : List ℕ} → LeftOf k w out → length w ≡ Row.WORDS
   left-long l = ap length (l .shows) ∙ work-long (l .is) (still-sized (v .run) (l .is) (l .holds) (l .floor-ok))
 
   module _ {k : ℕ} {w out : List ℕ} (h : k < n) (l : LeftOf k w out) where

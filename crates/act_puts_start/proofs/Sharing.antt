@@ -14,6 +14,7 @@ use Rattle.semantics.specs.Record.{shareOf}
 use Rattle.semantics.specs.State.{State, Process, process, with-processes, with-held}
 use Rattle.promises.specs.Laws.{no-way, AllOf, all-set, all-get}
 use Rattle.promises.specs.Parts.{Known}
+use Rattle.base_numbers.specs.Row as Row
 use Rattle.file_check_parts.proofs.Laws.{rest-of, parts-cons, parts-none}
 use Rattle.row_work.specs.Work.{workOf, ProcessSized, Sized, Doing, Done}
 use Rattle.row_work.specs.Shown.{work-long}
@@ -213,7 +214,7 @@ module _ {w : List ℕ} {p : ℕ} {away : Bool} {x : Share} {xs : List Share} {g
             ∙ l .leads;
       }
 
-pub left-long : {w : List ℕ} {p : ℕ} {away : Bool} {h : List Share} {goal : State} → Left w p away h goal → length w ≡ 10_696
+pub left-long : {w : List ℕ} {p : ℕ} {away : Bool} {h : List Share} {goal : State} → Left w p away h goal → length w ≡ Row.WORDS
 left-long l = ap length (l .shows) ∙ work-long (l .is) (l .sized)
 
 module _ {body first : List ℕ} {p : ℕ} {away : Bool} (v : Moving body first p away) where

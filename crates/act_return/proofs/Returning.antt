@@ -16,6 +16,7 @@ use Rattle.semantics.specs.Step.{occurs}
 use Rattle.promises.specs.Laws.{all-get, more-at}
 use Rattle.promises.specs.Sound.{Held}
 use Rattle.promises.specs.Moves.{frees, bin-is}
+use Rattle.base_numbers.specs.Row as Row
 use Rattle.base_journal.specs.Wrote.{wroteAt}
 use Rattle.row_work.specs.Work.{workOf, FloorSized, Sized}
 use Rattle.row_work.specs.Underway.{in-state, still-sized}
@@ -35,7 +36,7 @@ module _ {bs row w : List ℕ} {e : Notice} (v : Returning bs row w e) where
   abbrev pub shown : {P : State → Type 0} → P (v .run .is) → Shown w P
   shown g = record { is = v .run .is; shows = v .run .shows; sized = is-sized; given = g }
 
-  pub is-long : length w ≡ 10_696
+  pub is-long : length w ≡ Row.WORDS
   is-long = ap length (v .run .shows) ∙ work-long (v .run .is) is-sized
 
   -- What was in hand is in hand no more.

@@ -3,17 +3,19 @@ use Prim.Native.Nat.{ℕ, _+_, _<_}
 use native.Mathlib.Omega.{arith}
 use mathlib.Core.Path.{_≡_, refl, sym, _∙_, ap}
 use mathlib.Core.List.{List}
-use mathlib.Core.Bool.{true, false}
+use mathlib.Core.Bool.{Bool, true, false}
 use lib.ListN.{length, set}
-use Rattle.semantics.specs.Words.{if_then_else_, ok, fails, _>>=_}
+use Rattle.semantics.specs.Words.{ok, _>>=_}
 use Rattle.semantics.specs.Numbers as No
 use Rattle.semantics.specs.Model.{SET}
-use Rattle.semantics.specs.State.{State, process, with-globals, past}
-use Rattle.semantics.specs.Value.{eval}
+use Rattle.semantics.specs.State.{State, with-globals, past}
 use Rattle.semantics.specs.Walk.{walk}
 use Rattle.semantics.specs.Step.{setGlobal}
 use Rattle.promises.specs.Moves.{global-is}
-use Rattle.base_i32.specs.Code.{code, valueOf, valueIn, outcomeOf}
+use Rattle.base_numbers.specs.Row as Row
+use Rattle.base_numbers.specs.Limit as Limit
+use Rattle.base_numbers.specs.Code as Code
+use Rattle.base_i32.specs.Code.{valueOf, outcomeOf}
 use Rattle.base_i32.specs.Laws.{code-valueOf, value-fits}
 use Rattle.base_i32.specs.declared.Value.{Value}
 use Rattle.row_work.specs.Work.{workOf, Done}
@@ -22,9 +24,10 @@ use Rattle.row_work.specs.Shown.{work-long, globals-set}
 use Rattle.row_process.specs.Process.{Lives, changed}
 use Rattle.act_floor.specs.Acting.{Stepped}
 use Rattle.act_floor.specs.Running.{On, on}
-use Rattle.act_floor.specs.Onward.{m, s, q, hand, is-sized, lives, action-fits, after-it, passes, after-sized, passing}
-use Rattle.act_hold_prio_lset_trace.specs.Given.{Valued}
-use Rattle.act_hold_prio_lset_trace.proofs.Values.{tells}
+use Rattle.act_floor.specs.Onward.{m, s, hand, is-sized, action-fits, after-it, passes, after-sized, passing}
+use Rattle.act_value.specs.Parts.{leaving}
+use Rattle.act_hold_prio_lset_trace.specs.Given.{Valued, worth, seedsLeft, left, Given}
+use Rattle.act_hold_prio_lset_trace.proofs.Values.{to-value, still-on, unchanged, no-value, a-value}
 use Rattle.act_walk.specs.Walking.{Walking, Walked}
 use Rattle.act_set_become.specs.Setting.{Setting}
 
@@ -32,68 +35,59 @@ module _ {body bs row w : List ℕ} {p i : ℕ} (v : Setting body bs row w p i) 
   abbrev pub here : On w p (SET i (v .expression))
   here = on (v .acting)
 
-  pub valued : Valued body w p
-  valued =
-      record {
-        running = here .running;
-        lives = lives here;
-        expression = v .expression;
-        reads = v .reads;
-        expression-fits = action-fits here .1;
-      }
+  abbrev given : Given body row w p (SET i)
+  given = record { expression = v .expression; reads = v .reads; on = here; drawn = v .acting .running .mapped .draws }
 
-  pub global-low : i < 32
+  abbrev pub valued : Valued body row w p
+  valued = to-value given (λ f. f .1)
+
+  pub global-low : i < Limit.THINGS
   global-low = omega (arith, action-fits here .0, v .acting .running .run .fits .few-vars)
 
-  there : i < length (after-it here .globals)
-  there = omega (arith, action-fits here .0, v .acting .running .sound .vars-many)
+  -- IT HAS A VALUE. With the seeds after its draws it stands there still, and goes past.
+  module _ {w₁ : List ℕ} {t : Bool} (drew : w₁ ≡ workOf (left valued t)) (has : t ≡ true) where
+    abbrev pub still : On w₁ p (SET i (v .expression))
+    still = still-on given (λ f. f .1) drew has
 
-  pub passed-long : {x : List ℕ} → Done w (Lives p) (changed p past) x → length x ≡ 10_696
-  passed-long told = ap length (told (passing here)) ∙ work-long (after-it here) (after-sized here)
+    there : i < length (after-it still .globals)
+    there = omega (arith, action-fits here .0, v .acting .running .sound .vars-many)
 
-  module _ (r : Value)
-      (answer : (d : Valued body w p)
-      → r ≡ valueIn (eval (d .running .run .is) (process (d .running .run .is) p) (d .expression))) where
-    is-told : outcomeOf r ≡ eval (s here) (q here) (v .expression)
-    unfolding valued
-    is-told = tells valued answer
+    pub passed-long : {x : List ℕ} → Done w₁ (Lives p) (changed p past) x → length x ≡ Row.WORDS
+    passed-long told = ap length (told (passing still)) ∙ work-long (after-it still) (after-sized still)
 
-    -- IT HAS NO VALUE,
-    pub no-value : (at : ℕ) (out : List ℕ) → r .ok ≡ false
-        → Stepped (setGlobal (m here) (s here) p i (v .expression)) 21 0 w w at out out
-    unfolding setGlobal _>>=_
-    no-value at out e =
-        let o : eval (s here) (q here) (v .expression) ≡ fails No.SUM =
-        sym is-told ∙ ap (λ b. if b then ok (valueOf (r .code)) else fails No.SUM) e in
-        rw o (refl, (refl, (refl, refl)))
+    -- The value is set.
+    module _ (r : Value) (low : r .code < Code.CODES) {x : List ℕ} (told₁ : Done w₁ (Lives p) (changed p past) x) {y : List ℕ}
+        (wrote : y ≡ set x (Row.GLOBALS + i) (r .code)) where
+      abbrev placed : State
+      placed = with-globals (after-it still) (set (after-it still .globals) i (valueOf (r .code)))
 
-    -- or the value is set.
-    abbrev placed : State
-    placed = with-globals (after-it here) (set (after-it here .globals) i (valueOf (r .code)))
+      pub placed-walking : Walking bs row y
+      placed-walking =
+          record {
+            run =
+                in-state (v .acting .running .run) placed
+                (wrote
+                ∙ ap (λ l. set l (Row.GLOBALS + i) (r .code)) (told₁ (passing still))
+                ∙ ap (set (workOf (after-it still)) (Row.GLOBALS + i)) (sym (code-valueOf (r .code)))
+                ∙ globals-set (after-it still) (after-sized still) i (valueOf (r .code)) there);
+            mapped = v .acting .running .mapped;
+            in-hand = hand still;
+            holds = global-is (passes still) i (valueOf (r .code)) (value-fits (r .code) low);
+            floor-ok = is-sized still .floor-ok;
+          }
 
-    module _ {x : List ℕ} (told₁ : Done w (Lives p) (changed p past) x) where
-      module _ (low : r .code < 4_294_967_296) {y : List ℕ} (wrote : y ≡ set x (72 + i) (r .code)) where
-        pub placed-walking : Walking bs row y
-        placed-walking =
-            record {
-              run =
-                  in-state (v .acting .running .run) placed
-                  (wrote
-                  ∙ ap (λ l. set l (72 + i) (r .code)) (told₁ (passing here))
-                  ∙ ap (set (workOf (after-it here)) (72 + i)) (sym (code-valueOf (r .code)))
-                  ∙ globals-set (after-it here) (after-sized here) i (valueOf (r .code)) there);
-              mapped = v .acting .running .mapped;
-              in-hand = hand here;
-              holds = global-is (passes here) i (valueOf (r .code)) (value-fits (r .code) low);
-              floor-ok = is-sized here .floor-ok;
-            }
+      pub value-set : worth valued ≡ leaving (outcomeOf r) (seedsLeft valued) → (at : ℕ) (out : List ℕ) {n : ℕ} {w′ out′ : List ℕ}
+          → r .ok ≡ true → ((z : Walking bs row y) → Walked (walk (z .run .model) (z .run .is)) n w′ at out out′)
+          → Stepped (setGlobal (m here) (s here) p i (v .expression)) 0 n w w′ at out out′
+      unfolding setGlobal _>>=_ placed-walking
+      value-set o at out {n} {w′} {out′} e walked =
+          let g : Stepped (ok (walk (m here) placed)) 0 n w w′ at out out′ = (refl, walked placed-walking) in
+          rw (a-value r (seedsLeft valued) o e) g
 
-        pub value-set : (at : ℕ) (out : List ℕ) {n : ℕ} {w′ out′ : List ℕ} → r .ok ≡ true
-            → ((d : Walking bs row y) → Walked (walk (d .run .model) (d .run .is)) n w′ at out out′)
-            → Stepped (setGlobal (m here) (s here) p i (v .expression)) 0 n w w′ at out out′
-        unfolding setGlobal _>>=_ placed-walking
-        value-set at out {n} {w′} {out′} e walked =
-            let o : eval (s here) (q here) (v .expression) ≡ ok (valueOf (r .code)) =
-            sym is-told ∙ ap (λ b. if b then ok (valueOf (r .code)) else fails No.SUM) e in
-            let g : Stepped (ok (walk (m here) placed)) 0 n w w′ at out out′ = (refl, walked placed-walking) in
-            rw o g
+  -- IT HAS NONE.
+  pub valueless : (r : Value) → worth valued ≡ leaving (outcomeOf r) (seedsLeft valued) → {w₁ : List ℕ}
+      → w₁ ≡ workOf (left valued (r .ok)) → (at : ℕ) (out : List ℕ) → r .ok ≡ false
+      → Stepped (setGlobal (m here) (s here) p i (v .expression)) No.SUM 0 w w₁ at out out
+  unfolding setGlobal _>>=_
+  valueless r o drew at out e =
+      rw (no-value r (seedsLeft valued) o e) (refl, (refl, (unchanged given (λ f. f .1) drew e, refl)))

@@ -65,15 +65,13 @@ pub fn set_global<'a>(
         (v .expression)) (r .fault) (r .lines)
         (now (w .entry)) (now (w .exit)) at (now (out .entry)) (now (out .exit))) ⌝ }
 {
-    let mut seeds = row_work::seeds_of(w);
-    let value = act_hold_prio_lset_trace::value_in(body, map, w, p, &mut seeds);
+    let value = act_hold_prio_lset_trace::value_in(body, map, w, p);
     if !value.ok {
         return Went {
             fault: fault::SUM,
             lines: 0,
         };
     }
-    row_work::keep_seeds(w, seeds);
     row_process::past(w, p);
     set_at(w, row::GLOBALS + i, value.code as u64);
     let lines = act_walk::walk(s, map, w, out, at);

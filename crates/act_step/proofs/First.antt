@@ -13,6 +13,7 @@ use Rattle.semantics.specs.Run.{Before, isClosed, goesOn}
 use Rattle.promises.specs.Sound.{onFloor, noticed, gives, Held}
 use Rattle.promises.specs.Moves.{recount, first-out}
 use Rattle.promises.specs.Safe.{idle-stops, step-safe}
+use Rattle.base_numbers.specs.Row as Row
 use Rattle.base_ordered.specs.Lines.{eventKey, eventWord}
 use Rattle.row_work.specs.Work.{floorWord, workOf, EventSized, Sized}
 use Rattle.row_work.specs.Underway.{in-state, still-sized}
@@ -49,7 +50,7 @@ module _ {bs map w : List ℕ} (v : Going bs map w) where
   pub is-sized : Sized s
   is-sized = Floor.is-sized (runs (v .running))
 
-  pub work-long : length w ≡ 10_696
+  pub work-long : length w ≡ Row.WORDS
   work-long = Floor.run-long (runs (v .running))
 
   pub floor-word : getD w 3 0 ≡ floorWord (s .floor)

@@ -76,16 +76,22 @@ module _ {body bs map w : List ℕ} {p k : ℕ} (v : Meets body bs map w p k) wh
       done-quietly h = done out (quietly o f l w w′ at out h)
 
   -- WITH AN EXPRESSION. HOLD, PRIO, TRACE;
-  abbrev told-of : (x : Expr → Action) (e : Expr) → v .action ≡ x e → ReadsExpression body e → Given body w p x
-  told-of x e is r = record { expression = e; reads = r; on = on (stands-at (x e) is) }
+  abbrev told-of : (x : Expr → Action) (e : Expr) → v .action ≡ x e → ReadsExpression body e → Given body map w p x
+  told-of x e is r =
+      record {
+        expression = e;
+        reads = r;
+        on = on (stands-at (x e) is);
+        drawn = v .acting .running .mapped .draws;
+      }
 
-  abbrev pub hold-told : k ≡ 16 → Given body w p HOLD
+  abbrev pub hold-told : k ≡ 16 → Given body map w p HOLD
   hold-told e = let h = known 16 e in told-of HOLD (h .0) (h .1) (said (HOLD (h .0)) (h .1))
 
-  abbrev pub prio-told : k ≡ 17 → Given body w p PRIO
+  abbrev pub prio-told : k ≡ 17 → Given body map w p PRIO
   prio-told e = let h = known 17 e in told-of PRIO (h .0) (h .1) (said (PRIO (h .0)) (h .1))
 
-  abbrev pub trace-told : k ≡ 29 → Given body w p TRACE
+  abbrev pub trace-told : k ≡ 29 → Given body map w p TRACE
   trace-told e = let h = known 29 e in told-of TRACE (h .0) (h .1) (said (TRACE (h .0)) (h .1))
 
   -- SET and LSET of variable or local i, the number with which the body begins.
@@ -108,10 +114,15 @@ module _ {body bs map w : List ℕ} {p k : ℕ} (v : Meets body bs map w p k) wh
           let h = is-set e in
           record { expression = h .0; reads = rw rest-is (h .2); acting = stands-at (SET i (h .0)) (h .1) }
 
-      abbrev pub lset-told : k ≡ 19 → Given rest w p (LSET i)
+      abbrev pub lset-told : k ≡ 19 → Given rest map w p (LSET i)
       lset-told e =
           let h = is-lset e in
-          record { expression = h .0; reads = rw rest-is (h .2); on = on (stands-at (LSET i (h .0)) (h .1)) }
+          record {
+            expression = h .0;
+            reads = rw rest-is (h .2);
+            on = on (stands-at (LSET i (h .0)) (h .1));
+            drawn = v .acting .running .mapped .draws;
+          }
 
   -- WITH NUMBERS.
   pub head-long : 18 ≤ k → k < 25 → 2 ≤ length body

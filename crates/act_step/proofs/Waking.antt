@@ -9,6 +9,7 @@ use Rattle.semantics.specs.State.{State, empty, heldBy, with-floor}
 use Rattle.semantics.specs.Step.{moves, step}
 use Rattle.semantics.specs.Run.{Before, isClosed, goesOn}
 use Rattle.promises.specs.Safe.{Safe, step-safe}
+use Rattle.base_numbers.specs.Row as Row
 use Rattle.row_work.specs.Work.{workOf}
 use Rattle.row_work.specs.Underway.{in-state}
 use Rattle.row_work.specs.Head.{floor-set}
@@ -35,7 +36,7 @@ module _ {bs map w : List ℕ} {p : ℕ} (v : Waking bs map w p) where
         on-floor = refl;
       }
 
-  pub work-is-long : length w ≡ 10_696
+  pub work-is-long : length w ≡ Row.WORDS
   work-is-long = sym (length-set w 3 (p + 1)) ∙ run-long (runs (floored refl .running))
 
   pub place-low : p < 64

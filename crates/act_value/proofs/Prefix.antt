@@ -7,11 +7,13 @@ use mathlib.Core.Option.{Option, none, some}
 use Prim.Native.Nat.{ℕ, zero, suc, _+_, _*_, _-_, _≤_, _<_, _/_}
 use native.Mathlib.Omega.{arith}
 use native.Mathlib.Numerals.{add-one}
-use borrow.Author.Tests.{eqb-true}
+use borrow.Author.Tests.{eqb-true, ne-eqb}
+use lib.Dec.{eqb}
 use lib.ListN.{length, take, drop, getD}
 use lib.Seq.{drop-cons, drop-drop}
 use Rattle.semantics.specs.Model.{Model, Expr, literal, global, local, add, subtract, multiply, lesser, greater, negate}
-use Rattle.semantics.specs.Model.{theClock}
+use Rattle.semantics.specs.Words.{if_then_else_}
+use Rattle.semantics.specs.Model.{theClock, draw}
 use Rattle.semantics.specs.Bytes.{u16, u32, signed, parts}
 use Rattle.semantics.specs.Record.{Node, leaf, unary, binary, nodeOf, onto, pile, nodes, oneTree, theTree}
 use Rattle.promises.specs.Laws.{no-way, AllOf}
@@ -21,9 +23,13 @@ use Rattle.file_check_tails.specs.Tails.{arity}
 use Rattle.file_check_tails.proofs.Pile.{arity-small}
 use Rattle.act_value.specs.Reading.{theRest}
 
+-- The op that draws.
+abbrev pub DRAW : ℕ
+DRAW = 10
+
 -- A NODE by how many operands it takes.
 abbrev pub leafOf : ℕ → ℕ → Expr
-leafOf op v = getD (literal (signed v) ∷ global v ∷ local v ∷ []) op theClock
+leafOf op v = getD (literal (signed v) ∷ global v ∷ local v ∷ []) op (if eqb op DRAW then draw v else theClock)
 
 abbrev pub twoOf : ℕ → Expr → Expr → Expr
 twoOf i = getD (add ∷ subtract ∷ multiply ∷ lesser ∷ []) i greater
@@ -45,11 +51,17 @@ by-operands v (suc (suc (suc (suc (suc (suc zero)))))) = refl
 by-operands v (suc (suc (suc (suc (suc (suc (suc zero))))))) = refl
 by-operands v (suc (suc (suc (suc (suc (suc (suc (suc zero)))))))) = refl
 by-operands v (suc (suc (suc (suc (suc (suc (suc (suc (suc zero))))))))) = refl
-by-operands v (suc (suc (suc (suc (suc (suc (suc (suc (suc (suc op)))))))))) = refl
+by-operands v (suc (suc (suc (suc (suc (suc (suc (suc (suc (suc zero)))))))))) = refl
+by-operands v (suc (suc (suc (suc (suc (suc (suc (suc (suc (suc (suc op))))))))))) =
+    rw (ne-eqb (suc (suc (suc (suc (suc (suc (suc (suc (suc (suc (suc op))))))))))) DRAW (λ h. omega arith))
 
 -- An op that takes neither none nor one takes two, and is from 3 on.
 pub takes-two : (op n : ℕ) → n ≡ arity op → (n ≡ 0 → ⊥) → (n ≡ 1 → ⊥) → arity op ≡ 2
 takes-two op n e f g = omega (arith, arity-small op)
+
+pub draws-none : (op : ℕ) → op ≡ DRAW → arity op ≡ 0
+unfolding arity
+draws-none op e = rw e
 
 pub two-from-3 : (op : ℕ) → arity op ≡ 2 → 3 ≤ op
 unfolding arity

@@ -15,7 +15,7 @@ use Rattle.promises.specs.Fit.{I32}
 use Rattle.base_numbers.specs.Limit as Limit
 use Rattle.base_i32.specs.Code.{code}
 use Rattle.act_value.specs.Parts.{evalIn}
-use Rattle.act_value.specs.Reading.{Readable, pad}
+use Rattle.act_value.specs.Reading.{Ready, pad}
 
 -- add, global 0, literal 3
 abbrev sum : List ℕ
@@ -29,28 +29,43 @@ locals = replicate No.locals (pos 0)
 
 abbrev one-variable : Model
 one-variable =
-    record { totals = []; amounts = []; syncs = 0; vars = pos 0 ∷ []; classes = []; blocks = []; entities = [] }
+    record { totals = []; amounts = []; syncs = 0; vars = pos 0 ∷ []; classes = []; blocks = []; entities = []; samplers = [] }
 
-can-be-read : Readable sum (pad Limit.THINGS 0 (map code variables)) (pad No.locals 0 (map code locals)) 0
+abbrev unused : List ℕ
+unused = replicate Limit.SAMPLERS 0
+
+can-be-read : Ready sum (pad Limit.THINGS 0 (map code variables)) (pad No.locals 0 (map code locals)) unused unused unused 0
 unfolding expressionIn
 can-be-read =
     record {
-      model = one-variable;
-      gs = variables;
-      ls = locals;
-      is-sized = refl;
-      is-valid = refl;
-      fits = (omega arith, omega arith);
-      few-vars = omega arith;
-      vars-many = refl;
-      locals-many = refl;
-      globals-ok = (omega arith, tt);
-      locals-ok = all-replicate I32 No.locals (pos 0) (omega arith);
-      clock-ok = omega arith;
-      shows-globals = refl;
-      shows-locals = refl;
+      to-read =
+          record {
+            model = one-variable;
+            gs = variables;
+            ls = locals;
+            is-sized = refl;
+            is-valid = refl;
+            fits = (omega arith, omega arith);
+            samplers-fit = tt;
+            few-vars = omega arith;
+            few-samplers = omega arith;
+            vars-many = refl;
+            locals-many = refl;
+            lowest-many = refl;
+            values-many = refl;
+            globals-ok = (omega arith, tt);
+            locals-ok = all-replicate I32 No.locals (pos 0) (omega arith);
+            clock-ok = omega arith;
+            shows-globals = refl;
+            shows-locals = refl;
+            shows-lowest = λ i h. absurd (omega arith);
+            shows-values = λ i h. absurd (omega arith);
+          };
+      ds = [];
+      seeds-ok = record { many = refl; each = tt };
+      shows-seeds = refl;
     }
 
-its-value : evalIn variables locals 0 (expressionIn sum) ≡ ok (negsuc 1)
+its-value : evalIn one-variable variables locals 0 (expressionIn sum) [] ≡ ok (negsuc 1)
 unfolding expressionIn evalIn _>>=_ _>>_ need
 its-value = refl

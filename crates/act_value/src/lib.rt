@@ -1,14 +1,16 @@
 // The value of an expression, from the bytes of its nodes, by recursion over them.
 ghost use mathlib.Core.Path.{_≡_};
 ghost use Prim.Native.Nat.{_≤_, _<_, _/_};
-ghost use lib.ListN.{length, getD};
+ghost use lib.ListN.{length, getD, set};
 ghost use lib.IntN.{negℤ};
 ghost use Rattle.semantics.specs.Numbers as No;
-ghost use Rattle.semantics.specs.Record.{nodes, expressionIn};
+ghost use Rattle.semantics.specs.Record.{expressionIn};
 ghost use Rattle.semantics.specs.Value.{inRange};
 ghost use Rattle.base_i32.specs.Code.{valueOf, valueIn};
-ghost use Rattle.act_value.specs.Parts.{evalIn};
-ghost use Rattle.act_value.specs.Reading.{Readable, Stands, Read, HasCode, leafCode, ofTwo, given};
+ghost use Rattle.base_numbers.specs.Limit as Limit;
+ghost use Rattle.act_value.specs.Parts.{drawsOf};
+ghost use Rattle.act_value.specs.Reading.{Ready, worth, Stands, Read, HasCode, Sampled, pad};
+ghost use Rattle.act_value.specs.Reading.{leafCode, movedOn, drawnCode, ofTwo, given};
 use base_i32::Value;
 use base_numbers::code;
 use base_numbers::limit;
@@ -99,14 +101,14 @@ fn draw<'a>(
     i: u32,
 ) -> u32
     requires { ⌜ Sampled (now lowest) (now values) (now seeds) i ⌝ }
-    ensures { λ r. ⌜ ((d : Sampled (now (lowest .entry)) (now (values .entry)) (now (seeds .entry)) i)
-        → r ≡ code (drawn (d .spread .low) (d .spread .high) (nextSeed (getD (now (seeds .entry)) i 0)))) ⌝ }
-    ensures { λ _. ⌜ now (seeds .exit) ≡ set (now (seeds .entry)) i (nextSeed (getD (now (seeds .entry)) i 0)) ⌝ }
+    ensures { λ r. ⌜ (r ≡ drawnCode (now (lowest .entry)) (now (values .entry)) (now (seeds .entry)) i)
+        × (now (seeds .exit) ≡ set (now (seeds .entry)) i (movedOn (now (seeds .entry)) i)) ⌝ }
 {
     let k = i as usize;
-    let seed = base_generator::next_seed(seeds[k]);
-    seeds[k] = seed;
-    base_generator::drawn(lowest[k], values[k], seed)
+    let old = seeds[k];
+    let new = base_generator::next_seed(old);
+    seeds[k] = new;
+    base_generator::drawn(lowest[k], values[k], new)
 }
 
 // The tree that begins at the k-th node; each draw is made, in the order of the nodes, whatever comes of the value.
@@ -120,9 +122,11 @@ fn tree_at<'a>(
     seeds: &'a mut [u64; limit::SAMPLERS],
     k: usize,
 ) -> Tree
-    requires { ⌜ Readable (now bs) (now globals) (now locals) clock × (k < length (now bs) / 6) ⌝ }
-    ensures { λ r. ⌜ ((w : Readable (now (bs .entry)) (now (globals .entry)) (now (locals .entry)) clock) →
-        Read (w .gs) (w .ls) clock (nodes (now (bs .entry))) k r) ⌝ }
+    requires { ⌜ Ready (now bs) (now globals) (now locals) (now lowest) (now values) (now seeds) clock
+        × (k < length (now bs) / 6) ⌝ }
+    ensures { λ r. ⌜ ((w : Ready (now (bs .entry)) (now (globals .entry)) (now (locals .entry)) (now (lowest .entry))
+        (now (values .entry)) (now (seeds .entry)) clock)
+        → Read (w .to-read) k (w .ds) r (now (seeds .exit))) ⌝ }
 {
     let node = node_at(bs, k);
     if node.op == op::DRAW {
@@ -168,9 +172,13 @@ pub fn evaluate<'a>(
     values: &'a [u32],
     seeds: &'a mut [u64; limit::SAMPLERS],
 ) -> Value
-    requires { ⌜ Readable (now bs) (now globals) (now locals) clock ⌝ }
-    ensures { λ r. ⌜ ((w : Readable (now (bs .entry)) (now (globals .entry)) (now (locals .entry)) clock) →
-        r ≡ valueIn (evalIn (w .gs) (w .ls) clock (expressionIn (now (bs .entry))))) ⌝ }
+    requires { ⌜ Ready (now bs) (now globals) (now locals) (now lowest) (now values) (now seeds) clock ⌝ }
+    ensures { λ r. ⌜ ((w : Ready (now (bs .entry)) (now (globals .entry)) (now (locals .entry)) (now (lowest .entry))
+        (now (values .entry)) (now (seeds .entry)) clock)
+        → r ≡ valueIn (worth (w .to-read) (expressionIn (now (bs .entry))) (w .ds))) ⌝ }
+    ensures { λ _. ⌜ ((w : Ready (now (bs .entry)) (now (globals .entry)) (now (locals .entry)) (now (lowest .entry))
+        (now (values .entry)) (now (seeds .entry)) clock)
+        → now (seeds .exit) ≡ pad Limit.SAMPLERS 0 (drawsOf (expressionIn (now (bs .entry))) (w .ds))) ⌝ }
 {
     let whole = tree_at(bs, globals, locals, clock, lowest, values, seeds, 0);
     whole.value

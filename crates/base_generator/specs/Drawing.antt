@@ -4,12 +4,12 @@ use native.Mathlib.Omega.{arith}
 use mathlib.Core.Path.{_≡_, sym, _∙_}
 use mathlib.Core.Bool.{true}
 use borrow.Author.Tests.{leb-true}
-use lib.IntN.{ℤ, pos, _-ℤ_}
+use lib.IntN.{ℤ, pos}
 use lib.Signed.{mag, leZ}
 use Rattle.semantics.specs.Generator.{valuesIn, drawn}
 use Rattle.base_numbers.specs.Code as Code
 use Rattle.base_i32.specs.Code.{code, valueOf}
-use Rattle.base_i32.specs.Laws.{value-stands, code-stands, value-above, valueOf-code, code-order}
+use Rattle.base_i32.specs.Laws.{value-stands, code-stands, value-above, code-above, code-order}
 use Rattle.base_i32.proofs.Sums.{sum-stands}
 
 -- From lowest to highest there are so many.
@@ -28,5 +28,4 @@ pub highest-at : (low high : ℤ) → mag low < Code.ZERO → mag high < Code.ZE
     → code low + valuesIn low high ≡ code high + 1
 highest-at low high f g e =
     let h : code low ≤ code high = leb-true (code low) (code high) (code-order low high f g ∙ e) in
-    let a : high -ℤ low ≡ pos (code high - code low) = rw (valueOf-code low f, valueOf-code high g) at (value-above _ _ h) in
-    rw a (omega arith)
+    rw (code-above low high f g h) (omega arith)

@@ -82,13 +82,11 @@ above (pos a) (negsuc b) x y d e h = absurd (omega arith)
 above (negsuc a) (pos b) x y d e h = ap pos (omega arith)
 above (negsuc a) (negsuc b) x y d e h = sub-is (suc a) (suc b) (y - x) (omega arith)
 
-code-at : (v : ℤ) → mag v < Code.ZERO → Difference v (code v) Code.ZERO
-unfolding code
-code-at (pos n) h = refl
-code-at (negsuc n) h = omega arith
+pub value-above : (x y : ℕ) → x ≤ y → valueOf y -ℤ valueOf x ≡ pos (y - x)
+value-above x y h = above (valueOf x) (valueOf y) x y (value-stands x) (value-stands y) h
 
 pub code-above : (v w : ℤ) → mag v < Code.ZERO → mag w < Code.ZERO → code v ≤ code w → w -ℤ v ≡ pos (code w - code v)
-code-above v w h k l = above v w (code v) (code w) (code-at v h) (code-at w k) l
+code-above v w h k l = rw (valueOf-code v h, valueOf-code w k) at (value-above (code v) (code w) l)
 
 -- TWO'S COMPLEMENT. What is read so is in the range; half of 2^32 on, either way.
 pub signed-fits : (n : ℕ) → mag (signed n) < Code.ZERO

@@ -1,6 +1,6 @@
 -- The loop that notes what the samplers draw from: how far it has come, and one turn of it. Assumes nothing.
 use mathlib.Core.Path.{_≡_, refl, sym, _∙_, ap}
-use mathlib.Core.List.{List, [], _∷_, map}
+use mathlib.Core.List.{List, map}
 use Prim.Native.Nat.{ℕ, _+_, _≤_, _<_}
 use native.Mathlib.Omega.{arith}
 use lib.Dec.{eqb}
@@ -9,7 +9,7 @@ use lib.Seq.{sets}
 use Rattle.semantics.specs.Words.{if_then_else_}
 use Rattle.semantics.specs.Kinds as K
 use Rattle.semantics.specs.Model.{Sampler}
-use Rattle.semantics.specs.Bytes.{Raw, recordsFrom}
+use Rattle.semantics.specs.Bytes.{recordsFrom}
 use Rattle.semantics.specs.Record.{samplerOf}
 use Rattle.semantics.specs.Generator.{valuesIn}
 use Rattle.base_numbers.specs.Limit as Limit

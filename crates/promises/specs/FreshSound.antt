@@ -8,7 +8,8 @@ use lib.ListN.{length, getD, replicate, length-replicate, length-map}
 use Rattle.semantics.specs.Numbers as No
 use Rattle.semantics.specs.Model.{Model, Entity}
 use Rattle.semantics.specs.State.{State, Process, nobody, newcomer, freePlace, wake, begin, beginAll, bare, fresh}
-use Rattle.promises.specs.Laws.{AllOf, all-map, all-mapped, all-get, all-replicate, Ordered, over-set, over-none, once, once-apart}
+use Rattle.promises.specs.Laws.{AllOf, all-map, all-mapped, all-get, all-replicate, Ordered, over-set, over-none}
+use Rattle.promises.specs.Laws.{once, once-apart}
 use Rattle.promises.specs.Fit.{EntityFit, SamplerFit, Fit}
 use Rattle.promises.specs.Sound.{al, waits, slaved, ProcOk, Ranked, Tied, Seed, Sound}
 use Rattle.promises.specs.Keep.{livingIn, some-free}

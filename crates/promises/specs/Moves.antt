@@ -20,7 +20,8 @@ use Rattle.promises.specs.Laws.{ordered-drop, over-append, over-set, ove
 use Rattle.promises.specs.Laws.{only-none, once-self, once-apart, set-away, over-at}
 use Rattle.promises.specs.Fit.{I32, Within}
 use Rattle.promises.specs.Sound.{al, noticed, inEvents, waits, inAll, slaved, bearing, gives, owes, returning, Fine}
-use Rattle.promises.specs.Sound.{ProcOk, ReturnOk, NoticeOk, EventOk, Late, Ranked, Tied, Stands, InOne, AddsUp, SeedsOk, Inv}
+use Rattle.promises.specs.Sound.{ProcOk, ReturnOk, NoticeOk, EventOk, Late, Ranked, Tied, Stands, InOne, AddsUp, SeedsOk}
+use Rattle.promises.specs.Sound.{Inv}
 use Rattle.promises.specs.Keep.{enter-all, enter-ordered, enter-over, join-all, join-ordered, join-waits, away, al-one}
 use Rattle.promises.specs.Keep.{alive-in, free-or-fine, FreeAt}
 
@@ -258,7 +259,8 @@ module _
 module _ {m : Model} {c n : ℕ} {gs : List ℤ} {fr bi sd : List ℕ} {wa : List (List Waiter)} {z z′ y : ℕ → ℕ} where
   -- The first event is taken out, and the clock becomes its time.
   pub first-out :
-      {y′ : ℕ → ℕ} {e : Event} {es : List Event} {ps : List Process} {l : List Waiter} → Inv m c n gs fr bi sd wa (e ∷ es) ps l z y
+      {y′ : ℕ → ℕ} {e : Event} {es : List Event} {ps : List Process} {l : List Waiter}
+      → Inv m c n gs fr bi sd wa (e ∷ es) ps l z y
       → ((k : ℕ) → z′ k ≡ noticed k (e .notice) + z k) → ((i : ℕ) → y′ i ≡ gives i (e .notice) + y i)
       → Inv m (e .time) n gs fr bi sd wa es ps l z′ y′
   first-out {y′} {e} {es} {ps} {l} h zs ys =

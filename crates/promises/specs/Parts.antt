@@ -26,8 +26,8 @@ use Rattle.semantics.specs.Walk.{Next}
 use Rattle.semantics.specs.Step.{isReturn, handed, kept, freed, stay, comesBack, leave, exhausted, act, moves}
 use Rattle.semantics.specs.Sound.{enters, entersAt, namedThere, chained}
 use Rattle.promises.specs.Laws.{and-true, true-and, or-left, or-right, if-has, not-some, Good, good, good-then, good-need}
-use Rattle.promises.specs.Laws.{AllOf, all-map, all-both, all-set, all-get, all-in, all-at, all-replicate, Ordered, some-in, over}
-use Rattle.promises.specs.Laws.{over-keep, over-same, only, once, once-apart, set-away, more-at, less-at}
+use Rattle.promises.specs.Laws.{AllOf, all-map, all-both, all-set, all-get, all-in, all-at, all-replicate, Ordered, some-in}
+use Rattle.promises.specs.Laws.{over, over-keep, over-same, only, once, once-apart, set-away, more-at, less-at}
 use Rattle.promises.specs.Fit.{I32, ExprFit, SharesApart, ActFit, SamplerFit, Fit}
 use Rattle.promises.specs.Sound.{Below, al, slaved, owes, returning, Fine, Seed, SeedsOk}
 use Rattle.promises.specs.Draws.{seed-stays, draw-ranged}

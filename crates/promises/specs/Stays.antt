@@ -18,8 +18,8 @@ use Rattle.semantics.specs.Model.{Expr, Share, Model, Action, HOLD, PRIO, TRACE
 use Rattle.semantics.specs.Model.{TRY, WHILE, START, CLOSE}
 use Rattle.semantics.specs.State.{State, Process, Frame, Waiter, Event, Notice, wakes, returnsR, returnsB, Floor, empty, heldBy}
 use Rattle.semantics.specs.State.{nobody, process, put, freePlace, living, newcomer, at-clock, with-last, with-globals}
-use Rattle.semantics.specs.State.{with-free, with-bins, with-waiting, with-floor, with-events, with-seeds, with-priority, with-locals}
-use Rattle.semantics.specs.State.{with-held, with-slaves, with-frames, wake, join, past, into, begin}
+use Rattle.semantics.specs.State.{with-free, with-bins, with-waiting, with-floor, with-events, with-seeds, with-priority}
+use Rattle.semantics.specs.State.{with-locals, with-held, with-slaves, with-frames, wake, join, past, into, begin}
 use Rattle.semantics.specs.Value.{Valued, eval}
 use Rattle.semantics.specs.Claim.{Offer, offers, standsIn, goes, choice, grant}
 use Rattle.semantics.specs.Walk.{Next, quiet}
@@ -32,8 +32,8 @@ use Rattle.promises.specs.Laws.{all-get, all-hold, empty-is, over, over-
 use Rattle.promises.specs.Fit.{I32, ExprFit, ShareFit, ActFit, Fit}
 use Rattle.promises.specs.Sound.{al, onFloor, noticed, slaved, gives, owes, Fine, NoticeOk, Held, Sound}
 use Rattle.promises.specs.Keep.{livingIn, living-are, some-free}
-use Rattle.promises.specs.Moves.{hand-fine, recount, remove, create, is-entered, frees, bin-is, seeds-are, global-is, first-out}
-use Rattle.promises.specs.Moves.{joins, blocks}
+use Rattle.promises.specs.Moves.{hand-fine, recount, remove, create, is-entered, frees, bin-is, seeds-are, global-is}
+use Rattle.promises.specs.Moves.{first-out, joins, blocks}
 use Rattle.promises.specs.Parts.{ValuedOk, eval-good, priority-ok, fit-at, moves-has, onward-al, chain-into, chain-parts}
 use Rattle.promises.specs.Parts.{chain-again, leave-chain, leave-al, fine-held, fine-slaves, fine-local, fine-priority}
 use Rattle.promises.specs.Parts.{new-fine, zeros-at, handOver, handed-length, handed-at, kept-length, kept-at, freed-stay}
@@ -103,9 +103,8 @@ module _ (m : Model) (t : Fit m) (r : State) (p : ℕ) where
         good-need No.BACK (nonNeg (v .value)) λ h₁.
         good-need No.LATE (leb n No.latest) λ h₂.
         good
-        (wakes-up m (with-seeds (with-floor (put p (past q) s) empty) (v .seeds)) (seeds-are (passes (HOLD x) e) (i .seeds-ok)) n p
-        (omega arith)
-        (leb-true n No.latest h₂) (λ k. omega arith))
+        (wakes-up m (with-seeds (with-floor (put p (past q) s) empty) (v .seeds))
+        (seeds-are (passes (HOLD x) e) (i .seeds-ok)) n p (omega arith) (leb-true n No.latest h₂) (λ k. omega arith))
 
     prio-sound : (x : Expr) → At (PRIO x) → ExprFit m x → Leads m (prio m s p x)
     unfolding prio

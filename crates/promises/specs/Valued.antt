@@ -162,7 +162,9 @@ module _ (n : List ℕ) (g : Gathered) (c : (j : ℕ) → getD n j 0 ≡ getD (c
   pile-fits : (ns : List (List ℕ)) → all (nodeKnown (getD n K.VAR 0) (getD n K.SAMPLER 0)) ns ≡ true → PileFit (pile ns)
   unfolding pile
   pile-fits [] e = tt
-  pile-fits (d ∷ ns) e = let a = and-true (nodeKnown (getD n K.VAR 0) (getD n K.SAMPLER 0) d) _ e in go (pile ns) (a .0) (pile-fits ns (a .1))
+  pile-fits (d ∷ ns) e =
+      let a = and-true (nodeKnown (getD n K.VAR 0) (getD n K.SAMPLER 0) d) _ e in
+      go (pile ns) (a .0) (pile-fits ns (a .1))
     where
       go : (p : Option (List Expr)) → nodeKnown (getD n K.VAR 0) (getD n K.SAMPLER 0) d ≡ true → PileFit p
           → PileFit (elim p [ none ↦ none | some es ↦ onto (nodeOf (u16 d 0) (u32 d 2)) es ])

@@ -17,6 +17,7 @@ use Rattle.promises.specs.Fit.{ItemFit, Apart}
 use Rattle.promises.specs.Sound.{Held}
 use Rattle.promises.specs.Moves.{hand-fine}
 use Rattle.promises.specs.Takes.{still-item, still-met, take-item}
+use Rattle.base_numbers.specs.Row as Row
 use Rattle.file_check_parts.proofs.Laws.{rest-of, parts-cons, parts-none}
 use Rattle.row_work.specs.Work.{workOf, FloorSized, Sized, Doing, Done}
 use Rattle.row_work.specs.Shown.{work-long, free-at, free-set, bins-at, bins-set}
@@ -29,7 +30,7 @@ use Rattle.row_process.specs.Alive.{hand-lives}
 use Rattle.row_grant.specs.declared.Wanted.{Wanted}
 use Rattle.row_grant.specs.Wants.{wantedBy}
 
-pub is-long : {w : List ℕ} {P : State → Type 0} {f : State → State} → Doing w P f → length w ≡ 10_696
+pub is-long : {w : List ℕ} {P : State → Type 0} {f : State → State} → Doing w P f → length w ≡ Row.WORDS
 is-long d = ap length (d .shows) ∙ work-long (d .is) (d .before)
 
 -- A RESOURCE: first there is less of it free, then the process holds more.
@@ -203,12 +204,12 @@ module _ {bs : List ℕ} {at : ℕ} {first : List ℕ} {p : ℕ} (v : Taking bs 
   abbrev pub LeftOf : ℕ → List ℕ → List ℕ → Type 0
   LeftOf n rest w = Left m (v .in-hand) p (takeAll p (v .claim) (v .run .is)) n rest w
 
-  pub first-long : length first ≡ 10_696
+  pub first-long : length first ≡ Row.WORDS
   first-long =
       ap length (v .run .shows)
       ∙ work-long (v .run .is) (still-sized (v .run) (v .run .is) (v .holds) (v .floor-ok))
 
-  pub left-long : {n : ℕ} {rest w : List ℕ} → LeftOf n rest w → length w ≡ 10_696
+  pub left-long : {n : ℕ} {rest w : List ℕ} → LeftOf n rest w → length w ≡ Row.WORDS
   left-long l =
       ap length (l .shows)
       ∙ work-long (l .is) (still-sized (v .run) (l .is) (l .holds) (l .floor-ok))

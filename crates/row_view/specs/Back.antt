@@ -29,7 +29,8 @@ use Rattle.row_work.specs.Laid.{laid-part}
 use Rattle.row_work.specs.Work.{frameWord, stacked, slaveWord, processParts, processWidths, processRow, closedWord, floorWord}
 use Rattle.row_work.specs.Work.{waitersRow, workParts, workWidths, workOf, FrameSized, SlaveSized, ProcessSized, WaiterSized}
 use Rattle.row_work.specs.Work.{WaitersSized, NoticeSized, EventSized, Sized}
-use Rattle.row_work.specs.Shown.{stacked-length, process-wide, process-long, row-length, work-wide}
+use Rattle.row_work.specs.Shown.{stacked-length, process-wide, process-long, row-length, work-wide, work-long}
+use Rattle.row_work.specs.Seeds.{seeds-end, seeds-part}
 use Rattle.row_view.specs.View.{cut, frameOf, slaveOf, waiterOf, noticeOf, eventOf, floorOf, framesOf, eventsOf, waitersOf}
 use Rattle.row_view.specs.View.{waitingOf, seated, processOf, processesOf, viewBy, viewIn}
 
@@ -221,7 +222,8 @@ view-back m s h f =
     let lists-are : row Row.WAITING Row.WAITERS_ALL ≡ pad Row.WAITERS_ALL (collect waitersRow (s .waiting)) =
     part 8 (omega arith) in
     let places-are : row Row.PROCESSES Row.PROCESSES_ALL ≡ collect processRow (s .processes) = part 9 (omega arith) in
-    let seeds-are : row Row.SEEDS Limit.SAMPLERS ≡ pad Limit.SAMPLERS (s .seeds) = part 10 (omega arith) in
+    let seeds-are : row Row.SEEDS Limit.SAMPLERS ≡ pad Limit.SAMPLERS (s .seeds) =
+    seeds-end (workOf s) (work-long s h) ∙ seeds-part s h in
     let a =
     ap (λ x. map valueOf (take (length (m .vars)) x)) globals-are
     ∙ row-back code valueOf I32 valueOf-code Limit.THINGS (length (m .vars)) (s .globals) (h .globals-ok) (sym (f .vars-many)) in

@@ -22,6 +22,7 @@ use Rattle.file_index.specs.Index.{Judged, given}
 use Rattle.file_index.proofs.Gathered.{gather-more}
 use Rattle.file_index.proofs.Records.{Fine, step-there, judged-there}
 use Rattle.run_fresh.specs.Fresh.{amountIn}
+use Rattle.run_fresh.proofs.Partly.{seedsIn}
 
 abbrev pub entityIn : List ℕ → Entity
 entityIn bs = record { class = u16 bs 0; offset = u32 bs 2 }
@@ -34,6 +35,7 @@ pub record Adds (k : ℕ) (bs : List ℕ) (g h : Gathered) : Type 0 where
   pub totals-are : h .model .totals ≡ given (eqb k K.RES) (amountIn k bs) ++ g .model .totals
   pub amounts-are : h .model .amounts ≡ given (eqb k K.BIN) (amountIn k bs) ++ g .model .amounts
   pub vars-are : map code (h .model .vars) ≡ given (eqb k K.VAR) (amountIn k bs) ++ map code (g .model .vars)
+  pub seeds-are : seedsIn (h .model) ≡ given (eqb k K.SAMPLER) (amountIn k bs) ++ seedsIn (g .model)
   pub entities-are : h .model .entities ≡ entities (eqb k K.ENTITY) (entityIn bs) (g .model .entities)
 
 abbrev RowAdds : List ℕ → Gathered → Row → Type 0
@@ -43,7 +45,7 @@ rows-add : (bs : List ℕ) (g : Gathered) → AllOf (RowAdds bs g) table
 rows-add bs g =
     (search) & (search) & (search) & (search) & (search) & (search) & (search) & (search) & (search) & (search) & (search)
     & (search) & (search) & (search) & (search) & (search) & (search) & (search) & (search) & (search) & (search) & (search)
-    & tt
+    & (search) & tt
 
 record-adds : (at k : ℕ) (bs : List ℕ) (rs : List Raw) → Judged k bs
     → Adds k bs (gather rs) (gather (raw at k bs ∷ rs))

@@ -1,8 +1,8 @@
--- The work while a model's resources, bins and variables are declared one by one. Assumes nothing.
+-- The work while a model's resources, bins, variables and samplers are declared one by one. Assumes nothing.
 use Prim.Native.Nat.{ℕ, zero, suc, _+_, _-_, _*_, _≤_}
 use native.Mathlib.Omega.{arith}
 use mathlib.Core.Path.{_≡_, refl, sym, subst, _∙_, ap}
-use mathlib.Core.List.{List, [], _∷_, _++_, map, append-assoc, append-nil}
+use mathlib.Core.List.{List, [], _∷_, _++_, map, append-assoc}
 use mathlib.Core.Bool.{Bool, true, false}
 use lib.ListN.{length, getD, set, take, drop, replicate, length-append, length-take, length-drop, length-replicate}
 use lib.ListN.{length-map, replicate-append-replicate}
@@ -10,9 +10,10 @@ use lib.Seq.{sets, take-all, drop-length, drop-drop, drop-append-seam}
 use Rattle.semantics.specs.Words.{collect, sum}
 use Rattle.semantics.specs.Numbers as No
 use Rattle.semantics.specs.Model.{Model}
-use Rattle.semantics.specs.State.{State, Waiter, nobody, with-globals, with-free, with-bins, bare}
-use Rattle.promises.specs.Laws.{AllOf, all-map, all-append, all-replicate}
-use Rattle.promises.specs.Fit.{I32, Fit}
+use Rattle.semantics.specs.State.{State, Waiter, nobody, with-globals, with-free, with-bins, with-seeds, bare}
+use Rattle.promises.specs.Laws.{AllOf, all-map, all-mapped, all-append, all-replicate}
+use Rattle.promises.specs.Fit.{I32, SamplerFit, Fit}
+use Rattle.promises.specs.Sound.{Seed}
 use Rattle.base_numbers.specs.Row as Row
 use Rattle.base_numbers.specs.Limit as Limit
 use Rattle.base_i32.specs.Code.{code}
@@ -25,10 +26,16 @@ use Rattle.file_index.specs.Index.{given}
 use Rattle.run_fresh.specs.Fresh.{vacantWork}
 use Rattle.row_begin_end.proofs.Rows.{zeros-padded}
 
--- The first resources, bins and variables of m.
-abbrev pub partly : Model → ℕ → ℕ → ℕ → State
-partly m i j k =
-    with-free (with-bins (with-globals (bare m) (take k (m .vars))) (take j (m .amounts))) (take i (m .totals))
+-- The seeds that the samplers of m start with.
+abbrev pub seedsIn : Model → List ℕ
+seedsIn m = map (λ x. x .seed) (m .samplers)
+
+-- The first resources, bins, variables and samplers of m.
+abbrev pub partly : Model → ℕ → ℕ → ℕ → ℕ → State
+partly m i j k l =
+    with-free
+    (with-bins (with-globals (with-seeds (bare m) (take l (seedsIn m))) (take k (m .vars))) (take j (m .amounts)))
+    (take i (m .totals))
 
 -- i of xs are through, and `left` are still to come.
 pub record Left (xs : List ℕ) (i : ℕ) (left : List ℕ) : Type 0 where
@@ -107,22 +114,26 @@ module _ (n : ℕ) (few : n ≤ Limit.THINGS) where
       let b : length (empties n) ≡ n = length-replicate n [] in
       zeros-padded Row.WAITERS_ALL (collect waitersRow (empties n)) (no-waiters n) (omega arith)
 
--- ROWS OF ZEROS, and a last one.
+-- ROWS OF ZEROS, and others behind them.
 abbrev zeroRows : List ℕ → List (List ℕ)
 zeroRows ns = map (λ n. replicate n 0) ns
 
-zeros-laid : (ns r : List ℕ) → laid (zeroRows ns ++ (r ∷ [])) ≡ replicate (sum ns) 0 ++ r
+zeros-laid : (ns : List ℕ) (rs : List (List ℕ)) → laid (zeroRows ns ++ rs) ≡ replicate (sum ns) 0 ++ laid rs
 unfolding laid
-zeros-laid [] r = append-nil r
-zeros-laid (n ∷ ns) r =
-    ap (λ l. replicate n 0 ++ l) (zeros-laid ns r)
-    ∙ sym (append-assoc (replicate n 0) (replicate (sum ns) 0) r)
-    ∙ ap (λ l. l ++ r) (replicate-append-replicate n (sum ns) 0)
+zeros-laid [] rs = refl
+zeros-laid (n ∷ ns) rs =
+    ap (λ l. replicate n 0 ++ l) (zeros-laid ns rs)
+    ∙ sym (append-assoc (replicate n 0) (replicate (sum ns) 0) (laid rs))
+    ∙ ap (λ l. l ++ laid rs) (replicate-append-replicate n (sum ns) 0)
 
 -- WHAT IS DECLARED of a model that fits, can be shown.
 module _ (m : Model) (f : Fit m) where
-  pub partly-sized : (i j k : ℕ) → Sized (partly m i j k)
-  partly-sized i j k =
+  pub few-seeds : length (seedsIn m) ≤ Limit.SAMPLERS
+  few-seeds = let a : length (seedsIn m) ≡ length (m .samplers) = length-map (m .samplers) (λ x. x .seed) in
+      omega (arith, f .few-samplers)
+
+  pub partly-sized : (i j k l : ℕ) → Sized (partly m i j k l)
+  partly-sized i j k l =
       record {
         clock-low = omega arith;
         last-low = omega arith;
@@ -142,27 +153,34 @@ module _ (m : Model) (f : Fit m) where
         events-ok = tt;
         places-64 = length-replicate No.places nobody;
         processes-ok = all-replicate ProcessSized No.places nobody (omega arith);
+        seeds-few = take-few Limit.SAMPLERS l (seedsIn m) few-seeds;
+        seeds-ok =
+            all-take Seed l (seedsIn m)
+            (all-mapped SamplerFit Seed (λ x. x .seed) (λ x h. h .seed-fits) (m .samplers) (f .samplers-fit));
       }
 
-  pub nothing-yet : vacantWork ≡ workOf (partly m 0 0 0)
-  unfolding vacantWork workOf livingOf
+  pub nothing-yet : vacantWork ≡ workOf (partly m 0 0 0 0)
+  unfolding vacantWork workOf livingOf laid
   nothing-yet =
-      let rows : List (List ℕ) = workParts (partly m 0 0 0) in
+      let rows : List (List ℕ) = workParts (partly m 0 0 0 0) in
+      let places : List ℕ = collect processRow (replicate No.places nobody) in
       sym
       (ap (λ l. laid (set rows 4 l)) (counts-none (m .syncs) (f .few-syncs))
       ∙ ap (λ l. laid (set (set rows 4 (replicate Limit.THINGS 0)) 8 l)) (waiting-none (m .syncs) (f .few-syncs))
       ∙ zeros-laid (Row.FREE ∷ Limit.THINGS ∷ Limit.THINGS ∷ Limit.THINGS ∷ Limit.THINGS ∷ Row.WAITERS_MOST
-      ∷ Row.EVENTS_MOST ∷ Row.EVENTS_MOST ∷ Row.WAITERS_ALL ∷ []) (collect processRow (replicate No.places nobody)))
+      ∷ Row.EVENTS_MOST ∷ Row.EVENTS_MOST ∷ Row.WAITERS_ALL ∷ []) (places ∷ replicate Limit.SAMPLERS 0 ∷ []))
 
   -- All of them: those that are still to come are none.
-  pub all-declared : (i j k : ℕ) → Left (m .totals) i [] → Left (m .amounts) j [] → Left (map code (m .vars)) k []
-      → partly m i j k ≡ bare m
-  all-declared i j k a b c =
+  pub all-declared : (i j k l : ℕ) → Left (m .totals) i [] → Left (m .amounts) j [] → Left (map code (m .vars)) k []
+      → Left (seedsIn m) l []
+      → partly m i j k l ≡ bare m
+  all-declared i j k l a b c d =
       let n : length (map code (m .vars)) ≡ length (m .vars) = length-map (m .vars) code in
       let x = take-all i (m .totals) (none-left (m .totals) i a) in
       let y = take-all j (m .amounts) (none-left (m .amounts) j b) in
       let z = take-all k (m .vars) (omega (arith, none-left (map code (m .vars)) k c)) in
-      rw (x, y, z)
+      let u = take-all l (seedsIn m) (none-left (seedsIn m) l d) in
+      rw (x, y, z, u)
     where
       none-left : (xs : List ℕ) (n : ℕ) → Left xs n [] → length xs ≤ n
       none-left xs n l = omega (arith, ap length (l .left-is), length-drop n xs)
@@ -170,17 +188,17 @@ module _ (m : Model) (f : Fit m) where
   pub bare-sized : Sized (bare m)
   bare-sized =
       subst Sized
-      (all-declared (length (m .totals)) (length (m .amounts)) (length (map code (m .vars))) (through (m .totals))
-      (through (m .amounts)) (through (map code (m .vars))))
-      (partly-sized (length (m .totals)) (length (m .amounts)) (length (map code (m .vars))))
+      (all-declared (length (m .totals)) (length (m .amounts)) (length (map code (m .vars))) (length (seedsIn m))
+      (through (m .totals)) (through (m .amounts)) (through (map code (m .vars))) (through (seedsIn m)))
+      (partly-sized (length (m .totals)) (length (m .amounts)) (length (map code (m .vars))) (length (seedsIn m)))
     where
       through : (xs : List ℕ) → Left xs (length xs) []
       through xs = record { few = omega arith; left-is = drop-length xs }
 
--- ONE MORE is noted in row n of the work, which shows the first i of xs: the state is t i.
-module _ (n : ℕ) (xs : List ℕ) (t : ℕ → State) (few : length xs ≤ Limit.THINGS) (wide : getD workWidths n 0 ≡ Limit.THINGS)
-    (shown : (i : ℕ) → Sized (t i)) (row : (i : ℕ) → getD (workParts (t i)) n [] ≡ pad Limit.THINGS (take i xs))
-    (next : (i k : ℕ) → laid (set (workParts (t i)) n (pad Limit.THINGS (take k xs))) ≡ workOf (t k)) where
+-- ONE MORE is noted in row n of the work, which has a width and shows the first i of xs: the state is t i.
+module _ (n width : ℕ) (xs : List ℕ) (t : ℕ → State) (few : length xs ≤ width) (wide : getD workWidths n 0 ≡ width)
+    (shown : (i : ℕ) → Sized (t i)) (row : (i : ℕ) → getD (workParts (t i)) n [] ≡ pad width (take i xs))
+    (next : (i k : ℕ) → laid (set (workParts (t i)) n (pad width (take k xs))) ≡ workOf (t k)) where
   row-noted : (i : ℕ) (b : Bool) (v : ℕ) (r : List ℕ) → Left xs i (given b v ++ r)
       → sets (workOf (t i)) (sum (take n workWidths) + i) (given b v) ≡ workOf (t (i + length (given b v)))
   unfolding workOf
@@ -189,30 +207,38 @@ module _ (n : ℕ) (xs : List ℕ) (t : ℕ → State) (few : length xs ≤ Limi
       let a = left-room xs i (v ∷ []) r l in
       laid-set (workParts (t i)) workWidths (work-wide (t i) (shown i)) n i v (omega arith)
       ∙ ap (λ x. laid (set (workParts (t i)) n (set x i v))) (row i)
-      ∙ ap (λ x. laid (set (workParts (t i)) n x)) (pad-more Limit.THINGS xs i v r few (l .left-is))
+      ∙ ap (λ x. laid (set (workParts (t i)) n x)) (pad-more width xs i v r few (l .left-is))
       ∙ next i (i + 1)
 
-module _ (m : Model) (f : Fit m) (i j k : ℕ) (b : Bool) (v : ℕ) (r : List ℕ) where
+module _ (m : Model) (f : Fit m) (i j k l : ℕ) (b : Bool) (v : ℕ) (r : List ℕ) where
   pub free-noted : Left (m .totals) i (given b v ++ r)
-      → sets (workOf (partly m i j k)) (Row.FREE + i) (given b v) ≡ workOf (partly m (i + length (given b v)) j k)
+      → sets (workOf (partly m i j k l)) (Row.FREE + i) (given b v) ≡ workOf (partly m (i + length (given b v)) j k l)
   unfolding workOf
   free-noted =
-      row-noted 1 (m .totals) (λ x. partly m x j k) (f .few-totals) refl (λ x. partly-sized m f x j k)
+      row-noted 1 Limit.THINGS (m .totals) (λ x. partly m x j k l) (f .few-totals) refl (λ x. partly-sized m f x j k l)
       (λ x. refl) (λ x y. refl) i b v r
 
   pub bins-noted : Left (m .amounts) j (given b v ++ r)
-      → sets (workOf (partly m i j k)) (Row.BINS + j) (given b v) ≡ workOf (partly m i (j + length (given b v)) k)
+      → sets (workOf (partly m i j k l)) (Row.BINS + j) (given b v) ≡ workOf (partly m i (j + length (given b v)) k l)
   unfolding workOf
   bins-noted =
-      row-noted 2 (m .amounts) (λ x. partly m i x k) (f .few-amounts) refl (λ x. partly-sized m f i x k)
+      row-noted 2 Limit.THINGS (m .amounts) (λ x. partly m i x k l) (f .few-amounts) refl (λ x. partly-sized m f i x k l)
       (λ x. refl) (λ x y. refl) j b v r
 
   pub vars-noted : Left (map code (m .vars)) k (given b v ++ r)
-      → sets (workOf (partly m i j k)) (Row.GLOBALS + k) (given b v) ≡ workOf (partly m i j (k + length (given b v)))
+      → sets (workOf (partly m i j k l)) (Row.GLOBALS + k) (given b v) ≡ workOf (partly m i j (k + length (given b v)) l)
   unfolding workOf
   vars-noted =
       let a : length (map code (m .vars)) ≡ length (m .vars) = length-map (m .vars) code in
       let c = f .few-vars in
-      row-noted 3 (map code (m .vars)) (λ x. partly m i j x) (omega arith) refl (λ x. partly-sized m f i j x)
-      (λ x. ap (pad Limit.THINGS) (take-map code x (m .vars)))
-      (λ x y. ap (λ l. laid (set (workParts (partly m i j x)) 3 (pad Limit.THINGS l))) (sym (take-map code y (m .vars)))) k b v r
+      row-noted 3 Limit.THINGS (map code (m .vars)) (λ x. partly m i j x l) (omega arith) refl
+      (λ x. partly-sized m f i j x l) (λ x. ap (pad Limit.THINGS) (take-map code x (m .vars)))
+      (λ x y. ap (λ z. laid (set (workParts (partly m i j x l)) 3 (pad Limit.THINGS z))) (sym (take-map code y (m .vars))))
+      k b v r
+
+  pub seeds-noted : Left (seedsIn m) l (given b v ++ r)
+      → sets (workOf (partly m i j k l)) (Row.SEEDS + l) (given b v) ≡ workOf (partly m i j k (l + length (given b v)))
+  unfolding workOf
+  seeds-noted =
+      row-noted 10 Limit.SAMPLERS (seedsIn m) (λ x. partly m i j k x) (few-seeds m f) refl (λ x. partly-sized m f i j k x)
+      (λ x. refl) (λ x y. refl) l b v r

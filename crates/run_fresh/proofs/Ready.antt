@@ -123,6 +123,8 @@ module _ (s : State) (h : Sized s) (b t : ℕ) (r : Roomy s) where
         processes-ok =
             all-set ProcessSized (s .processes) (freePlace s) new (h .processes-ok)
             (new-sized (s .last + 1) b (s .free) (omega arith) low (h .free-few));
+        seeds-few = h .seeds-few;
+        seeds-ok = h .seeds-ok;
       }
 
 -- ONE MORE BEGINS: there is room for it, it is that of the definition, and those behind it are still to begin.

@@ -31,11 +31,15 @@ pub record Loaded (bs map w : List ℕ) : Type 0 where
 -- FIRST all places are free.
 unfoldable pub vacantWork : List ℕ
 unfolding processRow
-vacantWork = replicate Row.PROCESSES 0 ++ collect processRow (replicate No.places nobody)
+vacantWork = replicate Row.PROCESSES 0 ++ (collect processRow (replicate No.places nobody) ++ replicate Limit.SAMPLERS 0)
 
--- THEN what is declared is written: the amount of a RES or a BIN, the code of a VAR's value.
+-- THEN what is declared is written: the amount of a RES or a BIN, the code of a VAR's value, the seed that a SAMPLER starts with.
 abbrev pub amountIn : ℕ → List ℕ → ℕ
-amountIn k bs = if eqb k K.VAR then code (i32 bs 0) else if eqb k K.RES || eqb k K.BIN then u32 bs 0 else 0
+amountIn k bs =
+    if eqb k K.VAR then code (i32 bs 0)
+    else if eqb k K.RES || eqb k K.BIN then u32 bs 0
+    else if eqb k K.SAMPLER then u32 bs 8
+    else 0
 
 pub record Declaring (bs w : List ℕ) : Type 0 where
   pub model : Model

@@ -82,14 +82,14 @@ module _ {bs : List ℕ} (p : Passing bs) where
 
   -- What it declares, k, and a row.
   module _ (k : Counts) (c : k ≡ countsIn (gather (recordsFrom 0 bs) .model)) where
-    abbrev pub counted : Counted m (k .resources) (k .bins) (k .syncs) (k .variables)
+    abbrev pub counted : Counted m (k .resources) (k .bins) (k .syncs) (k .variables) (k .samplers)
     counted = counted-by bs m (p .passes) (counts-accepted bs m (p .passes) c)
 
-    pub few : Few (k .resources) (k .bins) (k .syncs) (k .variables)
+    pub few : Few (k .resources) (k .bins) (k .syncs) (k .variables) (k .samplers)
     few = few-by bs m (p .passes) (counts-accepted bs m (p .passes) c)
 
     module _ (w : List ℕ) (b : Bool)
-        (s : (m : Model) → Counted m (k .resources) (k .bins) (k .syncs) (k .variables)
+        (s : (m : Model) → Counted m (k .resources) (k .bins) (k .syncs) (k .variables) (k .samplers)
         → (b ≡ true → Showing m w) × (b ≡ false → Showing m w → ⊥)) where
       pub shows-nothing : b ≡ false → false ≡ soundRow bs w
       shows-nothing z = sym (shows-none bs m (p .passes) (p .bytes-are) w (s m counted .1 z))

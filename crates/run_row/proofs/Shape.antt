@@ -99,6 +99,9 @@ shown-shaped m w f h =
       syncs-many =
           waiting-long (take (m .syncs) (cut Row.WAITS Limit.THINGS w)) (cut Row.WAITING Row.WAITERS_ALL w)
           ∙ part Row.WAITS (m .syncs) (omega arith) (f .few-syncs);
+      seeds-many =
+          length-take-le (length (m .samplers)) (cut Row.SEEDS Limit.SAMPLERS w)
+          (omega (arith, f .few-samplers, cut-long Row.SEEDS Limit.SAMPLERS w (omega arith)));
       furnished =
           all-furnished m (f .few-totals) No.places (cut Row.PROCESSES Row.PROCESSES_ALL w)
           (cut-long Row.PROCESSES Row.PROCESSES_ALL w (omega arith));

@@ -34,8 +34,8 @@ free-part : (s : State) → Sized s → cut Row.FREE Limit.THINGS (workOf s) ≡
 unfolding workOf
 free-part s h = laid-part (workParts s) workWidths (work-wide s h) 1 (omega arith)
 
-pub fresh-things : {m : Model} {resources bins syncs variables : ℕ} → Fit m → Nested m → Rounds m
-    → Counted m resources bins syncs variables → (x : List ℕ) → x ≡ workOf (fresh m)
+pub fresh-things : {m : Model} {resources bins syncs variables samplers : ℕ} → Fit m → Nested m → Rounds m
+    → Counted m resources bins syncs variables samplers → (x : List ℕ) → x ≡ workOf (fresh m)
     → Things m (cut Row.FREE Limit.THINGS x) resources bins syncs
 fresh-things {m} {resources} f n r c x e =
     let h : Sized (fresh m) = sound-sized m f n r (fresh m) (fresh-sound m f) in

@@ -22,7 +22,7 @@ pub record Opened : Type 0 where
 abbrev pub openedAs : ℕ → ℕ → List ℕ → Opened
 openedAs n p w = record { number = n; place = p; row = w }
 
--- A fresh run, in a row of 10,696 words. A row of any other length has no run in it, and is left as it was.
+-- A fresh run, in a row of Row.WORDS. A row of any other length has no run in it, and is left as it was.
 abbrev pub opensAs : List ℕ → Checked Model → Opened
 opensAs w (refused n p) = openedAs n p w
 opensAs w (accepted m) = if eqb (length w) Row.WORDS then openedAs 0 0 (workOf (fresh m)) else openedAs No.STATE 0 w

@@ -17,8 +17,8 @@ use Rattle.semantics.specs.Model.{REQ, TRY, WHILE, START, CLOSE, kindOf}
 use Rattle.semantics.specs.State.{State, Process, Frame, Slave, Waiter, Event, empty, heldBy, Notice, wakes, returnsR}
 use Rattle.semantics.specs.State.{returnsB, nobody, process, put, at-clock, now-closed, with-globals, with-free}
 use Rattle.semantics.specs.State.{with-bins, with-waiting, with-floor, with-events, with-blocked, with-seeds}
-use Rattle.semantics.specs.State.{with-priority, with-locals, with-held, with-slaves, with-frames, enter, wake, join, onward}
-use Rattle.semantics.specs.State.{past, into, begin, living}
+use Rattle.semantics.specs.State.{with-priority, with-locals, with-held, with-slaves, with-frames, enter, wake, join}
+use Rattle.semantics.specs.State.{onward, past, into, begin, living}
 use Rattle.semantics.specs.Value.{Valued, eval}
 use Rattle.semantics.specs.Claim.{offers, standsIn, waits, goes, choice, grant}
 use Rattle.semantics.specs.Walk.{Next, line, quiet, after, walk}

@@ -5,11 +5,11 @@ use Rattle.act_value.proofs.evaluate.Statement.{statement}
 use Rattle.act_value.proofs.evaluate.Tie as tie
 
 tree-at-requires : tie.Need-tree-at-requires
-tree-at-requires c κs = (c .before .before .before .pre, begins (c .before .before .before .pre))
+tree-at-requires c κs = let w = c .before .before .before .before .before .before .pre in (w, begins (w .to-read))
 
 returns : tie.Need-returns
 unfolding expressionIn
-returns c = λ w. c .before .tree-at .ensures w .has
+returns c = let r = c .before .tree-at .ensures in ((λ w. r w .has), (λ w. r w .drew))
 
 pub evaluate-spec : {M : Type 1} → statement M
 evaluate-spec = tie.close (tie.spec tree-at-requires returns)

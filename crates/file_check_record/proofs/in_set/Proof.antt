@@ -3,7 +3,7 @@ use mathlib.Core.Path.{_≡_, sym, _∙_}
 use native.Mathlib.Omega.{arith}
 use Rattle.file_check_record.proofs.Rules.{in-set-is, in-sampler-set}
 use Rattle.file_check_record.proofs.Table.{field-in}
-use Rattle.file_check_record.specs.Rows.{columnOf, SAMPLER_BYTES, fieldSize, fieldAt}
+use Rattle.file_check_record.specs.Rows.{columnOf, fieldSize, fieldAt}
 use Rattle.semantics.specs.Record.{rowOf}
 use borrow.Author.Needs.{needs}
 use Rattle.file_check_record.proofs.in_set.Statement.{statement}

@@ -67,7 +67,8 @@ values-of-requires c κs = let u = c .before .before .before .before .before in
     judged-there _ _ (u .before .before .loop-test .taken) (l .loop .inv .fine) (u .before .read .ensures) (u .next .ensures)
 
 slice-aggregate-noted-u32-2 : tie.Need-slice-aggregate-noted-u32-2 Inv-loop μ-loop
-slice-aggregate-noted-u32-2 c = values-long (c .before .before .before .before .before .before .before .before .before .before .loop .inv)
+slice-aggregate-noted-u32-2 c =
+    values-long (c .before .before .before .before .before .before .before .before .before .before .loop .inv)
 
 noted-u32-requires-2 : tie.Need-noted-u32-requires-2 Inv-loop μ-loop
 noted-u32-requires-2 c κs = let u = c .before .before .before .before .before .before .before in

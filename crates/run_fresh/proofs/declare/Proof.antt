@@ -10,15 +10,16 @@ use Rattle.semantics.specs.Kinds as K
 use Rattle.file_index.proofs.Records.{step-there, judged-there}
 use Rattle.run_fresh.specs.Fresh.{Declaring}
 use Rattle.run_fresh.proofs.Declaring.{Declared, declare-starts, declared-long, free-room, bins-room, vars-room}
-use Rattle.run_fresh.proofs.Declaring.{declare-turn, declare-ends}
+use Rattle.run_fresh.proofs.Declaring.{seeds-room, declare-turn, declare-ends}
 use Rattle.run_fresh.proofs.declare.Statement.{statement}
 use Rattle.run_fresh.proofs.declare.Tie as tie
 
 abbrev Inv-loop : tie.InvT-loop
-Inv-loop s w₀ free₀ bins₀ vars₀ at₀ w free bins vars at = (d : Declaring s w₀) → Declared (d .model) s w free bins vars at
+Inv-loop s w₀ free₀ bins₀ vars₀ seeds₀ at₀ w free bins vars seeds at =
+    (d : Declaring s w₀) → Declared (d .model) s w free bins vars seeds at
 
 abbrev μ-loop : tie.MeasureT-loop
-μ-loop s w₀ free₀ bins₀ vars₀ at₀ w free bins vars at = length s - at
+μ-loop s w₀ free₀ bins₀ vars₀ seeds₀ at₀ w free bins vars seeds at = length s - at
 
 first-requires : tie.Need-first-requires Inv-loop μ-loop
 first-requires c κs = search needs
@@ -83,10 +84,21 @@ noted-requires-3 c κs = let x = c .before .before .before .before .before .befo
     vars-room d (i .before .loop .inv d) (x .noted .ensures) (c .before .before .before .noted2 .ensures) (eqb k K.VAR)
     (a .result)
 
+noted-requires-4 : tie.Need-noted-requires-4 Inv-loop μ-loop
+noted-requires-4 c κs = let z = c .before .before .before in
+    let y = z .before .before .before .before in
+    let x = y .before .before .before .before in
+    let u = x .before .before .before .before in
+    let i = u .before .before in
+    let d = i .before .before .before .before .before .pre in
+    seeds-room d (i .before .loop .inv d) (i .loop-test .taken) (u .before .read .ensures) (u .next .ensures)
+    (x .before .before .amount .ensures) (x .noted .ensures) (y .noted2 .ensures) (z .noted3 .ensures)
+
 loop-less : tie.Need-loop-less Inv-loop μ-loop
 loop-less c =
-    let u = c .before .before .before .before .before .before .before .before .before .before .before .before .before
+    let x = c .before .before .before .before .before .before .before .before .before .before .before .before .before
     .before in
+    let u = x .before .before .before .before in
     let i = u .before .before in
     let d = i .before .before .before .before .before .pre in
     let m = step-there _ _ (i .loop-test .taken) (i .before .loop .inv d .fine) (u .before .read .ensures) (u .next
@@ -94,13 +106,14 @@ loop-less c =
     omega arith
 
 loop-again : tie.Need-loop-again Inv-loop μ-loop
-loop-again c = λ d. let y = c .before .before .before .before .before .before in
+loop-again c = λ d. let z = c .before .before .before .before .before .before in
+    let y = z .before .before .before .before in
     let x = y .before .before .before .before in
     let u = x .before .before .before .before in
     let i = u .before .before in
-    let a = x .before .before .amount in
     declare-turn d (i .before .loop .inv d) (i .loop-test .taken) (u .before .read .ensures) (u .next .ensures)
-    (a .ensures) (x .noted .ensures) (y .noted2 .ensures) (c .before .before .noted3 .ensures)
+    (x .before .before .amount .ensures) (x .noted .ensures) (y .noted2 .ensures) (z .noted3 .ensures)
+    (c .before .before .noted4 .ensures)
 
 same-length : tie.Need-same-length Inv-loop μ-loop
 same-length c = let o = c .before .before .before .before .before in
@@ -127,6 +140,7 @@ declare-spec =
     noted-requires
     noted-requires-2
     noted-requires-3
+    noted-requires-4
     loop-less
     loop-again
     same-length
