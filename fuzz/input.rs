@@ -10,6 +10,7 @@ pub const VAR: u16 = 4;
 pub const CLASS: u16 = 5;
 pub const BLOCK: u16 = 6;
 pub const ENTITY: u16 = 7;
+pub const SAMPLER: u16 = 8;
 pub const HOLD: u16 = 16;
 pub const PRIO: u16 = 17;
 pub const SET: u16 = 18;

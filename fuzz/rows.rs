@@ -5,7 +5,7 @@ use crate::chance::Chance;
 use crate::head::{Change, MOST_CHANGES};
 use crate::input::Input;
 use crate::second::left;
-use handed::row::{row_of, state_of, PARTS, WORDS};
+use handed::row::{row_of, state_of, PARTS, PROCESSES, SEEDS, WORDS};
 use handed::sound::is_sound;
 use reference::model::{Action, Model};
 use reference::run::{Entered, Event, Process, Returned, Standing, State, PLACES};
@@ -19,6 +19,7 @@ const UNITS: [u64; 8] = [1, 1, 4, 64, 256, 1 << 16, 1 << 28, 1 << 32];
 const LATEST: u32 = 2_000_000_000;
 const LAST_NUMBER: u32 = 2_147_483_647;
 const FULL_BIN: u32 = 1_000_000_000;
+const LAST_SEED: u32 = 2_147_483_646;
 const OF_RETURNS: i32 = -15_000;
 
 /// The model, and the row that is handed in as the input says until now.
@@ -75,7 +76,7 @@ fn some_own_word(row: &[u64], chance: &mut Chance) -> usize {
         .collect();
     let place = living.get(chance.below(living.len())).unwrap_or(&0);
     let own = OWN_PARTS[chance.below(OWN_PARTS.len())];
-    PARTS[0].0 + OWN_WORDS * place + own + chance.below(2)
+    PROCESSES + OWN_WORDS * place + own + chance.below(2)
 }
 
 /// One word of some part becomes another, often one that was changed before; at times all words do.
@@ -147,6 +148,18 @@ fn fill(_: &Model, state: &mut State, chance: &mut Chance) -> Option<()> {
             .for_each(|bin| *bin = FULL_BIN + 1 - less),
         _ => state.closed = !state.closed,
     }
+    Some(())
+}
+
+/// Another seed of a sampler, at its edge or past it; at times a seed where no sampler is.
+fn reseed(_: &Model, state: &mut State, chance: &mut Chance) -> Option<()> {
+    let many = state.seeds.len();
+    if chance.one_in(8) && SEEDS + many < WORDS {
+        state.seeds.push(1);
+        return Some(());
+    }
+    let seed = state.seeds.get_mut(chance.below(many))?;
+    *seed = [0, 1, 2, LAST_SEED - 1, LAST_SEED, LAST_SEED + 1][chance.below(6)];
     Some(())
 }
 
@@ -388,9 +401,10 @@ fn double_or_drop(_: &Model, state: &mut State, chance: &mut Chance) -> Option<(
 
 type Turn = fn(&Model, &mut State, &mut Chance) -> Option<()>;
 
-const TURNS: [Turn; 10] = [
+const TURNS: [Turn; 11] = [
     lift_times,
     fill,
+    reseed,
     give_to_bin,
     hand_over,
     stand,

@@ -23,10 +23,12 @@ import steps     # noqa: E402
 MOST = 4096
 TOO_LONG = 65536
 CALLS = 2
-WORDS = 10696
+WORDS = 10712
+SEEDS = 10696
 # Rows handed in that no call left so, each as its length (0: as it should be) and its changes, a word's place and the word.
 CHANGED = [(0, [(0, 2 * 10 ** 9)]), (0, [(0, 2 * 10 ** 9 + 1)]), (0, [(1, 1)]), (0, [(2, 2 ** 31 - 1)]), (0, [(3, 1)]),
-           (0, [(7, 1)]), (0, [(WORDS, 0)]), (0, [(WORDS, 2 ** 64 - 1)]), (1, []), (WORDS, []), (WORDS + 2, [])]
+           (0, [(7, 1)]), (0, [(SEEDS, 0)]), (0, [(SEEDS, 1)]), (0, [(SEEDS, 2 ** 31 - 1)]), (0, [(WORDS - 1, 1)]),
+           (0, [(WORDS, 0)]), (0, [(WORDS, 2 ** 64 - 1)]), (1, []), (WORDS, []), (WORDS + 2, [])]
 
 
 def models():

@@ -4,6 +4,8 @@ use crate::chance::Chance;
 use crate::head::{Head, CALLS};
 use crate::input::*;
 
+const LAST_SEED: i64 = 2_147_483_646;
+
 /// An amount, mostly a small one that is right.
 fn amount(chance: &mut Chance) -> Vec<u8> {
     let wild = chance.one_in(16);
@@ -52,21 +54,43 @@ fn start(input: &Input, chance: &mut Chance) -> Vec<u8> {
 
 /// An expression of at most `nodes` nodes.
 fn expression(input: &Input, chance: &mut Chance, nodes: usize) -> Vec<u8> {
+    let leaves: &[usize] = match input.count(SAMPLER) {
+        0 => &[0, 0, 1, 2, 8],
+        _ => &[0, 0, 1, 2, 8, 10, 10],
+    };
     let op = match (nodes, chance.below(2)) {
-        (..3, _) | (_, 0) => [0, 0, 1, 2, 8][chance.below(5)],
+        (..3, _) | (_, 0) => leaves[chance.below(leaves.len())],
         _ => [3, 4, 5, 6, 7, 9][chance.below(6)],
     };
     let operand = match op {
         0 => i32_bytes(chance.number()),
         1 => [input.name(chance, VAR), u16_bytes(0)].concat(),
         2 => i32_bytes(chance.below(8) as i64),
+        10 => [input.name(chance, SAMPLER), u16_bytes(0)].concat(),
         _ => i32_bytes(0),
     };
     let mut bytes = [u16_bytes(op), operand].concat();
-    for _ in 0..[0, 0, 0, 2, 2, 2, 2, 2, 0, 1][op] {
+    for _ in 0..[0, 0, 0, 2, 2, 2, 2, 2, 0, 1, 0][op] {
         bytes.extend(expression(input, chance, (nodes - 1) / 2));
     }
     bytes
+}
+
+/// Lowest, highest and seed; at times one of them is at its edge or past it.
+fn sampler(chance: &mut Chance) -> Vec<u8> {
+    let lowest = match chance.below(4) {
+        0 => chance.number(),
+        _ => chance.below(4) as i64 - 1,
+    };
+    let (more, seed) = match chance.below(6) {
+        0 => ([-1, 0, 1_000_000, 1_000_001][chance.below(4)], 1),
+        1 => (3, [0, 2, LAST_SEED, LAST_SEED + 1][chance.below(4)]),
+        _ => (chance.below(5) as i64, 1 + chance.below(100) as i64),
+    };
+    [lowest, lowest + more, seed]
+        .into_iter()
+        .flat_map(i32_bytes)
+        .collect()
 }
 
 /// What follows the kind in a declaration.
@@ -77,6 +101,7 @@ fn declaration(input: &Input, chance: &mut Chance, kind: u16) -> Vec<u8> {
         RES | BIN | VAR => i32_bytes(small),
         CLASS => input.name(chance, BLOCK),
         ENTITY => [input.name(chance, CLASS), i32_bytes(small)].concat(),
+        SAMPLER => sampler(chance),
         _ => Vec::new(),
     }
 }
@@ -158,7 +183,7 @@ fn add_actions(input: &mut Input, chance: &mut Chance) {
 }
 
 pub fn write_new(input: &mut Input, chance: &mut Chance) {
-    let kind = [RES, BIN, SYNC, VAR, CLASS, ENTITY][chance.below(6)];
+    let kind = [RES, BIN, SYNC, VAR, CLASS, ENTITY, SAMPLER][chance.below(7)];
     match chance.below(8) {
         0 | 1 => add_declaration(input, chance, kind),
         2 => input.records.push(record(BLOCK, &[])),
@@ -194,7 +219,7 @@ pub fn write_all(input: &mut Input, chance: &mut Chance) {
     records.resize(2 * classes + chance.below(4), record(BLOCK, &[]));
     input.records = records;
     for kind in [
-        RES, RES, BIN, SYNC, SYNC, VAR, ENTITY, ENTITY, ENTITY, ENTITY, ENTITY,
+        RES, RES, BIN, SYNC, SYNC, VAR, SAMPLER, SAMPLER, ENTITY, ENTITY, ENTITY, ENTITY, ENTITY,
     ] {
         if !chance.one_in(4) {
             add_declaration(input, chance, kind);

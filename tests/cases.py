@@ -18,17 +18,18 @@ import pathlib
 import sys
 
 from records import (
-    ADD, CLOCK, GREATER, LESSER, LITERAL, MULTIPLY, NEGATE, SUBTRACT, global_, literal, local, node,
+    ADD, CLOCK, GREATER, LESSER, LITERAL, MULTIPLY, NEGATE, SUBTRACT, draw, global_, literal, local, node,
     branch, condition, getB, getR, getS, item, share,
-    BECOME, BIN, BLOCK, CLASS, CLOSE, DO, ENTITY, HOLD, LSET, PRIO, PUTB, PUTR, PUTS, REQ, RES, SET, START, SYNC, TRACE, TRY,
-    VAR, WHILE, record, chain, cut, longer, shorter, u16, u32)
+    BECOME, BIN, BLOCK, CLASS, CLOSE, DO, ENTITY, HOLD, LSET, PRIO, PUTB, PUTR, PUTS, REQ, RES, SAMPLER, SET, START, SYNC, TRACE,
+    TRY, VAR, WHILE, record, chain, cut, longer, shorter, u16, u32)
 
 # One thing of each kind, and an entity whose body is block 0: seven records, and the eighth is the first action.
 GROUND = [RES(5), BIN(5), SYNC(), VAR(0), CLASS(0), ENTITY(0), BLOCK()]
 # Block 1, behind an action that names it.
 TAIL = [BLOCK()]
 
-DECLARATIONS = [('RES', RES(1)), ('BIN', BIN(1)), ('SYNC', SYNC()), ('VAR', VAR(1)), ('CLASS', CLASS(0)), ('ENTITY', ENTITY(0))]
+DECLARATIONS = [('RES', RES(1)), ('BIN', BIN(1)), ('SYNC', SYNC()), ('VAR', VAR(1)), ('CLASS', CLASS(0)), ('ENTITY', ENTITY(0)),
+                ('SAMPLER', SAMPLER(4, 7))]
 ACTIONS = [
     ('HOLD', HOLD(LITERAL)), ('PRIO', PRIO(LITERAL)), ('SET', SET(0, LITERAL)), ('LSET', LSET(0, LITERAL)), ('DO', DO(1, 1)),
     ('PUTR', PUTR(0)), ('PUTB', PUTB(0)), ('PUTS', PUTS(0)), ('BECOME', BECOME(0)), ('REQ', REQ(getR(0))),
@@ -75,20 +76,20 @@ SHORT = [
     ('a HOLD cut by a whole node', GROUND + [HOLD(ADD, LITERAL, LITERAL)[:-6]], 'refused 1 at the last record'),
 ]
 
-# ---- 2 KIND: kind not in the table. 257 and 262 have the low byte of a RES and a BLOCK.
+# ---- 2 KIND: kind not in the table. 257, 262 and 264 have the low byte of a RES, a BLOCK and a SAMPLER.
 
 KIND = [
     (f'kind {kind} first', [record(kind)], 'refused 2 at the first record')
-    for kind in (0, 8, 9, 10, 11, 12, 13, 14, 15, 31, 32, 255, 256, 257, 262, 65535)
+    for kind in (0, 9, 10, 11, 12, 13, 14, 15, 31, 32, 255, 256, 257, 262, 264, 65535)
 ] + [
     (f'kind {kind} among the declarations', [RES(1), record(kind, u32(0)), BLOCK()], 'refused 2 at the second record')
-    for kind in (0, 8, 15, 257, 65535)
+    for kind in (0, 9, 15, 257, 65535)
 ] + [
     (f'kind {kind} among the actions', GROUND + [CLOSE(), record(kind), CLOSE()], 'refused 2 at the ninth record')
     for kind in (0, 15, 31, 286)
 ] + [
     (f'kind {kind} last', GROUND + [CLOSE(), record(kind)], 'refused 2 at the last record')
-    for kind in (0, 8, 31, 65535)
+    for kind in (0, 9, 31, 65535)
 ]
 
 # ---- 3 PLACE: declaration after a BLOCK, action before any
@@ -106,7 +107,7 @@ PLACE = [
     ('VAR between two blocks', [BLOCK(), BLOCK(), VAR(0), BLOCK()], 'refused 3 at the third record'),
     ('an action, then a declaration', [CLOSE(), RES(1)], 'refused 3 at the first record'),
     ('blocks without actions', [BLOCK(), BLOCK(), BLOCK()], 'bound 0'),
-    ('declarations in any order', [ENTITY(0), CLASS(0), VAR(0), SYNC(), BIN(0), RES(0), BLOCK()], 'bound 1'),
+    ('declarations in any order', [SAMPLER(4, 7), ENTITY(0), CLASS(0), VAR(0), SYNC(), BIN(0), RES(0), BLOCK()], 'bound 1'),
 ]
 
 # ---- 4 MANY: one more than a limit
@@ -122,6 +123,9 @@ MANY = [
     ('33 SYNC', 33 * [SYNC()] + [BLOCK()], 'refused 4 at record 33'),
     ('32 VAR', 32 * [VAR(-1)], 'bound 0'),
     ('33 VAR', 33 * [VAR(-1)], 'refused 4 at the last record'),
+    ('16 SAMPLER', 16 * [SAMPLER(4, 7)], 'bound 0'),
+    ('17 SAMPLER', 17 * [SAMPLER(4, 7)], 'refused 4 at the last record'),
+    ('17 SAMPLER with others between', 16 * [SAMPLER(4, 7), VAR(0)] + [SAMPLER(4, 7), BLOCK()], 'refused 4 at record 33'),
     ('64 CLASS', 64 * [CLASS(0)] + [BLOCK()], 'bound 0'),
     ('65 CLASS', 65 * [CLASS(0)] + [BLOCK()], 'refused 4 at record 65'),
     ('64 ENTITY', [CLASS(0)] + 64 * [ENTITY(0)] + [BLOCK()], 'bound 64'),
@@ -136,10 +140,10 @@ MANY = [
      'refused 4 at the last record'),
     ('the 1,025th action in a block of its own', [BLOCK()] + 1024 * [CLOSE()] + [BLOCK(), REQ(), BLOCK()],
      'refused 4 at record 1027'),
-    ('every limit at once', 32 * [RES(1)] + 32 * [BIN(1)] + 32 * [SYNC()] + 32 * [VAR(1)] + 64 * [CLASS(255)] + 64 * [ENTITY(63)]
+    ('every limit at once', 32 * [RES(1), BIN(1), SYNC(), VAR(1)] + 16 * [SAMPLER(4, 7)] + 64 * [CLASS(255)] + 64 * [ENTITY(63)]
      + 255 * [BLOCK()] + 1024 * [CLOSE()] + [BLOCK()], 'bound 64'),
-    ('every limit at once, and a 65th ENTITY', 32 * [RES(1)] + 32 * [BIN(1)] + 32 * [SYNC()] + 32 * [VAR(1)] + 64 * [CLASS(255)]
-     + 65 * [ENTITY(63)] + 256 * [BLOCK()], 'refused 4 at record 257'),
+    ('every limit at once, and a 65th ENTITY', 32 * [RES(1), BIN(1), SYNC(), VAR(1)] + 16 * [SAMPLER(4, 7)] + 64 * [CLASS(255)]
+     + 65 * [ENTITY(63)] + 256 * [BLOCK()], 'refused 4 at record 273'),
 ]
 
 # ---- 5 SIZE: body, claim or expression not exactly its size
@@ -164,6 +168,8 @@ SIZE = [
     ('BLOCK with a byte more, last', GROUND + [longer(BLOCK())], 'refused 5 at the last record'),
     ('RES with an empty body', [record(1)], 'refused 5 at the first record'),
     ('RES of eight bytes', [record(1, u32(1) + u32(1))], 'refused 5 at the first record'),
+    ('SAMPLER with an empty body', [RES(1), record(8), BLOCK()], 'refused 5 at the second record'),
+    ('SAMPLER of eight bytes', [record(8, u32(4) + u32(7))], 'refused 5 at the first record'),
     ('a SET of one byte', GROUND + [record(18, b'\0')], 'refused 5 at the last record'),
     ('a SET with no node', GROUND + [SET(0)], 'refused 5 at the last record'),
     ('an LSET with no node', GROUND + [LSET(0)], 'refused 5 at the last record'),
@@ -198,13 +204,13 @@ EXPRESSIONS = [
     ('an expression of five bytes', GROUND + [record(16, LITERAL[:5])], 'refused 5 at the last record'),
     ('an expression of seven bytes', GROUND + [record(16, LITERAL + b'\0')], 'refused 5 at the last record'),
     ('an expression of eleven bytes', GROUND + [record(29, LITERAL + LITERAL[:5])], 'refused 5 at the last record'),
-    ('op 10 alone is a leaf', GROUND + [HOLD(node(10))], 'refused 6 at the last record'),
+    ('op 11 alone is a leaf', GROUND + [HOLD(node(11))], 'refused 6 at the last record'),
     ('op 65,535 alone is a leaf', GROUND + [HOLD(node(65535))], 'refused 6 at the last record'),
     ('op 256 alone is a leaf', GROUND + [PRIO(node(256))], 'refused 6 at the last record'),
-    ('op 10 as the leaf of a tree', GROUND + [HOLD(ADD, node(10, 5), LITERAL), CLOSE()], 'refused 6 at the eighth record'),
+    ('op 11 as the leaf of a tree', GROUND + [HOLD(ADD, node(11, 5), LITERAL), CLOSE()], 'refused 6 at the eighth record'),
     ('op 259 takes no operands', GROUND + [HOLD(node(259), LITERAL, LITERAL)], 'refused 5 at the last record'),
-    ('op 10 and another node', GROUND + [HOLD(node(10), LITERAL)], 'refused 5 at the last record'),
-    ('a tree that op 10 leaves open', GROUND + [HOLD(ADD, node(10))], 'refused 5 at the last record'),
+    ('op 11 and another node', GROUND + [HOLD(node(11), LITERAL)], 'refused 5 at the last record'),
+    ('a tree that op 11 leaves open', GROUND + [HOLD(ADD, node(11))], 'refused 5 at the last record'),
 ] + [
     (f'op {op} with operand {operand}', GROUND + [HOLD(node(op, operand), *leaves)], 'refused 6 at the last record')
     for op, leaves, operand in (
@@ -523,6 +529,59 @@ DEEP = [
      'bound 31'),
 ]
 
+# ---- samplers and draws (document 02, One)
+
+# Lowest and highest that differ by as much as they may, and by one more.
+WIDEST = [(0, 1000000), (-1000000, 0), (-2147483648, -2146483648), (2146483647, 2147483647)]
+TOO_WIDE = [(0, 1000001), (-1000001, 0), (-500000, 500001), (-2147483648, 2147483647), (-1, 2147483647), (0, 2147483647)]
+# A sampler, a class of one entity, and its block: the fifth record is the first action.
+DRAWN = [SAMPLER(4, 7), CLASS(0), ENTITY(0), BLOCK()]
+
+SAMPLERS = [
+    (f'SAMPLER with seed {seed:,}', [SAMPLER(4, 7, seed), BLOCK()], 'bound 0') for seed in (1, 2, 2147483645, 2147483646)
+] + [
+    (f'SAMPLER with seed {seed:,}', [RES(1), SAMPLER(4, 7, seed), BLOCK()], 'refused 6 at the second record')
+    for seed in (0, 2147483647, 2147483648, 4294967295)
+] + [
+    (f'SAMPLER of {lowest:,} to {highest:,}', [SAMPLER(lowest, highest)], 'bound 0')
+    for lowest, highest in [(7, 7), (-7, -4), (-2147483648, -2147483648), (2147483647, 2147483647)] + WIDEST
+] + [
+    (f'SAMPLER of {lowest:,} to {highest:,}', [VAR(0), SAMPLER(4, 7), SAMPLER(lowest, highest)], 'refused 6 at the last record')
+    for lowest, highest in [(7, 6), (-4, -7), (0, -2147483648), (2147483647, -2147483648)] + TOO_WIDE
+] + [
+    ('a draw', DRAWN + [HOLD(draw(0))], 'bound 2'),
+    ('16 nodes, eight of them draws', DRAWN + [LSET(0, NEGATE, *7 * [ADD, draw(0)], draw(0))], 'bound 2'),
+    ('a draw in each action that has an expression',
+     [VAR(0)] + DRAWN + [HOLD(draw(0)), PRIO(draw(0)), SET(0, draw(0)), LSET(0, draw(0)), TRACE(draw(0))], 'bound 6'),
+    ('the sixteenth of sixteen', 16 * [SAMPLER(4, 7)] + [BLOCK(), HOLD(draw(15))], 'bound 0'),
+    ('a draw is a leaf', DRAWN + [HOLD(draw(0), LITERAL)], 'refused 5 at the last record'),
+    ('a draw with a draw', DRAWN + [HOLD(draw(0), draw(0)), CLOSE()], 'refused 5 at the fifth record'),
+    ('a tree that a draw leaves open', DRAWN + [HOLD(ADD, draw(0))], 'refused 5 at the last record'),
+    ('17 draws and sums', DRAWN + [HOLD(*8 * [ADD, draw(0)], draw(0))], 'refused 5 at the last record'),
+    ('op 11, and a sampler', DRAWN + [HOLD(node(11))], 'refused 6 at the last record'),
+    ('op 266, with the low byte of a draw', DRAWN + [HOLD(node(266)), CLOSE()], 'refused 6 at the fifth record'),
+    ('a draw without a sampler', GROUND + [HOLD(draw(0))], 'refused 8 at the last record'),
+    ('the seventeenth of sixteen', 16 * [SAMPLER(4, 7)] + [BLOCK(), HOLD(draw(16)), CLOSE()], 'refused 8 at record 18'),
+    ('a sampler by a variable\'s number', [VAR(0), VAR(0)] + DRAWN + [SET(1, draw(1))], 'refused 8 at the last record'),
+    ('a variable by a sampler\'s number', [SAMPLER(4, 7), VAR(0)] + DRAWN + [SET(0, global_(1))], 'refused 8 at the last record'),
+] + [
+    (f'a draw of sampler {number:,} in {name}', [VAR(0)] + DRAWN + [action(draw(number))], 'refused 8 at the last record')
+    for number, name, action in (
+        (1, 'HOLD', HOLD), (1, 'PRIO', PRIO), (1, 'TRACE', TRACE), (1, 'SET', lambda e: SET(0, e)),
+        (1, 'LSET', lambda e: LSET(0, e)), (16, 'HOLD', HOLD), (256, 'HOLD', HOLD), (65536, 'HOLD', HOLD), (-1, 'HOLD', HOLD),
+        (-2147483648, 'HOLD', HOLD), (2147483647, 'HOLD', HOLD))
+] + [
+    ('a draw that isn\'t there at the end of a tree', DRAWN + [HOLD(LESSER, draw(0), draw(1)), CLOSE()],
+     'refused 8 at the fifth record'),
+    ('PLACE before MANY, SIZE and VALUE of a SAMPLER', 16 * [SAMPLER(4, 7)] + [BLOCK(), longer(SAMPLER(7, 4, 0))],
+     'refused 3 at the last record'),
+    ('MANY before SIZE of a SAMPLER', 16 * [SAMPLER(4, 7)] + [shorter(SAMPLER(4, 7)), BLOCK()], 'refused 4 at record 17'),
+    ('MANY before VALUE of a SAMPLER', 16 * [SAMPLER(4, 7)] + [SAMPLER(7, 4, 0)], 'refused 4 at the last record'),
+    ('SIZE before VALUE of a SAMPLER', [longer(SAMPLER(7, 4, 0))], 'refused 5 at the first record'),
+    ('VALUE of a SAMPLER before NAME of a draw', [SAMPLER(4, 7, 0), BLOCK(), HOLD(draw(1))], 'refused 6 at the first record'),
+    ('VALUE of op 11 before NAME of a draw', DRAWN + [HOLD(ADD, draw(1), node(11))], 'refused 6 at the last record'),
+]
+
 # ---- which comes first: record by record 1 to 7, then record by record 8 and 9, then class by class 10
 
 PRECEDENCE = [
@@ -551,7 +610,7 @@ PRECEDENCE = [
     ('SIZE before VALUE', [longer(RES(1000001))], 'refused 5 at the first record'),
     ('SIZE before VALUE, of a count', GROUND + [longer(PUTS(0, 0))], 'refused 5 at the last record'),
     ('SIZE before VALUE, of an item', GROUND + [REQ(getR(0, 0), n=2), CLOSE()], 'refused 5 at the eighth record'),
-    ('SIZE before VALUE, of nodes', GROUND + [HOLD(node(10), node(10))], 'refused 5 at the last record'),
+    ('SIZE before VALUE, of nodes', GROUND + [HOLD(node(11), node(11))], 'refused 5 at the last record'),
     ('SIZE before TWICE', GROUND + [REQ(getR(0), getR(0), n=3)], 'refused 5 at the last record'),
     ('VALUE before TWICE', GROUND + [REQ(getR(0, 0), getR(0, 0))], 'refused 6 at the last record'),
     ('VALUE of a third item before TWICE', GROUND + [REQ(getR(0), getR(0), condition(0, 7))], 'refused 6 at the last record'),
@@ -595,7 +654,7 @@ SIZES = [
     ('65,534 bytes', HEAD + 436 * [LONG] + 4 * [DO_0] + 7 * [HOLD_1] + [BLOCK()], 'bound 884'),
     ('65,534 bytes, NAME at the last record', HEAD + 436 * [LONG] + 4 * [DO_0] + [BLOCK()] + 6 * [HOLD_1] + [HOLD(global_(1))],
      'refused 8 at the last record'),
-    ('65,534 bytes, VALUE at the last record', HEAD + 436 * [LONG] + 4 * [DO_0] + [BLOCK()] + 6 * [HOLD_1] + [HOLD(node(10))],
+    ('65,534 bytes, VALUE at the last record', HEAD + 436 * [LONG] + 4 * [DO_0] + [BLOCK()] + 6 * [HOLD_1] + [HOLD(node(11))],
      'refused 6 at the last record'),
     ('65,534 bytes, ORDER at the last record', HEAD + 436 * [LONG] + 3 * [DO_0] + 7 * [HOLD_1] + [BLOCK(), DO_0],
      'refused 9 at the last record'),
@@ -809,7 +868,7 @@ HOSTILE = [
 ]
 
 CASES = (WEIGHTS + NONE + OVER + HOSTILE + SHORT + KIND + PLACE + MANY + SIZE + EXPRESSIONS + CLAIMS + TRIES + VALUE + SHARES
-         + TWICE + NAME + ORDER + DEEP + PRECEDENCE + SIZES)
+         + TWICE + NAME + ORDER + DEEP + SAMPLERS + PRECEDENCE + SIZES)
 
 # ---- the files
 

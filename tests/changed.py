@@ -70,8 +70,9 @@ CHANGES = [
     ('a DO has one round more', 'act_do_close', 'row_process::into(w, p, n, b);', 'row_process::into(w, p, n + 1, b);'),
     ('DO 0 enters its block', 'act_do_close', 'if n == 0 {', 'if n == 70000 {'),
     ('a HOLD of 0 keeps the floor', 'act_hold_prio_lset_trace',
-     'act_floor::leave_floor(w);\n    row_lists::wake(w, time, p);',
-     'if value.code != code::ZERO {\n        act_floor::leave_floor(w);\n        row_lists::wake(w, time, p);\n    }'),
+     'act_floor::leave_floor(w);\n    row_lists::wake(w, clock + (value.code - code::ZERO) as u64, p);',
+     'if value.code != code::ZERO {\n        act_floor::leave_floor(w);\n'
+     '        row_lists::wake(w, clock + (value.code - code::ZERO) as u64, p);\n    }'),
     ('a WHILE is met once', 'act_block_end',
      'file_fields::u16_at(s, place + 2) == kind::WHILE', 'file_fields::u16_at(s, place + 2) == 99'),
     ('locals left where a process ended', 'row_begin_end',
@@ -97,10 +98,44 @@ CHANGES = [
     ('number 2,147,483,647 is never given', 'act_puts_start',
      'last_of(w) < limit::LAST_NUMBER', 'last_of(w) < limit::LAST_NUMBER - 1'),
     ('a full bin is a fault', 'act_return', 'limit::FULL_BIN < bin_of(w, i) + n', 'limit::FULL_BIN <= bin_of(w, i) + n'),
-    ('the time 2,000,000,000 is late', 'act_hold_prio_lset_trace', 'if limit::LATEST < time {', 'if limit::LATEST <= time {'),
+    ('the time 2,000,000,000 is late', 'act_hold_prio_lset_trace',
+     'code::ZERO + (limit::LATEST - clock) as u32', 'code::ZERO + (limit::LATEST - clock) as u32 - 1'),
     ('slaves may be left behind', 'row_process', ' & (row_work::word(w, p, process::SLAVES) == 0)', ''),
     ('30 one line too late', 'run_limit', 'if left < lines {', 'if left + 1 < lines {'),
+    # ---- samplers and draws
+    ('multiplier 16806', 'base_generator', 'MULTIPLIER: u64 = 16807;', 'MULTIPLIER: u64 = 16806;'),
+    ('modulus 2147483648', 'base_generator', 'MODULUS: u64 = 2147483647;', 'MODULUS: u64 = 2147483648;'),
+    ('a sampler has one value less', 'base_generator',
+     'seed % base_wide::wide(values)', 'seed % (base_wide::wide(values).max(2) - 1)'),
+    ('a draw by the old seed', 'act_value',
+     'base_generator::drawn(lowest[k], values[k], new)', 'base_generator::drawn(lowest[k], values[k], old)'),
+    ('draws from right to left', 'act_value',
+     'let first = tree_at(bs, globals, locals, clock, lowest, values, seeds, k + 1);',
+     'let mut aside = *seeds;\n'
+     '    let shape = tree_at(bs, globals, locals, clock, lowest, values, &mut aside, k + 1);\n'
+     '    if many == 2 {\n        aside = *seeds;\n'
+     '        tree_at(bs, globals, locals, clock, lowest, values, seeds, shape.next);\n    }\n'
+     '    let first = tree_at(bs, globals, locals, clock, lowest, values, seeds, k + 1);',
+     'let second = tree_at(bs, globals, locals, clock, lowest, values, seeds, first.next);',
+     'let second = tree_at(bs, globals, locals, clock, lowest, values, &mut aside, first.next);'),
+    ('a lesser draws only the side that it answers', 'act_value',
+     'let both = first.value.ok & second.value.ok;',
+     'let both = first.value.ok & second.value.ok;\n'
+     '    if (node.op == op::LESSER) & both & (first.value.code <= second.value.code) {\n        *seeds = before;\n    }',
+     'let second = tree_at(', 'let before = *seeds;\n    let second = tree_at('),
+    ('21 keeps the seeds', 'act_hold_prio_lset_trace',
+     'if value.ok & (low <= value.code) & (value.code <= high) {',
+     'if !value.ok | (low <= value.code) & (value.code <= high) {'),
+    ('22 keeps the seeds', 'act_hold_prio_lset_trace', 'w, p, code::ZERO, latest)', 'w, p, 0, latest)'),
+    ('23 keeps the seeds', 'act_hold_prio_lset_trace', 'w, p, code::ZERO, latest)', 'w, p, code::ZERO, HIGHEST)'),
+    ('30 keeps the seeds', 'run_limit',
+     'row_work::copy_words(&kept, w);',
+     'let seeds = row_work::seeds_of(w);\n        row_work::copy_words(&kept, w);\n        row_work::keep_seeds(w, seeds);'),
     # ---- checks and the bound
+    ('a SAMPLER behind a BLOCK', 'file_check_record', 'blocks == 0\n}', '(blocks == 0) | (group == 8)\n}'),
+    ('a seventeenth SAMPLER', 'file_check_record', '8, 16, 12,', '8, 17, 12,'),
+    ('a SAMPLER of a difference of 1,000,001', 'file_check_record', '<= limit::SPREAD', '<= limit::SPREAD + 1'),
+    ('a draw of a sampler that isn\'t there', 'file_check_parts', '(op != op::DRAW) | (operand < n[group::SAMPLER])', 'true'),
     ('the place of the record after', 'file_check', 'place: f.place,', 'place: file_reader::next(s, f.place),'),
     ('8 and 9 at the place of the record after', 'file_check',
      'number: r,\n                place: at,',
@@ -114,6 +149,9 @@ CHANGES = [
     ('a return of lower priority is sound', 'row_sound_lists', '(rank == code::OF_RETURNS)', '(rank <= code::OF_RETURNS)'),
     ('a time before the clock is sound', 'row_sound_lists',
      '(w[row::CLOCK] <= key / word::TIME)', '(w[row::CLOCK] <= w[row::CLOCK])'),
+    ('seed 0 is sound', 'row_view', 'Rule::Seed => (1 <= x) & (x <= limit::SEED_WORD)', 'Rule::Seed => x <= limit::SEED_WORD'),
+    ('seed 2147483647 is sound', 'row_view', '(x <= limit::SEED_WORD)', '(x <= limit::SEED_WORD + 1)'),
+    ('a seed without a sampler is sound', 'row_view', '&w[row::SEEDS..row::WORDS]', '&w[row::SEEDS..row::SEEDS + samplers]'),
     ('two of one number are sound', 'row_sound_lists', '(alike(w, number) == 1)', '(1 <= alike(w, number))'),
 ]
 

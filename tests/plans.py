@@ -1,8 +1,8 @@
-"""The twelve plans of document 01 and a few other ends of a run, through a program that prints plans.
+"""The twelve plans of document 01, a few other ends of a run, and plans that draw, through a program that prints plans.
 
     python3 -B tests/plans.py COMMAND ...    runs COMMAND on each model and compares what it prints
 
-What is expected was written from document 01 by hand; the second program's own tests have the same plans.
+What is expected was written from documents 01 and 02 by hand; the second program's own tests have the same plans.
 """
 import subprocess
 import sys
@@ -62,6 +62,18 @@ PLANS = [
     ('no bound, and a million steps', one(b'', WHILE(1), b''),
      ['0 1 4 0'] * 500000 + ['limit 1000000 bound none']),
     ('a value below 0', one(b'', TRACE(literal(-2147483648))), ['0 1 9 -2147483648', '0 1 2 0', 'idle 2 bound 2']),
+    # The seeds from 1 are 16807, 282475249, 1622650073, 984943658: of 4 to 7 they draw 7, 5, 5, 6.
+    ('two jobs that draw from one sampler',
+     several(SAMPLER(4, 7), (0, HOLD(draw(0)) + TRACE(CLOCK)), (0, HOLD(draw(0)) + TRACE(SUBTRACT, draw(0), draw(0)))),
+     ['5 2 9 -1', '5 2 2 0', '7 1 9 7', '7 1 2 0', 'idle 6 bound 6']),
+    ('both sides of a lesser are drawn', one(SAMPLER(4, 7), TRACE(LESSER, draw(0), NEGATE, draw(0)) + TRACE(draw(0))),
+     ['0 1 9 -5', '0 1 9 5', '0 1 2 0', 'idle 3 bound 3']),
+    ('a draw below 0', one(SAMPLER(-7, -4), HOLD(draw(0))), ['fault 22 0 bound 2']),
+    ('a SAMPLER behind a BLOCK', EXAMPLE + SAMPLER(4, 7), ['refused 3 at 72']),
+    # 1043618065 is the one number below 2,147,483,647 that leaves 617022 by 1,000,001 and 618065 by 1,000,000.
+    ('the 10,000th seed from 1 is 1043618065',
+     one(SAMPLER(0, 1000000) + SAMPLER(0, 999999), DO(9999, 1) + TRACE(draw(0)) + TRACE(draw(1)), LSET(0, ADD, draw(0), draw(1))),
+     ['0 1 9 617022', '0 1 9 618065', '0 1 2 0', 'idle 20002 bound 20002']),
     ('a refusal', EXAMPLE + BLOCK()[:3], ['refused 1 at 72']),
     ('65,536 bytes', bytes(65536), ['refused 4 at 0']),
     ('more than a model may have', bytes(70000), ['refused 4 at 0']),

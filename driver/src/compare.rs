@@ -46,12 +46,7 @@ pub struct Bench {
 
 impl Bench {
     pub fn new() -> Bench {
-        Bench {
-            file: Lent::new(0),
-            journal: Lent::new(0),
-            row: Lent::new(0),
-            counts: Counts::default(),
-        }
+        Bench { file: Lent::new(0), journal: Lent::new(0), row: Lent::new(0), counts: Counts::default() }
     }
 
     /// Holds both programs to the same answers on these bytes; `limit` is that of the longest run.
@@ -61,6 +56,7 @@ impl Bench {
             Err(refusal) => self.refused(bytes, refusal, random),
             Ok(model) => {
                 self.counts.accepted += 1;
+                self.counts.sampled(&model);
                 self.checks(bytes, &model)?;
                 self.runs(bytes, &model, limit, effort, random)?;
                 if effort == Effort::Most || random.one_in(3) {
@@ -73,6 +69,7 @@ impl Bench {
 
     fn refused(&mut self, bytes: &[u8], refusal: Refusal, random: &mut Random) -> Same {
         self.counts.add(REFUSALS, usize::from(refusal.number));
+        self.counts.draw_refused(bytes, refusal);
         let word = u32::from(refusal.number) * 65_536 + refusal.place as u32;
         let said = |word: u64| format!("{word:#x}: refusal {} at {}", (word >> 16) & 0xffff, word & 0xffff);
         self.answers("check", engine::check(self.file.content()).into(), word.into(), said)?;
@@ -108,7 +105,9 @@ impl Bench {
     }
 
     fn runs(&mut self, bytes: &[u8], model: &Model, limit: u32, effort: Effort, random: &mut Random) -> Same {
-        let whole = State::fresh(model).run(model, limit, ENDLESS);
+        let mut end = State::fresh(model);
+        let whole = end.run(model, limit, ENDLESS);
+        self.counts.answered(model, &end, &whole);
         let room = whole.journal.len() + random.pick(&[0, 1, 15, 66, 67]) * LINE_BYTES + random.below(16);
         self.counts.wrote(&whole.journal);
         self.counts.acted(model, whole.steps.min(200));
@@ -123,13 +122,14 @@ impl Bench {
     }
 
     fn one_run(&mut self, bytes: &[u8], model: &Model, limit: u32, room: usize, random: &mut Random) -> Same {
-        let second = State::fresh(model).run(model, limit, room);
+        let mut end = State::fresh(model);
+        let second = end.run(model, limit, room);
+        self.counts.answered(model, &end, &second);
         self.same_run(bytes, &second, limit, room, random)
     }
 
     /// The same call of the engine, held to what the second program gave.
     fn same_run(&mut self, bytes: &[u8], second: &Outcome, limit: u32, room: usize, random: &mut Random) -> Same {
-        self.counts.answered(second);
         self.journal.empty(room, random.below(8), random.next() as u8);
         let ran = engine::run(self.file.content(), limit, self.journal.content_mut());
         let what = format!("run with limit {limit} and a journal of {room} bytes");

@@ -1,5 +1,6 @@
 //! How often each number that the desk sees came up: the table at the end.
 
+use crate::drawn::Drawers;
 use reference::journal::lines;
 use reference::model::{Action, Model};
 use reference::run::{Answer, Entered, Outcome, State};
@@ -10,6 +11,12 @@ pub const ACTIONS: usize = 2;
 pub const ANSWERS: usize = 3;
 pub const LINES: usize = 4;
 pub const BOUNDS: usize = 5;
+pub const SAMPLERS: usize = 6;
+pub const SAMPLERS_REFUSED: usize = 7;
+pub const DRAWS: usize = 8;
+pub const DRAWS_UNDONE: usize = 9;
+pub const SEEDS: usize = 10;
+pub const PACES: usize = 11;
 
 struct Group {
     title: &'static str,
@@ -18,7 +25,7 @@ struct Group {
     names: &'static [&'static str],
 }
 
-const GROUPS: [Group; 6] = [
+const GROUPS: [Group; 12] = [
     Group {
         title: "refusals",
         first: 1,
@@ -55,6 +62,58 @@ const GROUPS: [Group; 6] = [
         ],
     },
     Group { title: "bounds", first: 0, names: &["a number", "NONE", "OVER"] },
+    Group {
+        title: "samplers of models accepted",
+        first: 0,
+        names: &["seed 1", "seed 2,147,483,646", "one value", "1,000,001 values", "the sixteenth"],
+    },
+    Group {
+        title: "samplers and draws refused",
+        first: 0,
+        names: &[
+            "behind a BLOCK: 3",
+            "the seventeenth: 4",
+            "of another size: 5",
+            "seed 0: 6",
+            "seed 2,147,483,647: 6",
+            "lowest one above highest: 6",
+            "difference 1,000,001: 6",
+            "op 11: 6",
+            "a draw of the next sampler: 8",
+            "a draw of a negative one: 8",
+        ],
+    },
+    Group {
+        title: "steps that draw, of the first 200",
+        first: 0,
+        names: &[
+            "in HOLD",
+            "in PRIO",
+            "in SET",
+            "in LSET",
+            "in TRACE",
+            "under lesser",
+            "under greater",
+            "twice from one sampler",
+            "from two samplers",
+            "after another job from the same",
+        ],
+    },
+    Group {
+        title: "faults of steps that had drawn, of all calls",
+        first: 0,
+        names: &["SUM: 21", "BACK: 22", "LATE: 23", "JOURNAL: 30"],
+    },
+    Group {
+        title: "other seeds in rows handed in",
+        first: 0,
+        names: &["0", "1 to 2,147,483,646", "above 2,147,483,646", "where no sampler is"],
+    },
+    Group {
+        title: "runs that draw, in calls of so many steps and few lines",
+        first: 1,
+        names: &["step", "steps", "steps", "steps", "steps", "steps", "steps"],
+    },
 ];
 
 /// What a run of the driver did besides.
@@ -74,8 +133,8 @@ impl Counts {
         self.seen[group][number - GROUPS[group].first] += 1;
     }
 
-    /// The answer of a call.
-    pub fn answered(&mut self, outcome: &Outcome) {
+    /// The answer of a call, and the state that it left.
+    pub fn answered(&mut self, model: &Model, state: &State, outcome: &Outcome) {
         self.calls += 1;
         self.steps += u64::from(outcome.steps);
         let answer = match outcome.answer {
@@ -84,6 +143,9 @@ impl Counts {
             Answer::Limit => 2,
             Answer::Fault(number) => {
                 self.add(FAULTS, usize::from(number));
+                if let Some((_, action)) = next(model, state) {
+                    self.undone(number, action);
+                }
                 3
             }
         };
@@ -97,14 +159,16 @@ impl Counts {
     /// The actions of at most so many steps from fresh, made again one by one.
     pub fn acted(&mut self, model: &Model, most: u32) {
         let mut state = State::fresh(model);
+        let mut drawers = Drawers::default();
         for _ in 0..most {
-            let doing = action_of(model, &state);
+            let doing = next(model, &state);
             let one = state.run(model, 1, usize::MAX);
             if one.steps == 0 {
                 return;
             }
-            if let Some(action) = doing {
+            if let Some((process, action)) = doing {
                 self.add(ACTIONS, kind_of(action));
+                self.drew(action, process, &mut drawers);
             }
         }
     }
@@ -127,9 +191,9 @@ impl Counts {
         for (group, seen) in GROUPS.iter().zip(&self.seen) {
             text += &format!("{}\n", group.title);
             for (i, name) in group.names.iter().enumerate() {
-                text += &format!("  {:>2} {:<18} {:>12}\n", group.first + i, name, seen[i]);
+                text += &format!("  {:>2} {:<31} {:>12}\n", group.first + i, name, seen[i]);
                 if seen[i] == 0 {
-                    never.push(format!("{} {name}", group.title));
+                    never.push(format!("{}: {} {name}", group.title, group.first + i));
                 }
             }
         }
@@ -137,8 +201,8 @@ impl Counts {
     }
 }
 
-/// The action that the next step does, unless it is a return or the end of a block.
-fn action_of<'a>(model: &'a Model, state: &State) -> Option<&'a Action> {
+/// The number of the process that makes the next step, and its action, unless that is a return or the end of a block.
+fn next<'a>(model: &'a Model, state: &State) -> Option<(u32, &'a Action)> {
     let place = match state.floor {
         Some(place) => place,
         None => match state.event_list.first()?.entered {
@@ -146,8 +210,9 @@ fn action_of<'a>(model: &'a Model, state: &State) -> Option<&'a Action> {
             Entered::Notice { .. } => return None,
         },
     };
-    let standing = state.places[place].as_ref()?.blocks.last()?;
-    model.blocks[usize::from(standing.block)].get(standing.place)
+    let process = state.places[place].as_ref()?;
+    let standing = process.blocks.last()?;
+    Some((process.number, model.blocks[usize::from(standing.block)].get(standing.place)?))
 }
 
 fn kind_of(action: &Action) -> usize {

@@ -20,14 +20,14 @@ pub fn damaged(random: &mut Random, mut records: Vec<Record>, other: &[Record]) 
 
 fn damage_record(random: &mut Random, records: &mut Vec<Record>, other: &[Record]) {
     let at = random.below(records.len());
-    match random.below(12) {
+    match random.below(13) {
         0 => drop(records.remove(at)),
         1 => records.insert(random.below(records.len()), records[at].clone()),
         2 => {
             let moved = records.remove(at);
             records.insert(random.below(records.len() + 1), moved);
         }
-        3 => put_u16(&mut records[at], 2, random.pick(&[0, 1, 3, 6, 7, 8, 9, 15, 16, 30, 31, 257, 262, 65_535])),
+        3 => put_u16(&mut records[at], 2, random.pick(&[0, 1, 3, 6, 7, 8, 9, 15, 16, 30, 31, 257, 262, 264, 65_535])),
         4 => {
             let length = records[at].len() as u16 - 2;
             let wrong = [0, 1, 2, length.wrapping_sub(1), length + 1, length + 4, u16::MAX];
@@ -38,6 +38,7 @@ fn damage_record(random: &mut Random, records: &mut Vec<Record>, other: &[Record
         8 => revalue(random, &mut records[at]),
         9 => name_twice(random, records),
         10 => nest(random, records),
+        11 => draw_wrong(random, records),
         _ => {
             if !other.is_empty() {
                 records.insert(at, other[random.below(other.len())].clone());
@@ -82,6 +83,32 @@ fn rename(random: &mut Random, records: &mut [Record]) {
         random.pick(&[many, many.wrapping_sub(1), many + 1, 0, 255, 256, u16::MAX])
     };
     put_u16(&mut records[at], name.at, new);
+}
+
+/// A draw of a sampler that isn't there, or by an op that isn't; or a sampler out of its ranges, of another size, or elsewhere.
+fn draw_wrong(random: &mut Random, records: &mut Vec<Record>) {
+    let draws = |record: &Record| kind_of(record) == SAMPLER || nodes(record).any(|(_, op)| op == DRAW);
+    let Some(at) = some_record(random, records, draws) else {
+        return;
+    };
+    if kind_of(&records[at]) == SAMPLER {
+        match random.below(6) {
+            0 => resize(random, &mut records[at]),
+            1 => records.push(records[at].clone()),
+            2 => records.splice(at..at, vec![records[at].clone(); random.from_to(13, 16)]).for_each(drop),
+            3 => put_u32(&mut records[at], 4, i32::MAX as u32),
+            4 => put_u32(&mut records[at], 8, i32::MIN as u32),
+            _ => put_u32(&mut records[at], 12, random.pick(&[0, 2_147_483_646, 2_147_483_647, u32::MAX])),
+        }
+        return;
+    }
+    let many = u32::from(count(records, SAMPLER));
+    let found: Vec<usize> = nodes(&records[at]).filter(|(_, op)| *op == DRAW).map(|(place, _)| place).collect();
+    let place = found[random.below(found.len())];
+    match random.below(4) {
+        0 => put_u16(&mut records[at], place, random.pick(&[11, 11, 266, u16::MAX])),
+        _ => put_u32(&mut records[at], place + 2, random.pick(&[many, many, many + 1, 16, 65_536, 1 << 31, u32::MAX])),
+    }
 }
 
 /// A byte, two or four of the body become a number at an edge.

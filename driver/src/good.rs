@@ -19,6 +19,8 @@ struct Maker<'a> {
     bins: usize,
     syncs: usize,
     variables: usize,
+    /// Lowest, highest and seed of each.
+    samplers: Vec<(i32, i32, u32)>,
     classes: usize,
     entities: usize,
     /// The class whose body is being made.
@@ -54,6 +56,7 @@ fn numbered_high(random: &mut Random, records: Vec<Record>) -> Vec<Record> {
         (BIN, 32, declared(BIN, 0)),
         (SYNC, 32, sync),
         (VAR, 32, declared(VAR, 0)),
+        (SAMPLER, 16, sampler(0, 0, 1)),
         (CLASS, 64, class(0)),
         (BLOCK, 256, block()),
     ];
@@ -83,6 +86,7 @@ impl<'a> Maker<'a> {
             bins: random.pick(&[0, 1, 1, 2]),
             syncs: random.pick(&[0, 1, 1, 1, 2]),
             variables: random.pick(&[1, 1, 2]),
+            samplers: (0..random.pick(&[0, 0, 1, 1, 2, 3])).map(|_| some_sampler(random)).collect(),
             classes,
             entities: if random.one_in(12) { random.from_to(1, 64) } else { random.from_to(2, 7) },
             own: 0,
@@ -106,6 +110,7 @@ impl<'a> Maker<'a> {
             let value = self.random.pick(&[0, 0, 0, 1, -1, 3, i32::MAX]);
             records.push(declared(VAR, value as u32));
         }
+        records.extend(self.samplers.iter().map(|(lowest, highest, seed)| sampler(*lowest, *highest, *seed)));
         records.extend(bodies.iter().map(|body| class(*body)));
         for _ in 0..self.entities {
             let any = self.handed.is_empty() || self.wild > 0 && self.random.one_in(10);
@@ -314,12 +319,25 @@ impl<'a> Maker<'a> {
     }
 
     fn delay(&mut self) -> Vec<u8> {
+        if !self.samplers.is_empty() && self.random.one_in(4) {
+            return self.drawn_delay();
+        }
         match self.random.below(12) {
             0 => {
                 let inner = self.tree(12);
                 [node(LESSER, 0), literal(3), node(GREATER, 0), literal(0), inner].concat()
             }
             _ => literal(self.random.pick(&[0, 0, 0, 1, 1, 1, 1, 2, 2, 3, 7])),
+        }
+    }
+
+    /// A draw, as it is where it is no fault.
+    fn drawn_delay(&mut self) -> Vec<u8> {
+        let number = self.random.below(self.samplers.len());
+        let drawn = node(DRAW, number as i32);
+        match self.samplers[number] {
+            (0.., ..=1_000_000, _) if !self.random.one_in(4) => drawn,
+            _ => [node(GREATER, 0), node(LESSER, 0), drawn, literal(9), literal(0)].concat(),
         }
     }
 
@@ -437,6 +455,9 @@ impl<'a> Maker<'a> {
     }
 
     fn leaf(&mut self) -> Vec<u8> {
+        if !self.samplers.is_empty() && self.random.one_in(3) {
+            return node(DRAW, self.random.below(self.samplers.len()) as i32);
+        }
         match self.random.below(8) {
             0 | 1 => node(GLOBAL, self.random.below(self.variables) as i32),
             2 => node(LOCAL, self.random.below(8) as i32),
@@ -506,7 +527,7 @@ impl<'a> Maker<'a> {
     /// A scene that comes to a fault, or just doesn't.
     fn wild_scene(&mut self, depth: usize, out: &mut Vec<Record>) {
         let resource = self.random.below(self.totals.len()) as u16;
-        match self.random.below(8) {
+        match self.random.below(9) {
             0 => out.push(put(PUTR, resource, self.random.pick(&[1, 2, 1_000_000]))),
             1 if self.syncs > 0 => {
                 let sync = self.random.below(self.syncs) as u16;
@@ -521,6 +542,7 @@ impl<'a> Maker<'a> {
             5 if self.syncs > 0 => out.push(req(&[item(GET_S, self.random.below(self.syncs) as u16, 1)])),
             5 => out.push(req(&[item(GET_R, resource, 1)])),
             6 if self.bins > 0 && self.may_nest(depth) => self.many_returns(depth, out),
+            7 if !self.samplers.is_empty() => self.draws_wrong(out),
             _ if self.may_nest(depth) => self.crowds(depth, out),
             _ => {}
         }
@@ -536,6 +558,20 @@ impl<'a> Maker<'a> {
         let offset = self.random.pick(&[0, 0, 1, 2, 999_999, 1_000_000]);
         out.push(start(class, offset, &shares[..self.random.below(2)]));
         out.push(valued(HOLD, &literal(self.random.pick(&[0, 0, 1, i32::MAX]))));
+    }
+
+    /// A draw that is a fault but for its lowest value or its highest.
+    fn draws_wrong(&mut self, out: &mut Vec<Record>) {
+        let number = self.random.below(self.samplers.len());
+        let (lowest, highest, _) = self.samplers[number];
+        let drawn = node(DRAW, number as i32);
+        let above_lowest =
+            |last: i32| [node(ADD, 0), drawn.clone(), node(SUBTRACT, 0), literal(last), literal(lowest)].concat();
+        out.push(match self.random.below(3) {
+            0 => valued(HOLD, &[node(SUBTRACT, 0), drawn, literal(highest)].concat()),
+            1 => valued(HOLD, &above_lowest(2_000_000_000)),
+            _ => valued(TRACE, &above_lowest(i32::MAX)),
+        });
     }
 
     /// About 64 returns at one instant; then a PUTR of what may not be held.
@@ -560,6 +596,22 @@ impl<'a> Maker<'a> {
             out.push(start(class, 0, &[(resource, 1)]));
         }
     }
+}
+
+fn some_sampler(random: &mut Random) -> (i32, i32, u32) {
+    let (lowest, highest) = random.pick(&[
+        (4, 7),
+        (0, 3),
+        (0, 1),
+        (1, 2),
+        (2, 2),
+        (-2, 2),
+        (0, 1_000_000),
+        (i32::MAX - 1, i32::MAX),
+        (i32::MIN, i32::MIN + 1),
+    ]);
+    let any = random.from_to(1, 2_147_483_646) as u32;
+    (lowest, highest, random.pick(&[1, 2, 2_147_483_646, any, any, any]))
 }
 
 /// A bin that comes to 1,000,000,000 and beyond, while somebody takes from it.

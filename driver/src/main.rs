@@ -8,6 +8,7 @@ mod compare;
 mod counts;
 mod crash;
 mod damaged;
+mod drawn;
 mod engine;
 mod good;
 mod moves;

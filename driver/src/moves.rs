@@ -2,9 +2,10 @@
 //! and rows that are damaged, or lifted to where times and numbers end, handed in.
 
 use crate::compare::{answer_text, word_of, Bench, Difference, Same};
+use crate::counts::PACES;
 use crate::engine;
 use crate::random::Random;
-use crate::row::{is_standing, part, row_of, state_of, WORDS};
+use crate::row::{is_standing, part, row_of, state_of, SEEDS, WORDS};
 use crate::sound::is_sound;
 use reference::journal::LINE_BYTES;
 use reference::model::Model;
@@ -16,6 +17,8 @@ const WRONG_WORDS: u32 = 20 * 65_536;
 
 /// No more uneven calls than this; the last one goes to the end.
 const CALLS: usize = 10;
+/// No more even steps than this.
+const PACED: u32 = 60;
 
 impl Bench {
     pub fn moves(&mut self, bytes: &[u8], model: &Model, limit: u32, random: &mut Random) -> Same {
@@ -23,16 +26,20 @@ impl Bench {
         let mut state = State::fresh(model);
         let whole = state.run(model, limit, usize::MAX);
         let room = whole.journal.len() + random.below(70 * LINE_BYTES);
-        self.same_move(bytes, &whole, &state, limit, room, random)?;
+        self.same_move(bytes, model, &whole, &state, limit, room, random)?;
         let uneven = self.uneven(bytes, model, &whole, random)?;
         if uneven != state {
             let what = "the state after uneven calls".to_string();
             return Err(Difference::of(what, "as the second program's", "another than after one long call"));
         }
+        if !model.samplers.is_empty() && random.one_in(3) {
+            self.paced(bytes, model, random)?;
+        }
         let mut midway = State::fresh(model);
         midway.run(model, random.below(whole.steps as usize + 1) as u32, usize::MAX);
         self.handed(bytes, model, &row_of(&lifted(&midway, random)), random)?;
         self.handed(bytes, model, &row_of(&with_returns(&midway, random)), random)?;
+        self.reseeded(bytes, model, &midway, random)?;
         for _ in 0..3 {
             let mut row = row_of(&midway);
             (0..random.pick(&[1, 1, 1, 2, 3])).for_each(|_| damage(random, &mut row));
@@ -103,13 +110,14 @@ impl Bench {
     fn same_move(
         &mut self,
         bytes: &[u8],
+        model: &Model,
         second: &Outcome,
         state: &State,
         limit: u32,
         room: usize,
         random: &mut Random,
     ) -> Same {
-        self.counts.answered(second);
+        self.counts.answered(model, state, second);
         self.journal.empty(room, random.below(8), random.next() as u8);
         let said = engine::move_on(self.file.content(), self.row.content_mut(), limit, self.journal.content_mut());
         let what = format!("moving an open run with limit {limit} and a journal of {room} bytes");
@@ -137,7 +145,7 @@ impl Bench {
             };
             let outcome = state.run(model, limit, room);
             let lent = room.min(outcome.journal.len() + 80 * LINE_BYTES);
-            self.same_move(bytes, &outcome, &state, limit, lent, random)?;
+            self.same_move(bytes, model, &outcome, &state, limit, lent, random)?;
             gathered.extend(&outcome.journal);
             steps += outcome.steps;
             let ended = !matches!(outcome.answer, Answer::Limit | Answer::Fault(JOURNAL));
@@ -152,6 +160,39 @@ impl Bench {
         Ok(state)
     }
 
+    /// Calls of 1 to 7 steps, each with room for one line, and for more where a step needs it: 30 comes again and again, and the
+    /// lines together are those of one long call.
+    fn paced(&mut self, bytes: &[u8], model: &Model, random: &mut Random) -> Same {
+        let mut end = State::fresh(model);
+        let whole = end.run(model, PACED, usize::MAX);
+        let pace = random.from_to(1, 7);
+        let mut state = State::fresh(model);
+        if end.seeds != state.seeds {
+            self.counts.add(PACES, pace);
+        }
+        self.row.set(&row_of(&state), random.below(8), random.next());
+        let mut gathered: Vec<u8> = Vec::new();
+        let (mut steps, mut room) = (0, LINE_BYTES);
+        loop {
+            let limit = (pace as u32).min(PACED - steps);
+            let outcome = state.run(model, limit, room);
+            self.same_move(bytes, model, &outcome, &state, limit, room, random)?;
+            gathered.extend(&outcome.journal);
+            steps += outcome.steps;
+            match outcome.answer {
+                Answer::Fault(JOURNAL) if outcome.steps == 0 => room += LINE_BYTES,
+                Answer::Fault(JOURNAL) => room = LINE_BYTES,
+                Answer::Limit if steps < PACED => room = LINE_BYTES,
+                _ => break,
+            }
+        }
+        if (&state, &gathered) != (&end, &whole.journal) {
+            let what = format!("the lines and the state of calls of {pace} steps");
+            return Err(Difference::of(what, "as the second program's", "others than those of one long call"));
+        }
+        Ok(())
+    }
+
     /// A row that is handed in: 20 exactly if it isn't sound, and then nothing is changed; else it goes on as the second program
     /// does.
     fn handed(&mut self, bytes: &[u8], model: &Model, row: &[u64], random: &mut Random) -> Same {
@@ -163,7 +204,21 @@ impl Bench {
         };
         let outcome = state.run(model, limit, usize::MAX);
         let room = outcome.journal.len() + random.below(70 * LINE_BYTES);
-        self.same_move(bytes, &outcome, &state, limit, room, random)
+        self.same_move(bytes, model, &outcome, &state, limit, room, random)
+    }
+
+    /// The run with another seed, at an edge or beyond, of a sampler or where there is none.
+    fn reseeded(&mut self, bytes: &[u8], model: &Model, state: &State, random: &mut Random) -> Same {
+        let mut row = row_of(state);
+        let samplers = model.samplers.len();
+        let place = if samplers == 0 || random.one_in(4) { random.below(16) } else { random.below(samplers) };
+        let seed = random.pick(&[0, 0, 1, 2, 2_147_483_645, 2_147_483_646, 2_147_483_647, 2_147_483_647, 1 << 31, 1 << 32]);
+        if row[SEEDS + place] == seed {
+            return Ok(());
+        }
+        row[SEEDS + place] = seed;
+        self.counts.seeded(model, place, seed);
+        self.handed(bytes, model, &row, random)
     }
 
     fn turned_away(&mut self, bytes: &[u8], row: &[u64], limit: u32, random: &mut Random) -> Same {

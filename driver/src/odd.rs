@@ -21,9 +21,14 @@ pub fn model(random: &mut Random) -> Made {
     Made { records, limit }
 }
 
+/// How many declarations the ground has.
+const GROUND: usize = 7;
+
 /// One of each thing, a class with an entity, and its body with these actions; behind them some blocks.
 fn ground(random: &mut Random, actions: Vec<Record>, blocks: usize) -> Vec<Record> {
-    let mut records = vec![declared(RES, 5), declared(BIN, 5), record(SYNC, &[]), declared(VAR, 0), class(0), entity(0, 0)];
+    let things = [declared(RES, 5), declared(BIN, 5), record(SYNC, &[]), declared(VAR, 0), sampler(0, 3, 1)];
+    let mut records = [&things[..], &[class(0), entity(0, 0)]].concat();
+    assert_eq!(records.len(), GROUND);
     for i in (1..records.len()).rev() {
         records.swap(i, random.below(i + 1));
     }
@@ -35,17 +40,27 @@ fn ground(random: &mut Random, actions: Vec<Record>, blocks: usize) -> Vec<Recor
 
 /// As many of one kind as there may be, one fewer, or one more.
 fn many(random: &mut Random) -> Vec<Record> {
-    let (kind, limit) =
-        random.pick(&[(RES, 32), (BIN, 32), (SYNC, 32), (VAR, 32), (CLASS, 64), (ENTITY, 64), (BLOCK, 256), (TRACE, 1_024)]);
+    let (kind, limit) = random.pick(&[
+        (RES, 32),
+        (BIN, 32),
+        (SYNC, 32),
+        (VAR, 32),
+        (CLASS, 64),
+        (ENTITY, 64),
+        (SAMPLER, 16),
+        (BLOCK, 256),
+        (TRACE, 1_024),
+    ]);
     let mut records = ground(random, Vec::new(), 0);
     let there = usize::from(kind != TRACE);
     let more = limit - there - 1 + random.pick(&[0, 1, 1, 2]);
-    let at = if kind < BLOCK || kind == ENTITY { random.below(6) } else { records.len() };
+    let at = if matches!(kind, BLOCK | TRACE) { records.len() } else { random.below(GROUND) };
     for _ in 0..more {
         let new = match kind {
             RES | BIN | VAR => declared(kind, random.below(4) as u32),
             CLASS => class(0),
             ENTITY => entity(0, random.below(2) as u32),
+            SAMPLER => sampler(0, random.below(4) as i32, 1 + random.below(4) as u32),
             TRACE => any_action(random),
             _ => record(kind, &[]),
         };
@@ -56,11 +71,12 @@ fn many(random: &mut Random) -> Vec<Record> {
 
 /// Any action on the ground's things that ends by itself.
 fn any_action(random: &mut Random) -> Record {
-    match random.below(5) {
+    match random.below(6) {
         0 => valued(TRACE, &literal(1)),
         1 => set(SET, 0, &literal(1)),
         2 => valued(PRIO, &literal(1)),
         3 => put(PUTB, 0, 1),
+        4 => valued(TRACE, &node(DRAW, 0)),
         _ => valued(HOLD, &literal(random.below(2) as i32)),
     }
 }
@@ -75,19 +91,31 @@ fn edges(random: &mut Random) -> Vec<Record> {
     actions.extend((0..random.below(2)).map(|_| any_action(random)));
     let mut records = ground(random, actions, blocks);
     if random.one_in(4) {
-        let at = random.below(7);
+        let at = random.below(GROUND + 1);
         records.insert(at, edge_declaration(random));
     }
     records
 }
 
 fn edge_declaration(random: &mut Random) -> Record {
-    match random.below(4) {
+    match random.below(5) {
         0 => declared(RES, random.pick(&EDGES)),
         1 => declared(BIN, random.pick(&EDGES)),
         2 => class(random.pick(&[0, 1, 2, 3, 255, 256, u16::MAX])),
+        3 => edge_sampler(random),
         _ => entity(random.pick(&[0, 0, 1, u16::MAX]), random.pick(&EDGES)),
     }
+}
+
+/// One of its fields is at an edge or beyond.
+fn edge_sampler(random: &mut Random) -> Record {
+    let lowest = random.pick(&[0, 4, -1, i32::MIN, i32::MAX - 1_000_000]);
+    let seed = random.pick(&[1, 2, 2_147_483_645]);
+    if random.one_in(2) {
+        return sampler(lowest, lowest + 3, random.pick(&[0, 0, 1, 2_147_483_646, 2_147_483_647, 2_147_483_648, u32::MAX]));
+    }
+    let by = random.pick(&[-1, -1, 0, 1, 999_999, 1_000_000, 1_000_001, i32::MIN, i32::MAX]);
+    sampler(lowest, lowest.wrapping_add(by), seed)
 }
 
 fn number(random: &mut Random) -> u16 {
@@ -136,9 +164,10 @@ fn any_tree(random: &mut Random) -> Vec<u8> {
         }
         return [node(ADD, 0).repeat(nodes / 2), literal(1).repeat(nodes - nodes / 2)].concat();
     }
-    let op = random.pick(&[LITERAL, GLOBAL, LOCAL, ADD, SUBTRACT, MULTIPLY, LESSER, GREATER, CLOCK, NEGATE, 10, 256]);
+    let op =
+        random.pick(&[LITERAL, GLOBAL, LOCAL, ADD, SUBTRACT, MULTIPLY, LESSER, GREATER, CLOCK, NEGATE, DRAW, DRAW, 11, 256]);
     let operand = match (op, random.one_in(4)) {
-        (_, true) => random.pick(&[0, 1, 7, 8, 31, 32, -1, i32::MIN, i32::MAX, 65_536]),
+        (_, true) => random.pick(&[0, 1, 7, 8, 15, 16, 31, 32, -1, i32::MIN, i32::MAX, 65_536]),
         (LITERAL, _) => random.below(5) as i32,
         _ => 0,
     };
@@ -148,7 +177,8 @@ fn any_tree(random: &mut Random) -> Vec<u8> {
         _ => 0,
     };
     let below = if random.one_in(12) { random.below(4) } else { below };
-    let leaf = random.pick(&[literal(3).as_slice(), &node(CLOCK, 0), &literal(i32::MAX), &literal(i32::MIN)]).to_vec();
+    let leaves = [literal(3), node(CLOCK, 0), literal(i32::MAX), literal(i32::MIN), node(DRAW, 0)];
+    let leaf = leaves[random.below(leaves.len())].clone();
     [node(op, operand), leaf.repeat(below)].concat()
 }
 
@@ -339,7 +369,7 @@ fn unmet(random: &mut Random) -> Vec<Record> {
         });
     }
     let mut records = ground(random, actions, 1);
-    records.insert(6, class(0));
-    records.insert(7, entity(1, 1));
+    records.insert(GROUND, class(0));
+    records.insert(GROUND + 1, entity(1, 1));
     records
 }

@@ -7,6 +7,7 @@ pub const VAR: u16 = 4;
 pub const CLASS: u16 = 5;
 pub const BLOCK: u16 = 6;
 pub const ENTITY: u16 = 7;
+pub const SAMPLER: u16 = 8;
 pub const HOLD: u16 = 16;
 pub const PRIO: u16 = 17;
 pub const SET: u16 = 18;
@@ -38,6 +39,7 @@ pub const LESSER: u16 = 6;
 pub const GREATER: u16 = 7;
 pub const CLOCK: u16 = 8;
 pub const NEGATE: u16 = 9;
+pub const DRAW: u16 = 10;
 
 /// One record with its length and kind, or any bytes where a record should be.
 pub type Record = Vec<u8>;
@@ -102,6 +104,10 @@ pub fn block() -> Record {
 
 pub fn entity(class: u16, offset: u32) -> Record {
     record(ENTITY, &[&u16_of(class), &offset.to_le_bytes()])
+}
+
+pub fn sampler(lowest: i32, highest: i32, seed: u32) -> Record {
+    record(SAMPLER, &[&lowest.to_le_bytes(), &highest.to_le_bytes(), &seed.to_le_bytes()])
 }
 
 /// HOLD, PRIO and TRACE.
@@ -204,12 +210,11 @@ pub fn names(record: &[u8]) -> Vec<Name> {
     match kind_of(record) {
         CLASS => add(4, BLOCK),
         ENTITY => add(4, CLASS),
-        HOLD | PRIO | TRACE => nodes(record, 4, &mut add),
+        HOLD | PRIO | TRACE | LSET => node_names(record, &mut add),
         SET => {
             add(4, VAR);
-            nodes(record, 6, &mut add);
+            node_names(record, &mut add);
         }
-        LSET => nodes(record, 6, &mut add),
         DO => add(6, BLOCK),
         PUTR => add(4, RES),
         PUTB => add(4, BIN),
@@ -231,12 +236,24 @@ pub fn names(record: &[u8]) -> Vec<Name> {
     found
 }
 
-fn nodes(record: &[u8], from: usize, add: &mut impl FnMut(usize, u16)) {
-    for at in (from..record.len()).step_by(6) {
-        if u16_at(record, at) == Some(GLOBAL) {
-            add(at + 2, VAR);
+fn node_names(record: &[u8], add: &mut impl FnMut(usize, u16)) {
+    for (at, op) in nodes(record) {
+        match op {
+            GLOBAL => add(at + 2, VAR),
+            DRAW => add(at + 2, SAMPLER),
+            _ => {}
         }
     }
+}
+
+/// The nodes of a record's expression, as far as it has one: where each stands, and its op.
+pub fn nodes(record: &[u8]) -> impl Iterator<Item = (usize, u16)> + '_ {
+    let from = match kind_of(record) {
+        HOLD | PRIO | TRACE => 4,
+        SET | LSET => 6,
+        _ => record.len(),
+    };
+    (from..record.len()).step_by(6).filter_map(|at| Some((at, u16_at(record, at)?)))
 }
 
 /// The claim at `at`, and where it ends.

@@ -1,10 +1,10 @@
-//! The second program's state as the row of 10,696 numbers that the desk holds of an open run, and back.
+//! The second program's state as the row of 10,712 numbers that the desk holds of an open run, and back.
 //! The layout is the one that crates/row_work/specs/Work.antt describes; no code of the engine is used.
 
 use reference::model::{Model, LOCALS};
 use reference::run::{Entered, Event, Process, Returned, Standing, State, PLACES};
 
-pub const WORDS: usize = 10_696;
+pub const WORDS: usize = 10_712;
 
 const FREE: usize = 8;
 const BINS: usize = 40;
@@ -14,7 +14,8 @@ const BLOCKED: usize = 136;
 const EVENT_KEYS: usize = 200;
 const EVENT_WORDS: usize = 328;
 const WAITING: usize = 456;
-const PROCESSES: usize = 2_504;
+pub const PROCESSES: usize = 2_504;
+pub const SEEDS: usize = 10_696;
 
 const PROCESS_WORDS: usize = 128;
 const OWN_LOCALS: usize = 4;
@@ -23,7 +24,8 @@ const BLOCKS: usize = 44;
 const SLAVES: usize = 52;
 
 /// Where each part of a row begins, from the last to the first.
-pub const PARTS: [(usize, &str); 17] = [
+pub const PARTS: [(usize, &str); 18] = [
+    (SEEDS, "the seeds"),
     (PROCESSES, "the processes"),
     (WAITING, "the waiting lists"),
     (EVENT_WORDS, "what the events do"),
@@ -59,7 +61,7 @@ pub fn part(word: isize) -> String {
 
 /// Whether a word is of a block that a process is in.
 pub fn is_standing(word: usize) -> bool {
-    word >= PROCESSES && (BLOCKS..SLAVES).contains(&((word - PROCESSES) % PROCESS_WORDS))
+    (PROCESSES..SEEDS).contains(&word) && (BLOCKS..SLAVES).contains(&((word - PROCESSES) % PROCESS_WORDS))
 }
 
 /// An i32 as its code.
@@ -88,6 +90,9 @@ pub fn row_of(state: &State) -> Vec<u64> {
     }
     for (i, n) in state.variables.iter().enumerate() {
         row[VARIABLES + i] = code(*n);
+    }
+    for (i, n) in state.seeds.iter().enumerate() {
+        row[SEEDS + i] = u64::from(*n);
     }
     waiters(state, &state.blocked_list, &mut row[BLOCKED..]);
     for (i, list) in state.waiting_lists.iter().enumerate() {
@@ -174,6 +179,7 @@ pub fn state_of(model: &Model, row: &[u64]) -> Option<State> {
         free: few(FREE, model.resources.len())?,
         bins: few(BINS, model.bins.len())?,
         variables: row[VARIABLES..][..model.variables.len()].iter().map(|n| number(*n)).collect::<Option<_>>()?,
+        seeds: few(SEEDS, model.samplers.len())?,
         event_list: (0..events).map(|i| event(row, i)).collect::<Option<_>>()?,
         blocked_list: row[BLOCKED..][..blocked].iter().map(place_of).collect(),
         waiting_lists: (0..model.syncs).map(waiting).collect::<Option<_>>()?,

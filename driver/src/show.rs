@@ -7,8 +7,8 @@ pub fn hex(bytes: &[u8]) -> String {
 }
 
 const KINDS: [&str; 31] = [
-    "", "RES", "BIN", "SYNC", "VAR", "CLASS", "BLOCK", "ENTITY", "", "", "", "", "", "", "", "", "HOLD", "PRIO", "SET",
-    "LSET", "DO", "PUTR", "PUTB", "PUTS", "BECOME", "REQ", "TRY", "WHILE", "START", "TRACE", "CLOSE",
+    "", "RES", "BIN", "SYNC", "VAR", "CLASS", "BLOCK", "ENTITY", "SAMPLER", "", "", "", "", "", "", "", "HOLD", "PRIO",
+    "SET", "LSET", "DO", "PUTR", "PUTB", "PUTS", "BECOME", "REQ", "TRY", "WHILE", "START", "TRACE", "CLOSE",
 ];
 
 /// One line for each record: its byte place, its kind and its fields; blocks, classes and so on with their numbers.
@@ -43,6 +43,7 @@ fn fields(record: &[u8]) -> Option<String> {
         VAR => format!(" value {}", at.i32()?),
         CLASS => format!(" body block {}", at.u16()?),
         ENTITY => format!(" class {} offset {}", at.u16()?, at.u32()?),
+        SAMPLER => format!(" {} to {} seed {}", at.i32()?, at.i32()?, at.u32()?),
         HOLD | PRIO | TRACE => format!(" {}", at.expression()?),
         SET => format!(" v{} = {}", at.u16()?, at.expression()?),
         LSET => format!(" l{} = {}", at.u16()?, at.expression()?),
@@ -90,6 +91,7 @@ impl At<'_> {
                 LITERAL => operand.to_string(),
                 GLOBAL => format!("v{operand}"),
                 LOCAL => format!("l{operand}"),
+                DRAW => format!("draw{operand}"),
                 _ => {
                     let names = ["add", "subtract", "multiply", "lesser", "greater", "clock", "negate"];
                     let name = names.get(usize::from(op).wrapping_sub(3)).map_or(format!("op{op}"), |n| n.to_string());

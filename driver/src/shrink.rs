@@ -63,7 +63,7 @@ impl<F: FnMut(&[u8]) -> bool> Shrinking<F> {
 
     /// Without one thing or block with its actions, and those behind it numbered anew.
     fn things(&mut self) {
-        for kind in [BLOCK, CLASS, RES, BIN, SYNC, VAR] {
+        for kind in [BLOCK, CLASS, RES, BIN, SYNC, VAR, SAMPLER] {
             let mut number = 0;
             while let Some(smaller) = without(&cut(&self.best), kind, number) {
                 if !self.offer(smaller.concat()) {

@@ -1,4 +1,5 @@
-//! Whether an open run is sound: document 01's sentence on it, clause by clause, on the second program's state.
+//! Whether an open run is sound: document 01's sentence on it, clause by clause, on the second program's state. "Every number is
+//! in its range" has a seed for each sampler, in 1..2147483646 (document 02, One).
 //! Where its words leave a choice (docs/DECISIONS.md E8 to E12, S2) the one written there is taken.
 
 use reference::model::{Action, Model};
@@ -28,6 +29,7 @@ fn in_range(model: &Model, state: &State) -> bool {
     state.clock <= 2_000_000_000
         && state.last_given <= 2_147_483_647
         && state.bins.iter().all(|amount| *amount <= 1_000_000_000)
+        && state.seeds.iter().all(|seed| (1..=2_147_483_646).contains(seed))
         && notices.count() <= 64
         && state.event_list.iter().all(|event| event_in_range(model, state, event))
         && living(state).all(|(_, process)| {

@@ -4,6 +4,7 @@ pub mod bound;
 pub mod journal;
 pub mod model;
 pub mod run;
+pub mod sampler;
 
 use bound::Bound;
 use model::Refusal;

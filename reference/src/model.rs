@@ -1,5 +1,6 @@
 //! The model file: its reader and records, the decoded model, and checks 1 to 10 in document 01's order.
 
+use crate::sampler::Sampler;
 use std::slice::from_ref;
 
 pub const SHORT: u16 = 1;
@@ -20,6 +21,7 @@ const VAR: u16 = 4;
 const CLASS: u16 = 5;
 const BLOCK: u16 = 6;
 const ENTITY: u16 = 7;
+const SAMPLER: u16 = 8;
 const HOLD: u16 = 16;
 const PRIO: u16 = 17;
 const SET: u16 = 18;
@@ -51,6 +53,7 @@ pub const LESSER: u16 = 6;
 pub const GREATER: u16 = 7;
 pub const CLOCK: u16 = 8;
 pub const NEGATE: u16 = 9;
+pub const DRAW: u16 = 10;
 
 pub const MOST_BYTES: usize = 65_535;
 pub const LOCALS: usize = 8;
@@ -157,6 +160,7 @@ pub struct Model {
     pub classes: Vec<u16>,
     pub blocks: Vec<Vec<Action>>,
     pub entities: Vec<Entity>,
+    pub samplers: Vec<Sampler>,
 }
 
 enum Record {
@@ -167,6 +171,7 @@ enum Record {
     Class(u16),
     Block,
     Entity(Entity),
+    Sampler(Sampler),
     Action(Action),
 }
 
@@ -323,6 +328,11 @@ impl<'a> Fields<'a> {
                 class: self.u16()?,
                 offset: self.u32()?,
             }),
+            SAMPLER => Record::Sampler(Sampler {
+                lowest: self.i32()?,
+                highest: self.i32()?,
+                seed: self.u32()?,
+            }),
             _ => Record::Action(self.action(kind)?),
         };
         self.0.is_empty().then_some(record)
@@ -339,7 +349,7 @@ fn trees_below(op: u16) -> usize {
 }
 
 fn is_known(kind: u16) -> bool {
-    matches!(kind, RES..=ENTITY | HOLD..=CLOSE)
+    matches!(kind, RES..=SAMPLER | HOLD..=CLOSE)
 }
 
 fn is_action(kind: u16) -> bool {
@@ -351,6 +361,7 @@ fn limit(kind: u16) -> usize {
         RES | BIN | SYNC | VAR => 32,
         CLASS | ENTITY => 64,
         BLOCK => 256,
+        SAMPLER => 16,
         _ => 1_024,
     }
 }
@@ -384,18 +395,19 @@ fn is_amount(amount: u32) -> bool {
 impl Node {
     fn values_in_set(&self) -> bool {
         match self.op {
-            LITERAL | GLOBAL | LOCAL => true,
+            LITERAL | GLOBAL | LOCAL | DRAW => true,
             ADD..=NEGATE => self.operand == 0,
             _ => false,
         }
     }
 
-    /// The operand of a global or local is an i32, so a negative one is a number not declared.
+    /// The operand of a global, local or draw is an i32, so a negative one is a number not declared.
     fn names_declared(&self, declared: &Counts) -> bool {
         let below = |count: usize| usize::try_from(self.operand).is_ok_and(|number| number < count);
         match self.op {
             GLOBAL => below(declared.of(VAR)),
             LOCAL => below(LOCALS),
+            DRAW => below(declared.of(SAMPLER)),
             _ => true,
         }
     }
@@ -428,7 +440,8 @@ fn any_twice<T: PartialEq>(names: &[T]) -> bool {
 }
 
 impl Action {
-    fn expression(&self) -> &[Node] {
+    /// No node where the action has no expression.
+    pub fn expression(&self) -> &[Node] {
         match self {
             Action::Hold(value) | Action::Prio(value) | Action::Trace(value) => value,
             Action::Set { value, .. } | Action::Lset { value, .. } => value,
@@ -526,6 +539,7 @@ impl Record {
         match self {
             Record::Res(amount) | Record::Bin(amount) => *amount <= MOST_AMOUNT,
             Record::Entity(entity) => entity.offset <= MOST_AMOUNT,
+            Record::Sampler(sampler) => sampler.values_in_set(),
             Record::Action(action) => action.values_in_set(),
             Record::Sync | Record::Var(_) | Record::Class(_) | Record::Block => true,
         }
@@ -540,7 +554,12 @@ impl Record {
             Record::Class(body) => declared.declares(BLOCK, *body),
             Record::Entity(entity) => declared.declares(CLASS, entity.class),
             Record::Action(action) => action.names_declared(declared),
-            Record::Res(_) | Record::Bin(_) | Record::Sync | Record::Var(_) | Record::Block => true,
+            Record::Res(_)
+            | Record::Bin(_)
+            | Record::Sync
+            | Record::Var(_)
+            | Record::Block
+            | Record::Sampler(_) => true,
         }
     }
 }
@@ -640,6 +659,7 @@ fn build(records: Vec<(usize, Record)>) -> Model {
             Record::Class(body) => model.classes.push(body),
             Record::Block => model.blocks.push(Vec::new()),
             Record::Entity(entity) => model.entities.push(entity),
+            Record::Sampler(sampler) => model.samplers.push(sampler),
             Record::Action(action) => {
                 model
                     .blocks

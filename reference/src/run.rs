@@ -109,6 +109,8 @@ pub struct State {
     pub free: Vec<u32>,
     pub bins: Vec<u32>,
     pub variables: Vec<i32>,
+    /// By sampler.
+    pub seeds: Vec<u32>,
 }
 
 impl State {
@@ -125,6 +127,7 @@ impl State {
             free: model.resources.clone(),
             bins: model.bins.clone(),
             variables: model.variables.clone(),
+            seeds: model.samplers.iter().map(|sampler| sampler.seed).collect(),
         };
         for entity in &model.entities {
             state.create(model, entity.class, entity.offset);
@@ -215,7 +218,7 @@ impl State {
         let priority = self.process(place).priority;
         match action {
             Action::Hold(expression) => {
-                let e = self.value(place, expression)?;
+                let e = self.value(model, place, expression)?;
                 let e = u32::try_from(e).map_err(|_| BACK)?;
                 let time = self.time_after(e)?;
                 self.pass_on(place);
@@ -224,24 +227,24 @@ impl State {
                 Ok(Vec::new())
             }
             Action::Prio(expression) => {
-                let e = self.value(place, expression)?;
+                let e = self.value(model, place, expression)?;
                 self.process_mut(place).priority = e.max(LEAST_PRIORITY);
                 self.pass_on(place);
                 Ok(Vec::new())
             }
             Action::Trace(expression) => {
-                let e = self.value(place, expression)?;
+                let e = self.value(model, place, expression)?;
                 self.pass_on(place);
                 Ok(vec![self.line(journal::TRACE, number, e)])
             }
             Action::Set { variable, value } => {
-                let e = self.value(place, value)?;
+                let e = self.value(model, place, value)?;
                 self.variables[usize::from(*variable)] = e;
                 self.pass_on(place);
                 Ok(self.walk(model))
             }
             Action::Lset { local, value } => {
-                let e = self.value(place, value)?;
+                let e = self.value(model, place, value)?;
                 self.process_mut(place).locals[usize::from(*local)] = e;
                 self.pass_on(place);
                 Ok(Vec::new())
@@ -586,19 +589,21 @@ impl State {
             .ok_or(LATE)
     }
 
-    fn value(&self, place: usize, expression: &[Node]) -> Result<i32, Fault> {
-        self.node_value(place, &mut expression.iter())
+    fn value(&mut self, model: &Model, place: usize, expression: &[Node]) -> Result<i32, Fault> {
+        self.node_value(model, place, &mut expression.iter())
     }
 
-    /// The value of the tree that begins at the next node; both sides are always evaluated.
+    /// The value of the tree that begins at the next node; both sides are always evaluated. The nodes are met in their
+    /// order, and so are the draws among them.
     fn node_value<'a>(
-        &self,
+        &mut self,
+        model: &Model,
         place: usize,
         nodes: &mut impl Iterator<Item = &'a Node>,
     ) -> Result<i32, Fault> {
         let node = nodes.next().expect("SIZE leaves whole trees");
         let operand = node.operand;
-        let mut below = || self.node_value(place, nodes).map(i64::from);
+        let mut below = || self.node_value(model, place, nodes).map(i64::from);
         let value = match node.op {
             model::LITERAL => i64::from(operand),
             model::GLOBAL => i64::from(self.variables[operand as usize]),
@@ -610,7 +615,11 @@ impl State {
             model::GREATER => below()?.max(below()?),
             model::CLOCK => i64::from(self.clock),
             model::NEGATE => -below()?,
-            _ => unreachable!("VALUE leaves the ops 0 to 9"),
+            model::DRAW => {
+                let number = operand as usize;
+                model.samplers[number].draw(&mut self.seeds[number])
+            }
+            _ => unreachable!("VALUE leaves the ops 0 to 10"),
         };
         i32::try_from(value).map_err(|_| SUM)
     }

@@ -54,6 +54,15 @@ pub fn entity(class: u16, offset: u32) -> Vec<u8> {
     )
 }
 
+pub fn sampler(lowest: i32, highest: i32, seed: u32) -> Vec<u8> {
+    let body = [
+        lowest.to_le_bytes(),
+        highest.to_le_bytes(),
+        seed.to_le_bytes(),
+    ];
+    record(8, &body.concat())
+}
+
 pub fn lit(value: i32) -> Vec<Node> {
     vec![(0, value)]
 }
@@ -68,6 +77,10 @@ pub fn local(number: i32) -> Vec<Node> {
 
 pub fn clock() -> Vec<Node> {
     vec![(8, 0)]
+}
+
+pub fn draw(sampler: i32) -> Vec<Node> {
+    vec![(10, sampler)]
 }
 
 /// An op over one or two expressions.

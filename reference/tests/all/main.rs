@@ -6,4 +6,5 @@ mod faults;
 mod plans;
 mod random;
 mod refusals;
+mod samplers;
 mod steps;

@@ -221,6 +221,49 @@ fn plan_12_ending_with_1_held() {
 }
 
 #[test]
+fn two_jobs_that_draw_from_one_sampler() {
+    // Of 4 to 7 the seeds from 1 draw 7, 5, 5, 6.
+    let first = [hold(&draw(0)), trace(&clock())];
+    let second = [hold(&draw(0)), trace(&over(4, &[draw(0), draw(0)]))];
+    prints(
+        &processes(&[sampler(4, 7, 1)], &[(0, &first), (0, &second)]),
+        &[
+            "5 2 9 -1",
+            "5 2 2 0",
+            "7 1 9 7",
+            "7 1 2 0",
+            "idle 6 bound 6",
+        ],
+    );
+}
+
+#[test]
+fn a_draw_below_0_and_a_sampler_behind_a_block() {
+    prints(
+        &one_process(&[sampler(-7, -4, 1)], &[&[hold(&draw(0))]]),
+        &["fault 22 0 bound 2"],
+    );
+    prints(&model(&[block(), sampler(4, 7, 1)]), &["refused 3 at 4"]);
+}
+
+#[test]
+fn the_10_000th_draws() {
+    // 1043618065 leaves 617022 by 1,000,001 and 618065 by 1,000,000.
+    let samplers = [sampler(0, 1_000_000, 1), sampler(0, 999_999, 1)];
+    let body = [do_rounds(9_999, 1), trace(&draw(0)), trace(&draw(1))];
+    let round = [lset(0, &over(3, &[draw(0), draw(1)]))];
+    prints(
+        &one_process(&samplers, &[&body, &round]),
+        &[
+            "0 1 9 617022",
+            "0 1 9 618065",
+            "0 1 2 0",
+            "idle 20002 bound 20002",
+        ],
+    );
+}
+
+#[test]
 fn closed_and_over_and_none() {
     prints(
         &one_process(&[], &[&[close(), hold(&lit(1))]]),

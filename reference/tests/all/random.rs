@@ -5,6 +5,7 @@ use reference::bound::Bound;
 use reference::journal::LINE_BYTES;
 use reference::model::{decode, Action, Model};
 use reference::run::{Answer, Entered, Returned, State, JOURNAL, PLACES};
+use reference::sampler::MOST_SEED;
 
 /// A plain xorshift generator, so that every test run sees the same models.
 struct Random(u64);
@@ -22,13 +23,15 @@ impl Random {
     }
 
     fn expression(&mut self) -> Vec<Node> {
-        let leaf = match self.below(4) {
+        let leaf = match self.below(5) {
             0 => global(self.below(2) as i32),
             1 => local(self.below(2) as i32),
+            2 => draw(self.below(2) as i32),
             _ => lit(self.below(5) as i32),
         };
         match self.below(4) {
-            0 => over(3 + self.word(5), &[leaf, lit(self.below(3) as i32)]),
+            0 => over(3 + self.word(5), &[leaf.clone(), lit(self.below(3) as i32)]),
+            1 => over(3 + self.word(5), &[draw(self.below(2) as i32), leaf]),
             _ => leaf,
         }
     }
@@ -113,6 +116,7 @@ impl Random {
             bin(self.below(3)),
         ];
         records.extend([sync(), sync(), var(0), var(1)]);
+        records.extend([sampler(0, 3, 1 + self.below(9)), sampler(-1, 1, MOST_SEED)]);
         records.extend((0..classes).map(|_| class(self.word(u32::from(blocks)))));
         for _ in 0..1 + self.below(6) {
             records.push(entity(self.word(u32::from(classes)), self.below(3)));
@@ -134,6 +138,11 @@ fn is_sound(model: &Model, state: &State) {
             .as_ref()
             .expect("only living processes are listed")
     };
+    assert_eq!(state.seeds.len(), model.samplers.len());
+    assert!(state
+        .seeds
+        .iter()
+        .all(|seed| (1..=MOST_SEED).contains(seed)));
     let mut listed: Vec<usize> = state.floor.into_iter().collect();
     let mut amounts = state.free.clone();
     for event in &state.event_list {

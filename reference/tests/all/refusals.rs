@@ -26,6 +26,7 @@ fn with_action(action: Vec<u8>) -> Vec<Vec<u8>> {
         bin(1),
         sync(),
         var(0),
+        sampler(4, 7, 1),
         class(0),
         block(),
         action,
@@ -34,7 +35,7 @@ fn with_action(action: Vec<u8>) -> Vec<Vec<u8>> {
 }
 
 fn action_refused(action: Vec<u8>, number: u16) {
-    refused(&with_action(action), number, 6);
+    refused(&with_action(action), number, 7);
 }
 
 fn action_passes(action: Vec<u8>) {
@@ -106,16 +107,24 @@ fn short() {
 
 #[test]
 fn kind() {
-    for kind in [0, 8, 15, 31, 256 + 6, 65_535] {
+    for kind in [0, 9, 15, 31, 256 + 6, 256 + 8, 65_535] {
         refused(&[sync(), record(kind, &[])], 2, 1);
     }
     // KIND comes before SIZE.
-    refused(&[record(8, &[1, 2, 3])], 2, 0);
+    refused(&[record(9, &[1, 2, 3])], 2, 0);
 }
 
 #[test]
 fn declaration_after_a_block_or_action_before_any() {
-    for declaration in [res(1), bin(1), sync(), var(1), class(0), entity(0, 0)] {
+    for declaration in [
+        res(1),
+        bin(1),
+        sync(),
+        var(1),
+        class(0),
+        entity(0, 0),
+        sampler(4, 7, 1),
+    ] {
         refused(&[block(), declaration], 3, 1);
     }
     for action in [
@@ -130,6 +139,8 @@ fn declaration_after_a_block_or_action_before_any() {
     }
     // PLACE comes before SIZE and VALUE.
     refused(&[block(), record(1, &[])], 3, 1);
+    refused(&[block(), record(8, &[])], 3, 1);
+    refused(&[block(), sampler(4, 7, 0)], 3, 1);
     refused(&[record(30, &[1])], 3, 0);
 }
 
@@ -141,6 +152,10 @@ fn one_more_than_a_limit() {
         records.push(declaration);
         refused(&records, 4, 32);
     }
+    let mut records = vec![sampler(4, 7, 1); 16];
+    passes(&records);
+    records.push(sampler(7, 4, 0));
+    refused(&records, 4, 16);
     let mut records = vec![class(0); 64];
     records.push(block());
     passes(&records);
@@ -184,7 +199,14 @@ fn size() {
             &[&bytes[4..], &[0][..]].concat(),
         )
     };
-    for declaration in [res(1), bin(1), var(1), class(0), entity(0, 0)] {
+    for declaration in [
+        res(1),
+        bin(1),
+        var(1),
+        class(0),
+        entity(0, 0),
+        sampler(4, 7, 1),
+    ] {
         refused(&[last_cut(declaration.clone())], 5, 0);
         refused(&[one_over(declaration)], 5, 0);
     }
@@ -229,9 +251,14 @@ fn size_of_expressions() {
     action_passes(hold(&negations(16)));
     action_refused(hold(&negations(17)), 5);
     // An unknown op is a leaf: alone it is VALUE, with a node below it SIZE.
-    action_refused(hold(&[(10, 0)]), 6);
-    action_refused(hold(&[(10, 0), (0, 1)]), 5);
-    action_refused(hold(&over(3, &[vec![(10, 0)], lit(1)])), 6);
+    action_refused(hold(&[(11, 0)]), 6);
+    action_refused(hold(&[(11, 0), (0, 1)]), 5);
+    action_refused(hold(&over(3, &[vec![(11, 0)], lit(1)])), 6);
+    // A draw is a leaf.
+    action_passes(hold(&draw(0)));
+    action_passes(hold(&over(3, &[draw(0), over(9, &[draw(0)])])));
+    action_refused(hold(&[draw(0), lit(1)].concat()), 5);
+    action_refused(hold(&over(3, &[draw(0)])), 5);
 }
 
 #[test]
@@ -277,6 +304,37 @@ fn value() {
     action_refused(hold(&[(8, 1)]), 6);
     action_refused(hold(&[(3, 1), (0, 1), (0, 1)]), 6);
     action_refused(trace(&[(9, -1), (0, 1)]), 6);
+}
+
+#[test]
+fn value_of_samplers() {
+    let last = 2_147_483_646;
+    for (lowest, highest) in [
+        (4, 7),
+        (5, 5),
+        (0, 1_000_000),
+        (-500_000, 500_000),
+        (i32::MIN, i32::MIN + 1_000_000),
+        (i32::MAX - 1_000_000, i32::MAX),
+    ] {
+        for seed in [1, 2, last] {
+            passes(&[sampler(lowest, highest, seed)]);
+        }
+        for seed in [0, last + 1, last + 2, u32::MAX] {
+            refused(&[sync(), sampler(lowest, highest, seed)], 6, 1);
+        }
+    }
+    for (lowest, highest) in [
+        (7, 6),
+        (0, 1_000_001),
+        (-500_001, 500_000),
+        (1, i32::MIN),
+        (i32::MIN, i32::MAX),
+        (i32::MAX, i32::MIN),
+        (-1, i32::MAX),
+    ] {
+        refused(&[sync(), sampler(lowest, highest, 1)], 6, 1);
+    }
 }
 
 #[test]
@@ -332,6 +390,12 @@ fn name() {
         hold(&global(-1)),
         hold(&local(-1)),
         hold(&local(8)),
+        hold(&draw(1)),
+        prio(&draw(16)),
+        trace(&draw(-1)),
+        set(0, &draw(i32::MIN)),
+        lset(0, &draw(i32::MAX)),
+        hold(&over(6, &[draw(0), draw(65_536)])),
         lset(8, &lit(1)),
         lset(0, &over(3, &[local(0), local(8)])),
         do_rounds(0, 2),
@@ -353,6 +417,16 @@ fn name() {
         action_refused(action, 8);
     }
     action_passes(lset(7, &local(7)));
+    // The last of sixteen, and one more.
+    let drawn = |number: i32| {
+        [
+            vec![sampler(4, 7, 1); 16],
+            vec![block(), hold(&draw(number))],
+        ]
+        .concat()
+    };
+    passes(&drawn(15));
+    refused(&drawn(16), 8, 17);
     // A later SIZE comes before an earlier NAME, as 8 begins when 1 to 7 all pass.
     refused(&[class(9), record(3, &[1])], 5, 1);
 }
