@@ -15,7 +15,7 @@ use Rattle.promises.specs.Moves.{global-is}
 use Rattle.base_numbers.specs.Row as Row
 use Rattle.base_numbers.specs.Limit as Limit
 use Rattle.base_numbers.specs.Code as Code
-use Rattle.base_i32.specs.Code.{valueOf, outcomeOf}
+use Rattle.base_i32.specs.Code.{valueOf, valueIn}
 use Rattle.base_i32.specs.Laws.{code-valueOf, value-fits}
 use Rattle.base_i32.specs.declared.Value.{Value}
 use Rattle.row_work.specs.Work.{workOf, Done}
@@ -25,9 +25,9 @@ use Rattle.row_process.specs.Process.{Lives, changed}
 use Rattle.act_floor.specs.Acting.{Stepped}
 use Rattle.act_floor.specs.Running.{On, on}
 use Rattle.act_floor.specs.Onward.{m, s, hand, is-sized, action-fits, after-it, passes, after-sized, passing}
-use Rattle.act_value.specs.Parts.{leaving}
+use Rattle.act_value.specs.Parts.{theValue}
 use Rattle.act_hold_prio_lset_trace.specs.Given.{Valued, worth, seedsLeft, left, Given}
-use Rattle.act_hold_prio_lset_trace.proofs.Values.{to-value, still-on, unchanged, no-value, a-value}
+use Rattle.act_hold_prio_lset_trace.proofs.Values.{to-value, answers, still-on, unchanged, no-value, a-value}
 use Rattle.act_walk.specs.Walking.{Walking, Walked}
 use Rattle.act_set_become.specs.Setting.{Setting}
 
@@ -41,11 +41,14 @@ module _ {body bs row w : List ℕ} {p i : ℕ} (v : Setting body bs row w p i) 
   abbrev pub valued : Valued body row w p
   valued = to-value given (λ f. f .1)
 
+  abbrev pub Answered : Value → Type 0
+  Answered r = (z : Valued body row w p) → r ≡ valueIn (theValue (worth z))
+
   pub global-low : i < Limit.THINGS
   global-low = omega (arith, action-fits here .0, v .acting .running .run .fits .few-vars)
 
   -- IT HAS A VALUE. With the seeds after its draws it stands there still, and goes past.
-  module _ {w₁ : List ℕ} {t : Bool} (drew : w₁ ≡ workOf (left valued t)) (has : t ≡ true) where
+  module _ {w₁ : List ℕ} {t : Bool} (drew : (z : Valued body row w p) → w₁ ≡ workOf (left z t)) (has : t ≡ true) where
     abbrev pub still : On w₁ p (SET i (v .expression))
     still = still-on given (λ f. f .1) drew has
 
@@ -76,18 +79,19 @@ module _ {body bs row w : List ℕ} {p i : ℕ} (v : Setting body bs row w p i) 
             floor-ok = is-sized still .floor-ok;
           }
 
-      pub value-set : worth valued ≡ leaving (outcomeOf r) (seedsLeft valued) → (at : ℕ) (out : List ℕ) {n : ℕ} {w′ out′ : List ℕ}
-          → r .ok ≡ true → ((z : Walking bs row y) → Walked (walk (z .run .model) (z .run .is)) n w′ at out out′)
+      pub value-set : Answered r → (at : ℕ) (out : List ℕ) {n : ℕ} {w′ out′ : List ℕ} → r .ok ≡ true
+          → ((z : Walking bs row y) → Walked (walk (z .run .model) (z .run .is)) n w′ at out out′)
           → Stepped (setGlobal (m here) (s here) p i (v .expression)) 0 n w w′ at out out′
       unfolding setGlobal _>>=_ placed-walking
-      value-set o at out {n} {w′} {out′} e walked =
+      value-set told at out {n} {w′} {out′} e walked =
           let g : Stepped (ok (walk (m here) placed)) 0 n w w′ at out out′ = (refl, walked placed-walking) in
-          rw (a-value r (seedsLeft valued) o e) g
+          rw (a-value r (seedsLeft valued) (answers given (λ f. f .1) told) e) g
 
   -- IT HAS NONE.
-  pub valueless : (r : Value) → worth valued ≡ leaving (outcomeOf r) (seedsLeft valued) → {w₁ : List ℕ}
-      → w₁ ≡ workOf (left valued (r .ok)) → (at : ℕ) (out : List ℕ) → r .ok ≡ false
+  pub valueless : (r : Value) → Answered r → {w₁ : List ℕ} → ((z : Valued body row w p) → w₁ ≡ workOf (left z (r .ok)))
+      → (at : ℕ) (out : List ℕ) → r .ok ≡ false
       → Stepped (setGlobal (m here) (s here) p i (v .expression)) No.SUM 0 w w₁ at out out
   unfolding setGlobal _>>=_
-  valueless r o drew at out e =
-      rw (no-value r (seedsLeft valued) o e) (refl, (refl, (unchanged given (λ f. f .1) drew e, refl)))
+  valueless r told drew at out e =
+      rw (no-value r (seedsLeft valued) (answers given (λ f. f .1) told) e)
+      (refl, (refl, (unchanged given (λ f. f .1) drew e, refl)))

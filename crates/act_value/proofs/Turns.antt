@@ -27,8 +27,8 @@ use Rattle.act_value.specs.declared.Tree.{Tree}
 use Rattle.act_value.specs.Parts.{drawsOf, draws-ok}
 use Rattle.act_value.specs.Reading.{Readable, Ready, worth, treeAt, Stands, Read, HasCode, Sampled, movedOn, drawnCode}
 use Rattle.act_value.specs.Reading.{pad, leafCode, ofTwo, given, theRest}
-use Rattle.act_value.proofs.Prefix.{DRAW, leafOf, twoOf, nodeBy, nodeIn, over, pile-at, Full, full-inside, Piled, over-leaf}
-use Rattle.act_value.proofs.Prefix.{over-unary, over-binary, piled-from, tree-fits, one-piled, nodes-many}
+use Rattle.act_value.proofs.Prefix.{DRAW, leafOf, twoOf, nodeBy, nodeIn, over, pile-at, Full, full-inside, Piled}
+use Rattle.act_value.proofs.Prefix.{over-leaf, over-unary, over-binary, piled-from, tree-fits, one-piled, nodes-many}
 use Rattle.act_value.proofs.Values.{leaf-value, leaf-seeds, leaf-inside, sampled, draw-value, draw-seeds}
 use Rattle.act_value.proofs.Values.{negated-value, joined-value, two-seeds}
 

@@ -29,8 +29,8 @@ abbrev pub pad : {A : Type 0} → ℕ → A → List A → List A
 pad n a xs = xs ++ replicate (n - length xs) a
 
 -- The bytes bs are an expression of the model, the rows show its variables gs and a process's locals ls by their codes, and what
--- its samplers draw from; t is the clock. (That the ops are known and the operands right is not needed to read the nodes one after
--- the other, but may be where it is done in another way.)
+-- its samplers draw from; t is the clock. (That the ops are known and the operands right is not needed to read the nodes one
+-- after the other, but may be where it is done in another way.)
 pub record Readable (bs globals locals lowest values : List ℕ) (t : ℕ) : Type 0 where
   pub model : Model
   pub gs : List ℤ
@@ -118,8 +118,8 @@ module _ {bs globals locals lowest values : List ℕ} {t : ℕ} (w : Readable bs
   abbrev pub treeAt : ℕ → Expr
   treeAt k = theTree (pile (drop k (nodes bs)))
 
-  -- That tree has been read from the seeds ds: its value, the node after it, from where on the rest is piled, and the seeds as they
-  -- are now.
+  -- That tree has been read from the seeds ds: its value, the node after it, from where on the rest is piled, and the seeds as
+  -- they are now.
   pub record Read (k : ℕ) (ds : List ℕ) (r : Tree) (seeds : List ℕ) : Type 0 where
     pub has : r .value ≡ valueIn (worth (treeAt k) ds)
     pub onward : k < r .next

@@ -51,27 +51,42 @@ same-length-3 c = search needs
 
 returns-3 : tie.Need-returns-3
 returns-3 c = λ v.
-    let r = c .before .before .before .before .before .before .before .before .value-within in
-    let e = c .before .before .before .before .before .before .before .before .before .before .clock-of .ensures .0 (shown (v .on) tt) in
-    let yes = not-false _ (c .before .before .before .before .if1 .left) in
-    let low = c .before .before .if2 .left in
+    let else2 = c .before .before in
+    let else1 = else2 .before .before in
+    let at-value-within = else1 .before .before .before .before in
+    let at-clock-of = at-value-within .before .before in
+    let r = at-value-within .value-within in
+    let e = at-clock-of .clock-of .ensures .0 (shown (v .on) tt) in
+    let yes = not-false _ (else1 .if1 .left) in
+    let low = else2 .if2 .left in
     hold-is-late v (r .result) (answers v (λ f. f) (r .ensures .0)) yes low _ refl
     (unchanged v (λ f. f) (r .ensures .1) (is-above _ _ (r .result) yes low (c .if3 .taken))) (omega (arith, e, c .if3 .taken))
 
 past-requires : tie.Need-past-requires
 past-requires c κs =
-    let r = c .before .before .before .before .before .before .before .before .before .value-within in
-    let yes = not-false _ (c .before .before .before .before .before .if1 .left) in
-    let k = is-within _ _ (r .result) yes (c .before .before .before .if2 .left) (c .before .if3 .left) in
-    passing (still-on (c .before .before .before .before .before .before .before .before .before .before .before .before .before .before .before .before .pre) (λ f. f) (r .ensures .1) k)
+    let else3 = c .before in
+    let else2 = else3 .before .before in
+    let else1 = else2 .before .before in
+    let at-value-within = else1 .before .before .before .before in
+    let start = at-value-within .before .before .before .before .before .before .before in
+    let r = at-value-within .value-within in
+    let yes = not-false _ (else1 .if1 .left) in
+    let k = is-within _ _ (r .result) yes (else2 .if2 .left) (else3 .if3 .left) in
+    passing (still-on (start .pre) (λ f. f) (r .ensures .1) k)
 
 leave-floor-requires : tie.Need-leave-floor-requires
 leave-floor-requires c κs =
-    let r = c .before .before .before .before .before .before .before .before .before .before .before .before .before .value-within in
-    let yes = not-false _ (c .before .before .before .before .before .before .before .before .before .if1 .left) in
-    let k = is-within _ _ (r .result) yes (c .before .before .before .before .before .before .before .if2 .left) (c .before .before .before .before .before .if3 .left) in
-    let v = still-on (c .before .before .before .before .before .before .before .before .before .before .before .before .before .before .before .before .before .before .before .before .pre) (λ f. f) (r .ensures .1) k in
-    leaving v (c .before .before .before .past .ensures (passing v))
+    let at-past = c .before .before .before in
+    let else3 = at-past .before .before in
+    let else2 = else3 .before .before in
+    let else1 = else2 .before .before in
+    let at-value-within = else1 .before .before .before .before in
+    let start = at-value-within .before .before .before .before .before .before .before in
+    let r = at-value-within .value-within in
+    let yes = not-false _ (else1 .if1 .left) in
+    let k = is-within _ _ (r .result) yes (else2 .if2 .left) (else3 .if3 .left) in
+    let v = still-on (start .pre) (λ f. f) (r .ensures .1) k in
+    leaving v (at-past .past .ensures (passing v))
 
 cast-wake : tie.Need-cast-wake
 cast-wake c = search needs
@@ -81,13 +96,20 @@ add-wake c = search needs
 
 wake-requires : tie.Need-wake-requires
 wake-requires c κs =
-    let start = c .before .before .before .before .before .before .before .before .before .before .before .before .before .before .before .before .before .before .before .before .before .before .before .before .before in
-    let r = c .before .before .before .before .before .before .before .before .before .before .before .before .before .before .before .before .before .before .value-within in
-    let e = c .before .before .before .before .before .before .before .before .before .before .before .before .before .before .before .before .before .before .before .before .clock-of .ensures .0 (shown (start .pre .on) tt) in
-    let high = c .before .before .before .before .before .before .before .before .before .before .if3 .left in
-    let k = is-within _ _ (r .result) (not-false _ (c .before .before .before .before .before .before .before .before .before .before .before .before .before .before .if1 .left)) (c .before .before .before .before .before .before .before .before .before .before .before .before .if2 .left) high in
+    let at-leave-floor = c .before .before .before .before in
+    let at-past = at-leave-floor .before .before .before .before in
+    let else3 = at-past .before .before in
+    let else2 = else3 .before .before in
+    let else1 = else2 .before .before in
+    let at-value-within = else1 .before .before .before .before in
+    let at-clock-of = at-value-within .before .before in
+    let start = at-clock-of .before .before .before .before .before in
+    let r = at-value-within .value-within in
+    let e = at-clock-of .clock-of .ensures .0 (shown (start .pre .on) tt) in
+    let high = else3 .if3 .left in
+    let k = is-within _ _ (r .result) (not-false _ (else1 .if1 .left)) (else2 .if2 .left) high in
     let v = still-on (start .pre) (λ f. f) (r .ensures .1) k in
-    waking v (c .before .before .before .before .leave-floor .ensures (leaving v (c .before .before .before .before .before .before .before .before .past .ensures (passing v)))) _
+    waking v (at-leave-floor .leave-floor .ensures (leaving v (at-past .past .ensures (passing v)))) _
     (omega (arith, e)) (omega (arith, high))
 
 same-length-4 : tie.Need-same-length-4
@@ -95,15 +117,23 @@ same-length-4 c = search needs
 
 returns-4 : tie.Need-returns-4
 returns-4 c = λ v.
-    let r = c .before .before .before .before .before .before .before .before .before .before .before .before .before .before .before .before .before .before .before .before .before .value-within in
-    let e = c .before .before .before .before .before .before .before .before .before .before .before .before .before .before .before .before .before .before .before .before .before .before .before .clock-of .ensures .0 (shown (v .on) tt) in
-    let yes = not-false _ (c .before .before .before .before .before .before .before .before .before .before .before .before .before .before .before .before .before .if1 .left) in
-    let low = c .before .before .before .before .before .before .before .before .before .before .before .before .before .before .before .if2 .left in
-    let high = c .before .before .before .before .before .before .before .before .before .before .before .before .before .if3 .left in
+    let at-wake = c .before .before in
+    let at-leave-floor = at-wake .before .before .before .before .before in
+    let at-past = at-leave-floor .before .before .before .before in
+    let else3 = at-past .before .before in
+    let else2 = else3 .before .before in
+    let else1 = else2 .before .before in
+    let at-value-within = else1 .before .before .before .before in
+    let at-clock-of = at-value-within .before .before in
+    let r = at-value-within .value-within in
+    let e = at-clock-of .clock-of .ensures .0 (shown (v .on) tt) in
+    let yes = not-false _ (else1 .if1 .left) in
+    let low = else2 .if2 .left in
+    let high = else3 .if3 .left in
     let o = still-on v (λ f. f) (r .ensures .1) (is-within _ _ (r .result) yes low high) in
-    let f = c .before .before .before .before .before .before .before .leave-floor .ensures (leaving o (c .before .before .before .before .before .before .before .before .before .before .before .past .ensures (passing o))) in
+    let f = at-leave-floor .leave-floor .ensures (leaving o (at-past .past .ensures (passing o))) in
     held v (r .result) (answers v (λ f. f) (r .ensures .0)) yes low _ (omega (arith, e)) (omega (arith, high))
-    (c .before .before .wake .ensures (waking o f _ (omega (arith, e)) (omega (arith, high))))
+    (at-wake .wake .ensures (waking o f _ (omega (arith, e)) (omega (arith, high))))
 
 pub hold-spec : {M : Type 1} → statement M
 hold-spec =

@@ -29,32 +29,45 @@ greater-requires c κs = search needs
 
 past-requires : tie.Need-past-requires
 past-requires c κs =
-    let r = c .before .before .before .before .before .before .value-in in
-    passing (still-on (c .before .before .before .before .before .before .before .before .before .before .before .pre) (λ f. f) (r .ensures .1) (not-false (r .result .ok) (c .before .before .if1 .left)))
+    let else1 = c .before .before in
+    let at-value-in = else1 .before .before .before .before in
+    let start = at-value-in .before .before .before .before .before in
+    let r = at-value-in .value-in in
+    passing (still-on (start .pre) (λ f. f) (r .ensures .1) (not-false (r .result .ok) (else1 .if1 .left)))
 
 cast-set-priority : tie.Need-cast-set-priority
 cast-set-priority c = search needs
 
 set-priority-requires : tie.Need-set-priority-requires
 set-priority-requires c κs =
-    let r = c .before .before .before .before .before .before .before .before .before .before .value-in in
-    let v = still-on (c .before .before .before .before .before .before .before .before .before .before .before .before .before .before .before .pre) (λ f. f) (r .ensures .1) (not-false (r .result .ok) (c .before .before .before .before .before .before .if1 .left)) in
-    raising v (r .result .code) _ (search needs) (c .before .before .before .before .before .greater .ensures) (c .before .before .before .past .ensures (passing v))
+    let at-past = c .before .before .before in
+    let at-greater = at-past .before .before in
+    let else1 = at-greater .before in
+    let at-value-in = else1 .before .before .before .before in
+    let start = at-value-in .before .before .before .before .before in
+    let r = at-value-in .value-in in
+    let v = still-on (start .pre) (λ f. f) (r .ensures .1) (not-false (r .result .ok) (else1 .if1 .left)) in
+    raising v (r .result .code) _ (search needs) (at-greater .greater .ensures) (at-past .past .ensures (passing v))
 
 same-length-2 : tie.Need-same-length-2
 same-length-2 c = search needs
 
 returns-2 : tie.Need-returns-2
 returns-2 c = λ v.
-    let at-struct-known = c .before .before .before .before .before .before .before .before .before .before in
-    let r = c .before .before .before .before .before .before .before .before .before .before .before .before .before .value-in in
-    let yes = not-false (r .result .ok) (c .before .before .before .before .before .before .before .before .before .if1 .left) in
+    let at-set-priority = c .before .before in
+    let at-past = at-set-priority .before .before .before .before in
+    let at-greater = at-past .before .before in
+    let else1 = at-greater .before in
+    let at-struct-known = else1 .before in
+    let at-value-in = at-struct-known .before .before .before in
+    let r = at-value-in .value-in in
+    let yes = not-false (r .result .ok) (else1 .if1 .left) in
     let o = still-on v (λ f. f) (r .ensures .1) yes in
     let l : r .result .code < Code.CODES = omega (arith, at-struct-known .struct-known) in
-    let g = c .before .before .before .before .before .before .before .before .greater .ensures in
-    let d = raising o (r .result .code) _ l g (c .before .before .before .before .before .before .past .ensures (passing o)) in
+    let g = at-greater .greater .ensures in
+    let d = raising o (r .result .code) _ l g (at-past .past .ensures (passing o)) in
     prioritized v (r .result) (answers v (λ f. f) (r .ensures .0)) yes
-    (c .before .before .set-priority .ensures d ∙ raised-is o (r .result .code) _ l g)
+    (at-set-priority .set-priority .ensures d ∙ raised-is o (r .result .code) _ l g)
 
 pub prio-spec : {M : Type 1} → statement M
 prio-spec =

@@ -23,29 +23,40 @@ returns c = λ v.
 
 past-requires : tie.Need-past-requires
 past-requires c κs =
-    let r = c .before .before .before .before .before .value-in in
-    passing (still-on (c .before .before .before .before .before .before .before .before .before .before .pre) (λ f. f .1) (r .ensures .1) (not-false (r .result .ok) (c .before .if1 .left)))
+    let else1 = c .before in
+    let at-value-in = else1 .before .before .before .before in
+    let start = at-value-in .before .before .before .before .before in
+    let r = at-value-in .value-in in
+    passing (still-on (start .pre) (λ f. f .1) (r .ensures .1) (not-false (r .result .ok) (else1 .if1 .left)))
 
 cast-set-local : tie.Need-cast-set-local
 cast-set-local c = search needs
 
 set-local-requires : tie.Need-set-local-requires
 set-local-requires c κs =
-    let r = c .before .before .before .before .before .before .before .before .before .before .value-in in
-    let v = still-on (c .before .before .before .before .before .before .before .before .before .before .before .before .before .before .before .pre) (λ f. f .1) (r .ensures .1) (not-false (r .result .ok) (c .before .before .before .before .before .before .if1 .left)) in
-    storing v (r .result .code) (search needs) (c .before .before .before .before .past .ensures (passing v))
+    let at-past = c .before .before .before .before in
+    let else1 = at-past .before .before in
+    let at-value-in = else1 .before .before .before .before in
+    let start = at-value-in .before .before .before .before .before in
+    let r = at-value-in .value-in in
+    let v = still-on (start .pre) (λ f. f .1) (r .ensures .1) (not-false (r .result .ok) (else1 .if1 .left)) in
+    storing v (r .result .code) (search needs) (at-past .past .ensures (passing v))
 
 same-length-2 : tie.Need-same-length-2
 same-length-2 c = search needs
 
 returns-2 : tie.Need-returns-2
 returns-2 c = λ v.
-    let r = c .before .before .before .before .before .before .before .before .before .before .before .before .before .value-in in
-    let yes = not-false (r .result .ok) (c .before .before .before .before .before .before .before .before .before .if1 .left) in
+    let at-set-local = c .before .before in
+    let at-past = at-set-local .before .before .before .before .before in
+    let else1 = at-past .before .before in
+    let at-value-in = else1 .before .before .before .before in
+    let r = at-value-in .value-in in
+    let yes = not-false (r .result .ok) (else1 .if1 .left) in
     let o = still-on v (λ f. f .1) (r .ensures .1) yes in
-    let d = storing o (r .result .code) (search needs) (c .before .before .before .before .before .before .before .past .ensures (passing o)) in
+    let d = storing o (r .result .code) (search needs) (at-past .past .ensures (passing o)) in
     local-set v (r .result) (answers v (λ f. f .1) (r .ensures .0)) yes _
-    (c .before .before .set-local .ensures d ∙ stored-is o (r .result .code) (search needs))
+    (at-set-local .set-local .ensures d ∙ stored-is o (r .result .code) (search needs))
 
 pub set-local-spec : {M : Type 1} → statement M
 set-local-spec =

@@ -29,8 +29,11 @@ note-requires c κs =
 
 past-requires : tie.Need-past-requires
 past-requires c κs =
-    let r = c .before .before .before .before .before .before .before .before .before .before .value-in in
-    passing (still-on (c .before .before .before .before .before .before .before .before .before .before .before .before .before .before .before .before .pre .0) (λ f. f) (r .ensures .1) (not-false (r .result .ok) (c .before .before .before .before .before .before .if1 .left)))
+    let else1 = c .before .before .before .before .before .before in
+    let at-value-in = else1 .before .before .before .before in
+    let start = at-value-in .before .before .before .before .before .before in
+    let r = at-value-in .value-in in
+    passing (still-on (start .pre .0) (λ f. f) (r .ensures .1) (not-false (r .result .ok) (else1 .if1 .left)))
 
 same-length-2 : tie.Need-same-length-2
 same-length-2 c = search needs
@@ -40,11 +43,15 @@ same-length-3 c = search needs
 
 returns-2 : tie.Need-returns-2
 returns-2 c = λ v.
-    let r = c .before .before .before .before .before .before .before .before .before .before .before .before .before .value-in in
-    let yes = not-false (r .result .ok) (c .before .before .before .before .before .before .before .before .before .if1 .left) in
+    let at-past = c .before .before in
+    let at-note = at-past .before .before .before .before in
+    let else1 = at-note .before .before .before in
+    let at-value-in = else1 .before .before .before .before in
+    let r = at-value-in .value-in in
+    let yes = not-false (r .result .ok) (else1 .if1 .left) in
     let o = still-on v (λ f. f) (r .ensures .1) yes in
-    traced v (r .result) (answers v (λ f. f) (r .ensures .0)) yes (c .before .before .past .ensures (passing o)) _ _
-    (c .before .before .before .before .before .before .note .ensures (shown o (low o)))
+    traced v (r .result) (answers v (λ f. f) (r .ensures .0)) yes (at-past .past .ensures (passing o)) _ _
+    (at-note .note .ensures (shown o (low o)))
 
 pub trace-spec : {M : Type 1} → statement M
 trace-spec =

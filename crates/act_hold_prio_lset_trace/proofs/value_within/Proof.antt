@@ -12,15 +12,20 @@ evaluated-requires : tie.Need-evaluated-requires
 evaluated-requires c κs = search needs
 
 keep-seeds-requires : tie.Need-keep-seeds-requires
-keep-seeds-requires c κs = run-long (c .before .before .before .before .before .before .before .before .before .before .before .before .before .pre .running)
+keep-seeds-requires c κs =
+    let start = c .before .before .before .before .before .before .before .before .before .before .before .before .before in
+    run-long (start .pre .running)
 
 same-length : tie.Need-same-length
 same-length c = search needs
 
 returns : tie.Need-returns
 returns c =
-    let r = c .before .before .before .before .before .before .before .before .evaluated in
-    (r .ensures .0, λ v. work-kept v (c .before .before .keep-seeds .ensures) (r .ensures .1 v) (c .before .before .before .before .if1 .taken))
+    let at-keep-seeds = c .before .before in
+    let then1 = at-keep-seeds .before .before in
+    let at-evaluated = then1 .before .before .before .before in
+    let r = at-evaluated .evaluated in
+    (r .ensures .0, λ v. work-kept v (at-keep-seeds .keep-seeds .ensures) (r .ensures .1 v) (then1 .if1 .taken))
 
 same-length-2 : tie.Need-same-length-2
 same-length-2 c = search needs

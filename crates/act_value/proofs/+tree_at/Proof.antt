@@ -62,7 +62,9 @@ tree-at-draw-requires t c κs = let o = c .before .before .before .before .befor
     (w .seeds-ok)
 
 tree-at-add-t21 : (t : ℕ) → tree-at-lts.Need-add-t21 (tree-at-claims t) (tree-at-at t) tree-at.Post
-tree-at-add-t21 t c = omega (arith, c .before .before .before .before .before .before .before .before .before .before .pre .1 .1)
+tree-at-add-t21 t c =
+    let start = c .before .before .before .before .before .before .before .before .before .before in
+    omega (arith, start .pre .1 .1)
 
 tree-at-returns : (t : ℕ) → tree-at-lts.Need-returns (tree-at-claims t) (tree-at-at t) tree-at.Post
 tree-at-returns t c = let o = c .before .before .before .before .before .before .before .before .before .before in
@@ -82,7 +84,9 @@ tree-at-leaf-requires t c κs = let o = c .before .before .before .before .befor
     (w .to-read .clock-ok, leaf-indexed (w .to-read) (o .args .k) (o .pre .1 .1) (d .result) (d .ensures) e)
 
 tree-at-add-t23 : (t : ℕ) → tree-at-lts.Need-add-t23 (tree-at-claims t) (tree-at-at t) tree-at.Post
-tree-at-add-t23 t c = omega (arith, c .before .before .before .before .before .before .before .before .before .before .before .pre .1 .1)
+tree-at-add-t23 t c =
+    let start = c .before .before .before .before .before .before .before .before .before .before .before in
+    omega (arith, start .pre .1 .1)
 
 tree-at-returns-2 : (t : ℕ) → tree-at-lts.Need-returns-2 (tree-at-claims t) (tree-at-at t) tree-at.Post
 tree-at-returns-2 t c = let o = c .before .before .before .before .before .before .before .before .before .before .before in
@@ -92,52 +96,85 @@ tree-at-returns-2 t c = let o = c .before .before .before .before .before .befor
     (c .before .before .before .if1 .left) (c .leaf .result) (c .leaf .ensures)
 
 tree-at-add-tree-at : (t : ℕ) → tree-at-lts.Need-add-tree-at (tree-at-claims t) (tree-at-at t) tree-at.Post
-tree-at-add-tree-at t c = omega (arith, c .before .before .before .before .before .before .before .before .before .before .before .pre .1 .1)
+tree-at-add-tree-at t c =
+    let start = c .before .before .before .before .before .before .before .before .before .before .before in
+    omega (arith, start .pre .1 .1)
 
 tree-at-tree-at-requires : (t : ℕ) → tree-at-lts.Need-tree-at-requires (tree-at-claims t) (tree-at-at t) tree-at.Post
-tree-at-tree-at-requires t c κs = let o = c .before .before .before .before .before .before .before .before .before .before .before in
+tree-at-tree-at-requires t c κs =
+    let else2 = c .before in
+    let at-operands = else2 .before in
+    let at-node-at = at-operands .before .before .before in
+    let start = at-node-at .before .before .before .before .before .before in
+    let o = start in
     let p = o .pre .1 in
-    let d = c .before .before .before .before .before .node-at in
-    let n = c .before .before .operands .ensures .0 in
-    let i = first-inside (p .0 .to-read) (o .args .k) (p .1) (d .result) (d .ensures) (λ e. c .before .if2 .left (n ∙ e)) in
+    let d = at-node-at .node-at in
+    let n = at-operands .operands .ensures .0 in
+    let i = first-inside (p .0 .to-read) (o .args .k) (p .1) (d .result) (d .ensures) (λ e. else2 .if2 .left (n ∙ e)) in
     (omega (arith, i, o .pre .0), (p .0, i))
 
 tree-at-negated-requires : (t : ℕ) → tree-at-lts.Need-negated-requires (tree-at-claims t) (tree-at-at t) tree-at.Post
 tree-at-negated-requires t c κs = search needs
 
 tree-at-returns-3 : (t : ℕ) → tree-at-lts.Need-returns-3 (tree-at-claims t) (tree-at-at t) tree-at.Post
-tree-at-returns-3 t c = let o = c .before .before .before .before .before .before .before .before .before .before .before .before .before .before in
-    let d = c .before .before .before .before .before .before .before .before .node-at in
-    let r = c .before .before .tree-at in
-    let e = sym (c .before .before .before .before .before .operands .ensures .0) ∙ c .before .if3 .taken in
+tree-at-returns-3 t c =
+    let then3 = c .before in
+    let at-tree-at = then3 .before in
+    let at-operands = at-tree-at .before .before .before in
+    let at-node-at = at-operands .before .before .before in
+    let start = at-node-at .before .before .before .before .before .before in
+    let o = start in
+    let d = at-node-at .node-at in
+    let r = at-tree-at .tree-at in
+    let e = sym (at-operands .operands .ensures .0) ∙ then3 .if3 .taken in
     λ w. one-read (w .to-read) (o .args .k) (o .pre .1 .1) (d .result) (d .ensures) (w .ds) _ (r .result) (r .ensures w) e
     (c .negated .result) (c .negated .ensures)
 
 tree-at-tree-at-requires-2 : (t : ℕ) → tree-at-lts.Need-tree-at-requires-2 (tree-at-claims t) (tree-at-at t) tree-at.Post
-tree-at-tree-at-requires-2 t c κs = let o = c .before .before .before .before .before .before .before .before .before .before .before .before .before .before in
+tree-at-tree-at-requires-2 t c κs =
+    let else3 = c .before in
+    let at-tree-at = else3 .before in
+    let else2 = at-tree-at .before .before in
+    let at-operands = else2 .before in
+    let at-node-at = at-operands .before .before .before in
+    let start = at-node-at .before .before .before .before .before .before in
+    let o = start in
     let w = o .pre .1 .0 in
-    let d = c .before .before .before .before .before .before .before .before .node-at in
-    let r = c .before .before .tree-at in
-    let n = c .before .before .before .before .before .operands .ensures .0 in
-    let e = takes-two (d .result .op) _ n (c .before .before .before .before .if2 .left) (c .before .if3 .left) in
+    let d = at-node-at .node-at in
+    let r = at-tree-at .tree-at in
+    let n = at-operands .operands .ensures .0 in
+    let e = takes-two (d .result .op) _ n (else2 .if2 .left) (else3 .if3 .left) in
     let i = r .ensures w in
     let h = second-inside (w .to-read) (o .args .k) (o .pre .1 .1) (d .result) (d .ensures) (w .ds) _ (r .result) i e in
     (omega (arith, h, o .pre .0, i .onward), (then-ready w (o .args .k) (r .result) i, h))
 
 tree-at-of-two-requires : (t : ℕ) → tree-at-lts.Need-of-two-requires (tree-at-claims t) (tree-at-at t) tree-at.Post
-tree-at-of-two-requires t c κs = let d = c .before .before .before .before .before .before .before .before .before .before .before .node-at in
-    let n = c .before .before .before .before .before .before .before .before .operands .ensures .0 in
-    two-from-3 (d .result .op) (takes-two (d .result .op) _ n (c .before .before .before .before .before .before .before .if2 .left) (c .before .before .before .before .if3 .left))
+tree-at-of-two-requires t c κs =
+    let else3 = c .before .before .before .before in
+    let else2 = else3 .before .before .before in
+    let at-operands = else2 .before in
+    let at-node-at = at-operands .before .before .before in
+    let d = at-node-at .node-at in
+    let n = at-operands .operands .ensures .0 in
+    two-from-3 (d .result .op) (takes-two (d .result .op) _ n (else2 .if2 .left) (else3 .if3 .left))
 
 tree-at-returns-4 : (t : ℕ) → tree-at-lts.Need-returns-4 (tree-at-claims t) (tree-at-at t) tree-at.Post
-tree-at-returns-4 t c = let second = c .before .before .before in
-    let first = c .before .before .before .before .before .before in
-    let o = c .before .before .before .before .before .before .before .before .before .before .before .before .before .before .before .before .before .before in
-    let d = c .before .before .before .before .before .before .before .before .before .before .before .before .node-at in
+tree-at-returns-4 t c =
+    let at-tree-at2 = c .before .before .before in
+    let else3 = at-tree-at2 .before .before in
+    let at-tree-at = else3 .before in
+    let else2 = at-tree-at .before .before in
+    let at-operands = else2 .before in
+    let at-node-at = at-operands .before .before .before in
+    let start = at-node-at .before .before .before .before .before .before in
+    let second = at-tree-at2 in
+    let first = at-tree-at in
+    let o = start in
+    let d = at-node-at .node-at in
     let r = first .tree-at in
     let r′ = second .tree-at2 in
-    let n = c .before .before .before .before .before .before .before .before .before .operands .ensures .0 in
-    let e = takes-two (d .result .op) _ n (c .before .before .before .before .before .before .before .before .if2 .left) (c .before .before .before .before .before .if3 .left) in
+    let n = at-operands .operands .ensures .0 in
+    let e = takes-two (d .result .op) _ n (else2 .if2 .left) (else3 .if3 .left) in
     λ w. two-read (w .to-read) (o .args .k) (o .pre .1 .1) (d .result) (d .ensures) (w .ds) _ (r .result) (r .ensures w) e
     (r′ .result) _ (r′ .ensures (then-ready w (o .args .k) (r .result) (r .ensures w))) (c .of-two .result) (c .of-two .ensures)
 

@@ -13,11 +13,13 @@ rem-result : tie.Need-rem-result
 rem-result c = search needs
 
 cast-result : tie.Need-cast-result
-cast-result c = let b = mod-lt (c .before .args .seed) {m = c .wide .result} (omega (arith, c .wide .ensures .0, c .before .pre .0)) in
+cast-result c =
+    let b = mod-lt (c .before .args .seed) {m = c .wide .result} (omega (arith, c .wide .ensures .0, c .before .pre .0)) in
     omega (arith, c .wide .ensures .0)
 
 add-result : tie.Need-add-result
-add-result c = let b = mod-lt (c .before .args .seed) {m = c .wide .result} (omega (arith, c .wide .ensures .0, c .before .pre .0)) in
+add-result c =
+    let b = mod-lt (c .before .args .seed) {m = c .wide .result} (omega (arith, c .wide .ensures .0, c .before .pre .0)) in
     omega (arith, c .wide .ensures .0, c .before .pre .1)
 
 returns : tie.Need-returns
