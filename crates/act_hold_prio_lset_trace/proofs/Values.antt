@@ -3,9 +3,9 @@ use Prim.Native.Nat.{ℕ, _+_, _-_, _*_, _≤_, _<_}
 use native.Mathlib.Omega.{arith}
 use mathlib.Core.Path.{_≡_, refl, sym, _∙_, ap}
 use mathlib.Core.List as Lists
-use mathlib.Core.List.{List, _++_}
+use mathlib.Core.List.{List, [], _∷_, _++_}
 use mathlib.Core.Bool.{Bool, true, false, _&&_}
-use lib.ListN.{length, getD, take, drop, length-drop}
+use lib.ListN.{length, getD, take, drop, replicate, length-drop}
 use lib.Seq.{getD-take, getD-drop, length-take-le}
 use lib.IntN.{ℤ, pos}
 use lib.Signed.{nonNeg}
@@ -14,11 +14,12 @@ use lib.Dec.{leb}
 use Rattle.semantics.specs.Words.{if_then_else_, Outcome, ok, fails, _>>=_}
 use Rattle.semantics.specs.Numbers as No
 use Rattle.semantics.specs.Model.{Expr, Action, Model}
-use Rattle.semantics.specs.State.{State, Process, process}
+use Rattle.semantics.specs.State.{State, Process, process, with-seeds}
 use Rattle.semantics.specs.Record.{expressionIn}
 use Rattle.semantics.specs.Value as Worth
 use Rattle.promises.specs.Fit.{ExprFit, ActFit}
-use Rattle.promises.specs.Sound.{al, Fine}
+use Rattle.promises.specs.Laws.{AllOf}
+use Rattle.promises.specs.Sound.{al, Fine, Seed}
 use Rattle.promises.specs.Moves.{proc-at}
 use Rattle.base_numbers.specs.Row as Row
 use Rattle.base_numbers.specs.Map as Map
@@ -135,6 +136,44 @@ module _ {body map w : List ℕ} {p : ℕ} (v : Valued body map w p) where
 
   pub work-as-it-was : {t : Bool} → t ≡ false → w ≡ workOf (left v t)
   work-as-it-was k = rw k (v .running .run .shows)
+
+  -- WHERE THE FIRST SEED IS 0 there is no sampler: none is copied, and none is left, whether kept or not.
+  module _ (z : getD w Row.SEEDS 0 ≡ 0) where
+    no-seeds : s .seeds ≡ []
+    no-seeds = go (s .seeds) (v .running .sound .seeds-ok .each) refl
+      where
+        stands : getD (pad Limit.SAMPLERS (s .seeds)) 0 0 ≡ 0
+        stands =
+            ap (λ l. getD l 0 0) (sym (copied (v .running) refl)) ∙ getD-drop Row.SEEDS w 0 0 ∙ z
+
+        go : (d : List ℕ) → AllOf Seed d → s .seeds ≡ d → s .seeds ≡ []
+        go [] o e = e
+        go (n ∷ d) o e =
+            let a : n ≡ 0 = ap (λ l. getD (pad Limit.SAMPLERS l) 0 0) (sym e) ∙ stands in
+            let b = o .0 in
+            absurd (omega arith)
+
+    pub none-copied : replicate Limit.SAMPLERS 0 ≡ drop Row.SEEDS w
+    none-copied = sym (copied (v .running) refl ∙ ap (pad Limit.SAMPLERS) no-seeds)
+
+    pub none-kept : (t : Bool) → w ≡ workOf (left v t)
+    none-kept false = v .running .run .shows
+    none-kept true = v .running .run .shows ∙ ap workOf (ap (with-seeds s) (no-seeds ∙ sym still-none))
+      where
+        many : length (seedsLeft v) ≡ 0
+        many =
+            let o = v .running .sound .seeds-ok in
+            let a = draws-ok m (v .expression) (v .expression-fits) (s .seeds) o .many in
+            let b = o .many in
+            let e = ap length no-seeds in
+            omega arith
+
+        none : (d : List ℕ) → length d ≡ 0 → d ≡ []
+        none [] e = refl
+        none (n ∷ d) e = absurd (omega arith)
+
+        still-none : seedsLeft v ≡ []
+        still-none = none (seedsLeft v) many
 
   -- SUCH AN ANSWER tells the outcome that the definitions have, with the seeds that they leave.
   abbrev alone : Outcome ℤ

@@ -56,7 +56,7 @@ fn evaluated<'a>(
 
 // The same, with the seeds in the work: they move on only where the value's code is one of low..high, so that a fault that the
 // value leads to leaves them.
-fn value_within<'a>(
+fn value_drawn<'a>(
     body: &'a [u8],
     map: &'a [u32],
     w: &'a mut [u64],
@@ -76,6 +76,28 @@ fn value_within<'a>(
         row_work::keep_seeds(w, seeds);
     }
     value
+}
+
+// The same. Where the first seed is 0 there is no sampler, and no seed to copy: this saves a tenth of a step.
+fn value_within<'a>(
+    body: &'a [u8],
+    map: &'a [u32],
+    w: &'a mut [u64],
+    p: usize,
+    low: u32,
+    high: u32,
+) -> Value
+    requires { ⌜ Valued (now body) (now map) (now w) p ⌝ }
+    ensures { λ r. ⌜ ((v : Valued (now (body .entry)) (now (map .entry)) (now (w .entry)) p)
+        → r ≡ valueIn (theValue (worth v))) ⌝ }
+    ensures { λ r. ⌜ ((v : Valued (now (body .entry)) (now (map .entry)) (now (w .entry)) p)
+        → now (w .exit) ≡ workOf (left v (isWithin low high r))) ⌝ }
+{
+    if w[row::SEEDS] == 0 {
+        let mut none = [0u64; limit::SAMPLERS];
+        return evaluated(body, map, w, p, &mut none);
+    }
+    value_drawn(body, map, w, p, low, high)
 }
 
 // The value of the expression in `body`, for the process in place p. If it has one, its draws are made.
