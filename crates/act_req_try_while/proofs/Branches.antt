@@ -13,6 +13,7 @@ use Rattle.semantics.specs.Walk.{line}
 use Rattle.semantics.specs.Step.{inFront}
 use Rattle.promises.specs.Laws.{AllOf, some-in}
 use Rattle.promises.specs.Takes.{chosen}
+use Rattle.base_numbers.specs.Map as Map
 use Rattle.base_i32.specs.Code.{code, valueOf}
 use Rattle.base_i32.specs.Laws.{valueOf-code}
 use Rattle.base_journal.specs.Wrote.{wroteAt}
@@ -69,7 +70,7 @@ module _ {bs row w : List ℕ} {p a : ℕ} {x : Action} (v : Asked bs row w p a 
       let a = number-low (o .mapped) (o .run .fits) (v .inside) (v .index) x (v .there) in
       omega (arith, v .number-is)
 
-  pub map-long : length row ≡ 18_754
+  pub map-long : length row ≡ Map.WORDS
   map-long = v .acting .running .mapped .long
 
   -- k of the blocked are in front, and r is the branch that none of these keeps it from.

@@ -14,6 +14,7 @@ use Rattle.semantics.specs.Claim.{standsIn}
 use Rattle.semantics.specs.Sound.{chained}
 use Rattle.semantics.specs.Step.{act, exhausted, moves}
 use Rattle.promises.specs.Nests.{chain-depth}
+use Rattle.base_numbers.specs.Map as Map
 use Rattle.file_index.specs.Ties.{kindAt, bodyAt, ActionAt}
 use Rattle.row_process.specs.Process.{Shown, Lives}
 use Rattle.row_process.proofs.Standing.{top-sized}
@@ -127,7 +128,7 @@ module _ {bs map w : List ℕ} {p : ℕ} (v : Floored bs map w p) where
 
 -- THE RECORD of the action where it stands, at `place`.
 module _ {bs map w : List ℕ} {p a : ℕ} (v : Stands bs map w p a) where
-  pub in-map : (length map ≡ 18_754) × (a < 1_024)
+  pub in-map : (length map ≡ Map.WORDS) × (a < 1_024)
   in-map = (v .asked .acting .running .mapped .long, omega (arith, few (v .asked)))
 
   module _ {place : ℕ} (place-is : place ≡ getD map (257 + a) 0) where
