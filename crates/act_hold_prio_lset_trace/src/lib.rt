@@ -181,7 +181,14 @@ pub fn set_local<'a>(body: &'a [u8], i: usize, map: &'a [u32], w: &'a mut [u64],
     Went { fault: 0, lines: 0 }
 }
 
-pub fn trace<'a>(body: &'a [u8], map: &'a [u32], w: &'a mut [u64], out: &'a mut [u8], at: usize, p: usize) -> Went
+pub fn trace<'a>(
+    body: &'a [u8],
+    map: &'a [u32],
+    w: &'a mut [u64],
+    out: &'a mut [u8],
+    at: usize,
+    p: usize,
+) -> Went
     requires { ⌜ Given (now body) (now map) (now w) p TRACE ⌝ }
     requires { ⌜ Roomy at (now out) ⌝ }
     ensures { λ r. ⌜ ((v : Given (now (body .entry)) (now (map .entry)) (now (w .entry)) p TRACE)

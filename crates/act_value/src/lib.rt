@@ -152,7 +152,16 @@ fn tree_at<'a>(
             next: first.next,
         };
     }
-    let second = tree_at(bs, globals, locals, clock, lowest, values, seeds, first.next);
+    let second = tree_at(
+        bs,
+        globals,
+        locals,
+        clock,
+        lowest,
+        values,
+        seeds,
+        first.next,
+    );
     let both = first.value.ok & second.value.ok;
     let value = of_two(node.op, both, first.value.code, second.value.code);
     Tree {

@@ -71,12 +71,11 @@ evaluate-requires c κs =
 returns : tie.Need-returns
 returns c =
     let at-clock-of = c .before .before .before .before .before .before in
-    let are = c .before .before .before .before .before .before .before .before .before .before .pre .1 in
-    (
+    let are = c .before .before .before .before .before .before .before .before .before .before .pre .1 in (
       (λ v. let e = at-clock-of .clock-of .ensures .0 (shown (v .running) tt) in
-      valued v e (c .evaluate .ensures .0 (ready v _ e are))),
+          valued v e (c .evaluate .ensures .0 (ready v _ e are))),
       (λ v. let e = at-clock-of .clock-of .ensures .0 (shown (v .running) tt) in
-      moved-on v (c .evaluate .ensures .1 (ready v _ e are))),
+          moved-on v (c .evaluate .ensures .1 (ready v _ e are))),
     )
 
 pub evaluated-spec : {M : Type 1} → statement M

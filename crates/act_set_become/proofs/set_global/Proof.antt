@@ -53,8 +53,7 @@ walk-requires c κs =
     let at-value-in = else1 .before .before .before .before in
     let start = at-value-in .before .before .before .before .before .before .before in
     let r = at-value-in .value-in in
-    let yes = not-false (r .result .ok) (else1 .if1 .left) in
-    (
+    let yes = not-false (r .result .ok) (else1 .if1 .left) in (
       placed-walking (start .pre .0) (r .ensures .1) yes (r .result) (search needs) (at-past .past .ensures)
           (at-set-at .set-at .ensures),
       omega (arith, start .pre .1),

@@ -43,8 +43,7 @@ returns c =
     let a = c .before .before .before .before .before .before .before .args in
     let moved = c .before .before .before .next-seed .ensures in
     let lowest = getD (a .lowest .now) (a .i) 0 in
-    let highest = lowest + getD (a .values .now) (a .i) 0 - 1 in
-    (
+    let highest = lowest + getD (a .values .now) (a .i) 0 - 1 in (
       c .drawn .ensures ∙ ap (λ (n : ℕ). code (drawn (valueOf lowest) (valueOf highest) n)) moved,
       ap (λ (n : ℕ). set (a .seeds .now) (a .i) n) moved,
     )
