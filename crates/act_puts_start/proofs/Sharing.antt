@@ -20,7 +20,8 @@ use Rattle.row_work.specs.Work.{workOf, ProcessSized, Sized, Doing, Done}
 use Rattle.row_work.specs.Shown.{work-long}
 use Rattle.row_process.specs.Process.{Shown, Lives, Claims, Holds, changed}
 use Rattle.row_process.specs.Put.{process-sized, put-sized, put-there, changed-twice}
-use Rattle.act_puts_start.specs.Shares.{sharesFrom, has, Offering, moved, without, Room, Moves, moves, withoutAll, MovesAll, Left}
+use Rattle.act_puts_start.specs.Shares.{sharesFrom, has, Offering, moved, without, Room, Moves, moves, withoutAll}
+use Rattle.act_puts_start.specs.Shares.{MovesAll, Left}
 use Rattle.act_puts_start.specs.Shares.{Moving}
 
 -- The first of n shares, and the others.

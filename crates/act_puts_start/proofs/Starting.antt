@@ -37,7 +37,8 @@ use Rattle.act_floor.specs.Acting.{Stepped}
 use Rattle.act_floor.specs.Running.{On, on}
 use Rattle.act_floor.specs.Onward.{m, s, q, hand, is-sized, shown, still-sized, in-hand, alive, lives, low, fine, action-fits}
 use Rattle.act_floor.specs.Onward.{passes-as}
-use Rattle.act_puts_start.specs.Shares.{sharesFrom, SharesAt, has, Offering, moved, without, Room, withoutAll, MovesAll, Moving}
+use Rattle.act_puts_start.specs.Shares.{sharesFrom, SharesAt, has, Offering, moved, without, Room, withoutAll}
+use Rattle.act_puts_start.specs.Shares.{MovesAll, Moving}
 use Rattle.act_puts_start.specs.Hands.{Starting}
 
 -- ALL SHARES can be moved where each can by itself: no two are of one resource.

@@ -13,7 +13,8 @@ use Rattle.semantics.specs.Step.{isReturn}
 use Rattle.promises.specs.Fit.{I32}
 use Rattle.promises.specs.Laws.{AllOf, all-map}
 use Rattle.base_numbers.specs.Word as Word
-use Rattle.base_ordered.specs.Lines.{pad, Canon, inserted, removed, placeOf, kindOf, eventKey, eventWord, waiterKey, waiterWord}
+use Rattle.base_ordered.specs.Lines.{pad, Canon, inserted, removed, placeOf, kindOf, eventKey, eventWord}
+use Rattle.base_ordered.specs.Lines.{waiterKey, waiterWord}
 use Rattle.base_ordered.specs.Order.{Keyed, insert-placed, higher-key, sooner-key, event-below, waiter-below, kind-returns}
 
 -- What a test of numbers finds in the numbers of a list, it finds in the list.

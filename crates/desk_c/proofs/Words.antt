@@ -199,4 +199,5 @@ module _ (bs : List ℕ) (limit : ℕ) (j w : List ℕ) where
       → Moves (called w) word w′ j j′
   move-moved s e r word w′ j′ t x y =
       subst (λ v. Moves (called v) word w′ j j′) e
-      (subst (λ v. Moves (called (rowOf s)) word v j j′) (sym x) (move-says (called (rowOf s)) word _ j j′ (ranOf r) (t .tells) y))
+      (subst (λ v. Moves (called (rowOf s)) word v j j′) (sym x)
+      (move-says (called (rowOf s)) word _ j j′ (ranOf r) (t .tells) y))

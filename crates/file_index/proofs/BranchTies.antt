@@ -16,7 +16,8 @@ use Rattle.file_index.specs.Branches.{namedIn, Offered, offeredBy, branc
 use Rattle.file_index.specs.Ties.{BranchAt, BranchesAt}
 use Rattle.file_index.specs.declared.Branches.{Branches}
 use Rattle.file_index.proofs.Limits.{few-offered}
-use Rattle.file_index.proofs.Runs.{pad-at, some-map, some-at, collect-map, over-next, over-part, collect-length, collect-some}
+use Rattle.file_index.proofs.Runs.{pad-at, some-map, some-at, collect-map, over-next, over-part}
+use Rattle.file_index.proofs.Runs.{collect-length, collect-some}
 use Rattle.file_index.proofs.Standing.{Stands, Accepted}
 use Rattle.file_index.proofs.Offers.{Claims, claims-there, names-same, Both, both-count, both-at, act-offers}
 use Rattle.file_index.proofs.Ties.{stand, flat-at, act-at, acts-count, froms-over, Found}

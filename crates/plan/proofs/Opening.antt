@@ -50,7 +50,8 @@ module _ {bs : List ℕ} (a : Accepted bs) where
     abbrev pub loaded : Loaded bs map (replicate Row.WORDS 0)
     loaded = record { model = a .model; is-accepted = a .passes; is-mapped = maps; is-empty = refl }
 
-    abbrev pub opened : {w : List ℕ} → ((d : Loaded bs map (replicate Row.WORDS 0)) → w ≡ workOf (fresh (d .model))) → Open bs map w
+    abbrev pub opened : {w : List ℕ} → ((d : Loaded bs map (replicate Row.WORDS 0)) → w ≡ workOf (fresh (d .model)))
+        → Open bs map w
     opened g =
         let o = begun in
         record { run = in-state (o .run) (fresh (a .model)) (g loaded); mapped = maps; sound = o .sound }

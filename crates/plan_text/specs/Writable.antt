@@ -163,8 +163,8 @@ free-writes i l [] s c h = tt
 free-writes i l (r ∷ rs) s c h =
     (writable c (number-at (s .processes) r h) (omega arith) (small i l), free-writes i l rs (wake (s .clock) r s) c h)
 
--- THE PARTS OF A STATE that lines are made of: the clock, the globals, the processes and the seeds. In one that is sound they are so small,
--- also when the clock goes on.
+-- THE PARTS OF A STATE that lines are made of: the clock, the globals, the processes and the seeds. In one that is sound they
+-- are so small, also when the clock goes on.
 record Small (m : Model) (c : ℕ) (gs : List ℤ) (ps : List Process) (sd : List ℕ) : Type 0 where
   clock-small : c ≤ No.latest
   globals-small : AllOf I32 gs

@@ -20,7 +20,8 @@ use Rattle.semantics.specs.Model.{CLOSE, Expr, Item, get, condition, resource, 
 use Rattle.semantics.specs.Model.{body, kindOf}
 use Rattle.semantics.specs.State.{State, Process, Frame, Waiter, Event, Notice, wakes, returnsR, returnsB, Floor, empty, heldBy}
 use Rattle.semantics.specs.State.{nobody, process, put, freePlace, living, at-clock, with-last, with-globals, with-free}
-use Rattle.semantics.specs.State.{with-seeds, with-bins, with-waiting, with-floor, with-events, with-priority, with-locals, with-held}
+use Rattle.semantics.specs.State.{with-seeds, with-bins, with-waiting, with-floor, with-events, with-priority}
+use Rattle.semantics.specs.State.{with-locals, with-held}
 use Rattle.semantics.specs.State.{with-slaves, with-frames, sooner, enter, wake, higher, join, onward, past, into, newcomer}
 use Rattle.semantics.specs.State.{begin}
 use Rattle.semantics.specs.Value.{eval}

@@ -2,7 +2,8 @@
 use native.Mathlib.Omega.{arith}
 use borrow.Author.Tests.{not-true, not-false}
 use Rattle.act_floor.specs.Onward.{shown}
-use Rattle.act_puts_start.proofs.Starting.{o, class-low, offering, is-late, is-short, is-full, ready, block-is, giving, passing}
+use Rattle.act_puts_start.proofs.Starting.{o, class-low, offering, is-late, is-short, is-full, ready, block-is}
+use Rattle.act_puts_start.proofs.Starting.{giving, passing}
 use Rattle.act_puts_start.proofs.Starting.{passed, beginning, has-begun, placed, taking, has-started}
 use borrow.Author.Needs.{needs}
 use Rattle.act_puts_start.proofs.start.Statement.{statement}

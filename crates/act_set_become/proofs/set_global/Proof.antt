@@ -28,7 +28,8 @@ past-requires c κs =
 
 add-set-at : tie.Need-add-set-at
 add-set-at c =
-    let start = c .before .before .before .before .before .before .before .before .before .before .before .before .before .before .before .before in
+    let at-value-in = c .before .before .before .before .before .before .before .before .before in
+    let start = at-value-in .before .before .before .before .before .before .before in
     omega (arith, global-low (start .pre .0))
 
 cast-set-at : tie.Need-cast-set-at

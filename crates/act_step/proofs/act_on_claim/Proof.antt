@@ -4,7 +4,8 @@ use native.Mathlib.Omega.{arith}
 use Rattle.semantics.specs.Model.{REQ, TRY, WHILE, START, TRACE, CLOSE}
 use Rattle.act_floor.specs.Running.{on}
 use Rattle.act_step.proofs.Acts.{req-is, try-is, while-is, start-is, trace-is, close-is}
-use Rattle.act_step.proofs.Meeting.{kind-in, known, stands-at, done, trace-told, start-told, req-told, try-told, while-told}
+use Rattle.act_step.proofs.Meeting.{kind-in, known, stands-at, done, trace-told, start-told, req-told}
+use Rattle.act_step.proofs.Meeting.{try-told, while-told}
 use borrow.Author.Needs.{needs}
 use Rattle.act_step.proofs.act_on_claim.Statement.{statement}
 use Rattle.act_step.proofs.act_on_claim.Tie as tie

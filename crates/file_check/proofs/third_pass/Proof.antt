@@ -62,7 +62,8 @@ too-deep-requires c κs = let w = c .before .before .before .before .before .bef
   w .graph,
   (
     class-is _ w (c .before .before .before .before .before .before .before .loop-test .taken)
-        (c .before .before .before .before .before .before .read .ensures) (c .before .before .before .before .before .next .ensures),
+        (c .before .before .before .before .before .before .read .ensures)
+        (c .before .before .before .before .before .next .ensures),
     w .known,
   ),
 )

@@ -2,7 +2,8 @@
 use native.Mathlib.Omega.{arith}
 use mathlib.Core.Path.{_∙_, sym}
 use lib.ListN.{length-set}
-use Rattle.row_lists.proofs.Events.{long, keys-canon, rekeyed-long, words-there, words-canon, rewritten-long, events-written}
+use Rattle.row_lists.proofs.Events.{long, keys-canon, rekeyed-long, words-there, words-canon}
+use Rattle.row_lists.proofs.Events.{rewritten-long, events-written}
 use Rattle.row_lists.proofs.Leaving.{count-next, left-count, keys-out, words-out}
 use borrow.Author.Needs.{needs}
 use Rattle.row_lists.proofs.drop_first.Statement.{statement}

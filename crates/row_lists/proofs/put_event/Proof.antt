@@ -3,7 +3,8 @@
 use native.Mathlib.Omega.{arith}
 use mathlib.Core.Path.{_∙_, sym}
 use lib.ListN.{length-set}
-use Rattle.row_lists.proofs.Events.{keys-wide, words-wide, long, count-is, keys-there, keys-canon, rekeyed-long, words-there}
+use Rattle.row_lists.proofs.Events.{keys-wide, words-wide, long, count-is, keys-there, keys-canon}
+use Rattle.row_lists.proofs.Events.{rekeyed-long, words-there}
 use Rattle.row_lists.proofs.Events.{words-canon, rewritten-long, events-written, more-count, keys-put, words-put}
 use borrow.Author.Needs.{needs}
 use Rattle.row_lists.proofs.put_event.Statement.{statement}

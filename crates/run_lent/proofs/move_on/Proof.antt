@@ -209,7 +209,8 @@ module _ {M : Type 1} (𝓤 : URA M) (H : Heap 𝓤) (A : Atoms 𝓤) (W : Given
         move ! (1 ∷ 0 ∷ []) $ fjoin ! $ move ! (1 ∷ 0 ∷ []) $ fjoin ! $ frame ! $
         owned ! R.the-row (Is R.the-row) (LL.makes R.the-type R′.the-plain 𝓤 H A) (ranOf r) _ is $ done !
 
-    module _ (C : Calls 𝓤 H) (Λ : Loops 𝓤 H) (fm : FmC 𝓤 H (W .laws) C) (known : Triple 𝓤 (C #run-by-value·run-state) RunState) where
+    module _ (C : Calls 𝓤 H) (Λ : Loops 𝓤 H) (fm : FmC 𝓤 H (W .laws) C)
+        (known : Triple 𝓤 (C #run-by-value·run-state) RunState) where
       -- Local i stands at 2 · (9 − i) behind the allocations, and so in front of what was had.
       body : ent 𝓤 (⋆ 𝓤 H A Had) (WpFn 𝓤 H C Λ code.function (slice-val s ∷ vptr b o ∷ vint w32 n ∷ slice-val j ∷ []) Post)
       body =
