@@ -3,10 +3,11 @@
     python3 -B bench/steps.py [ENGINE ...]     ENGINE runs the engine's plan; without it bin/run target/bin/plan
 
 Both read each model from standard input; that they print the same is checked. Prints, as a table for docs/FIGURES.md, the least
-processor time of three runs of each, and their ratio. It asserts no time. It needs target/bin/plan (`rt check plan`) and cargo.
+processor time of nine runs of each, in turn, and their ratio. It asserts no time. It needs target/bin/plan (`rt check plan`) and
+cargo.
 """
-import os
 import pathlib
+import resource
 import subprocess
 import sys
 import tempfile
@@ -59,29 +60,30 @@ MODELS = [
     ('syncs', syncs()),
 ]
 
+RUNS = 9
+
 
 def timed(command, model):
-    """The processor time, and what was printed."""
+    """The processor time in milliseconds, by a clock of microseconds, and what was printed."""
     with tempfile.TemporaryFile() as out:
-        before = os.times()
+        before = resource.getrusage(resource.RUSAGE_CHILDREN)
         subprocess.run(command, input=model, stdout=out, check=True)
-        after = os.times()
+        after = resource.getrusage(resource.RUSAGE_CHILDREN)
         out.seek(0)
-        return (after.children_user - before.children_user) + (after.children_system - before.children_system), out.read()
+        return 1000 * (after.ru_utime - before.ru_utime + after.ru_stime - before.ru_stime), out.read()
 
 
 def main(words):
     engine = words or [str(ROOT / 'bin' / 'run'), str(ROOT / 'target' / 'bin' / 'plan')]
     subprocess.run(['cargo', 'build', '--release', '--offline', '--quiet'], cwd=ROOT / 'reference', check=True)
     second = [str(ROOT / 'reference' / 'target' / 'release' / 'plan')]
-    print('| Model | Engine, s | Second program, s | Ratio |')
+    print('| Model | Engine, ms | Second program, ms | Ratio |')
     print('|---|---|---|---|')
     for name, model in MODELS:
-        ours = [timed(engine, model) for _ in range(3)]
-        theirs = [timed(second, model) for _ in range(3)]
-        assert ours[0][1] == theirs[0][1], name
-        a, b = min(t for t, _ in ours), min(t for t, _ in theirs)
-        print(f'| {name} | {a:.2f} | {b:.2f} | {a / b:.1f} |')
+        runs = [(timed(engine, model), timed(second, model)) for _ in range(RUNS)]
+        assert all(ours[1] == theirs[1] for ours, theirs in runs), name
+        a, b = min(ours[0] for ours, _ in runs), min(theirs[0] for _, theirs in runs)
+        print(f'| {name} | {a:.1f} | {b:.1f} | {a / b:.2f} |')
 
 
 if __name__ == '__main__':
