@@ -246,70 +246,24 @@ module _ (start : Bool) (m : Model) (bodies : List ℕ) (same : (c : ℕ) → ge
 
   rows-act : (bs : List ℕ) → AllOf (RowActs bs) table
   unfolding goesIn
-  rows-act bs = (
-    tt,
-    (
-      tt,
-      (
-        tt,
-        (
-          tt,
-          (
-            tt,
-            (
-              tt,
-              (
-                tt,
-                (
-                  tt,
-                  (
-                    (refl, (refl, (refl, λ b. refl))),
-                    (
-                      (refl, (refl, (refl, λ b. refl))),
-                      (
-                        (refl, (refl, (refl, λ b. refl))),
-                        (
-                          (refl, (refl, (refl, λ b. refl))),
-                          (
-                            (refl, (refl, (refl, λ b. refl))),
-                            (
-                              (refl, (refl, (refl, λ b. refl))),
-                              (
-                                (refl, (refl, (refl, λ b. refl))),
-                                (
-                                  (refl, (refl, (refl, λ b. refl))),
-                                  (
-                                    (refl, (refl, (refl, λ b. refl))),
-                                    (
-                                      (refl, (refl, (refl, λ b. refl))),
-                                      (
-                                        (refl, (refl, (branch-blocks bs, λ b. refl))),
-                                        (
-                                          (refl, (refl, (refl, λ b. refl))),
-                                          (
-                                            (refl, (refl, (ap (given start) (same (u16 bs 0)), λ b. starts (u16 bs 0) b))),
-                                            ((refl, (refl, (refl, λ b. refl))), ((refl, (refl, (refl, λ b. refl))), tt)),
-                                          ),
-                                        ),
-                                      ),
-                                    ),
-                                  ),
-                                ),
-                              ),
-                            ),
-                          ),
-                        ),
-                      ),
-                    ),
-                  ),
-                ),
-              ),
-            ),
-          ),
-        ),
-      ),
-    ),
-  )
+  rows-act bs =
+      tt & tt & tt & tt & tt & tt & tt & tt
+      & (refl & refl & refl & λ b. refl)
+      & (refl & refl & refl & λ b. refl)
+      & (refl & refl & refl & λ b. refl)
+      & (refl & refl & refl & λ b. refl)
+      & (refl & refl & refl & λ b. refl)
+      & (refl & refl & refl & λ b. refl)
+      & (refl & refl & refl & λ b. refl)
+      & (refl & refl & refl & λ b. refl)
+      & (refl & refl & refl & λ b. refl)
+      & (refl & refl & refl & λ b. refl)
+      & (refl & refl & branch-blocks bs & λ b. refl)
+      & (refl & refl & refl & λ b. refl)
+      & (refl & refl & ap (given start) (same (u16 bs 0)) & λ b. starts (u16 bs 0) b)
+      & (refl & refl & refl & λ b. refl)
+      & (refl & refl & refl & λ b. refl)
+      & tt
 
   pub act-shows : (k : ℕ) (bs : List ℕ) → Judged k bs → (x : Action) → rowOf k .says bs ≡ ACTION x → ActShows k bs (ACTION x)
   act-shows k bs j x e =
