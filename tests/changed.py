@@ -116,8 +116,7 @@ CHANGES = [
      '    if many == 2 {\n        aside = *seeds;\n'
      '        tree_at(bs, globals, locals, clock, lowest, values, seeds, shape.next);\n    }\n'
      '    let first = tree_at(bs, globals, locals, clock, lowest, values, seeds, k + 1);',
-     'let second = tree_at(bs, globals, locals, clock, lowest, values, seeds, first.next);',
-     'let second = tree_at(bs, globals, locals, clock, lowest, values, &mut aside, first.next);'),
+     'seeds,\n        first.next,', '&mut aside,\n        first.next,'),
     ('a lesser draws only the side that it answers', 'act_value',
      'let both = first.value.ok & second.value.ok;',
      'let both = first.value.ok & second.value.ok;\n'
