@@ -18,7 +18,7 @@ use base_numbers::code;
 use base_numbers::kind;
 use base_numbers::line;
 use base_numbers::row;
-use row_claim::Choice;
+use row_claim::Branch;
 
 // ---- what is read
 
@@ -98,8 +98,8 @@ fn visit<'a>(
 {
     let place = row_lists::blocked_at(w, k);
     let action = row_grant::action_at(map, w, place);
-    let chosen = row_grant::choice(s, map, w, action, k);
-    let Choice::Goes(which) = chosen else {
+    let chosen = row_grant::branch(s, map, w, action, k);
+    let Branch::Goes(which) = chosen else {
         return 0;
     };
     let number = row_process::number_of(w, place);

@@ -233,6 +233,8 @@ pub mod limit {
 pub mod code {
     pub const ZERO: u32 = 2147483648;
 
+    pub const MINUS_ONE: u32 = 2147483647;
+
     pub const LOWEST: u32 = 2147473648;
 
     pub const OF_RETURNS: u64 = 2147468648;

@@ -1,21 +1,39 @@
-// Claims of the model's bytes held against the work: whether one is met, and which branch is the first.
+// Claims of the model's bytes held against the work: the test of one, and the first branch that is met.
 ghost use mathlib.Core.Path.{_≡_};
 ghost use Prim.Native.Nat.{_+_, _≤_, _<_};
 ghost use lib.ListN.{length, getD};
 ghost use Rattle.semantics.specs.Record.{relationOf, itemOf};
-ghost use Rattle.semantics.specs.Claim.{holds, itemMet, met, firstMet};
+ghost use Rattle.semantics.specs.Claim.{holds, itemMet, test, firstMet};
 ghost use Rattle.base_numbers.specs.Row as Row;
 ghost use Rattle.base_numbers.specs.Limit as Limit;
 ghost use Rattle.base_i32.specs.Code.{valueOf};
 ghost use Rattle.row_claim.specs.Asking.{Meeting, Asking};
-ghost use Rattle.row_claim.specs.Choices.{choiceIn};
+ghost use Rattle.row_claim.specs.Choices.{testIn, choiceIn};
 ghost use Rattle.row_claim.specs.Items.{rowOf, MeetingItem};
 use base_numbers::item;
 use base_numbers::row;
 
-// Which branch of an action is taken: none, or that of this number, from 0.
+// The test of a claim: it is met, or lacks an item, the first one, from 1.
+pub enum Test {
+    Met,
+    Lacks(u32),
+}
+
+// Why a process waits: it is barred, or its first branch lacks an item, from 1.
+pub enum Reason {
+    Barred,
+    Lacks(u32),
+}
+
+// Which branch of an action is taken, from 0; or why none is.
 pub enum Choice {
-    Waits,
+    Waits(Reason),
+    Goes(usize),
+}
+
+// The same where nobody asks why.
+pub enum Branch {
+    Stays,
     Goes(usize),
 }
 
@@ -75,26 +93,27 @@ fn item_met<'a>(i: &'a [u8], w: &'a [u64]) -> bool
 
 // ---- the items of a claim
 
-// Whether the claim at byte `at` is met.
-fn met<'a>(s: &'a [u8], at: usize, w: &'a [u64]) -> bool
+// The claim at byte `at`.
+fn test<'a>(s: &'a [u8], at: usize, w: &'a [u64]) -> Test
     requires { ⌜ Meeting (now s) at (now w) ⌝ }
-    ensures { λ r. ⌜ ((v : Meeting (now (s .entry)) at (now (w .entry))) → r ≡ met (v .is) (v .claim)) ⌝ }
+    ensures { λ r. ⌜ ((v : Meeting (now (s .entry)) at (now (w .entry))) → r ≡ testIn (test (v .is) (v .claim))) ⌝ }
 {
-    let mut left = file_fields::u16_at(s, at);
+    let many = file_fields::u16_at(s, at);
+    let mut left = many;
     let mut rest = &s[at + 2..];
     while 0 < left {
         if !item_met(&rest[..item::BYTES], w) {
-            return false;
+            return Test::Lacks(many - left + 1);
         }
         rest = &rest[item::BYTES..];
         left = left - 1;
     }
-    true
+    Test::Met
 }
 
 // ---- the branches of an action
 
-// The first branch of action a whose claim is met.
+// The first branch of action a whose claim is met, or what the first of all lacks.
 pub fn first_met<'a>(s: &'a [u8], map: &'a [u32], w: &'a [u64], a: usize) -> Choice
     requires { ⌜ Asking (now s) (now map) (now w) a ⌝ }
     ensures { λ r. ⌜ ((v : Asking (now (s .entry)) (now (map .entry)) (now (w .entry)) a)
@@ -102,13 +121,20 @@ pub fn first_met<'a>(s: &'a [u8], map: &'a [u32], w: &'a [u64], a: usize) -> Cho
 {
     let from = file_map::branches_from(map, a);
     let many = file_map::branches_from(map, a + 1) - from;
+    let mut lacking = 0;
     let mut k = 0;
     while k < many {
         let at = file_map::claim_at(map, from + k);
-        if met(s, at, w) {
-            return Choice::Goes(k);
+        let tested = test(s, at, w);
+        match tested {
+            Test::Met => return Choice::Goes(k),
+            Test::Lacks(n) => {
+                if k == 0 {
+                    lacking = n;
+                }
+            }
         }
         k += 1;
     }
-    Choice::Waits
+    Choice::Waits(Reason::Lacks(lacking))
 }

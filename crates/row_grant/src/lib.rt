@@ -10,14 +10,16 @@ ghost use Rattle.semantics.specs.Claim.{takeItem, takeAll, grant, offers, bars,
 ghost use Rattle.base_numbers.specs.Map as Map;
 ghost use Rattle.row_work.specs.Work.{workOf, Doing, Done};
 ghost use Rattle.row_process.specs.Process.{Shown, Lives};
-ghost use Rattle.row_claim.specs.Choices.{choiceIn};
+ghost use Rattle.row_claim.specs.Choices.{choiceIn, branchIn};
 ghost use Rattle.row_grant.specs.Grant.{Takes, InBin, Taking, Granting, Facing, Faced};
 ghost use Rattle.row_grant.specs.Wants.{wantedBy};
 ghost use Rattle.row_grant.specs.Standing.{placeAt};
 use base_numbers::item;
 use base_numbers::map;
 use base_numbers::row;
+use row_claim::Branch;
 use row_claim::Choice;
+use row_claim::Reason;
 
 // ---- a claim is taken
 
@@ -149,20 +151,30 @@ fn barred<'a>(map: &'a [u32], w: &'a [u64], a: usize, k: usize) -> bool
 
 // ---- which branch
 
-// The first branch of action a that is met, if none of the first k of the blocked bars it.
+// The first branch of action a that is met, if none of the first k of the blocked bars it; or why it waits.
 pub fn choice<'a>(s: &'a [u8], map: &'a [u32], w: &'a [u64], a: usize, k: usize) -> Choice
     requires { ⌜ Facing (now s) (now map) (now w) a k ⌝ }
     ensures { λ r. ⌜ ((v : Facing (now (s .entry)) (now (map .entry)) (now (w .entry)) a k)
         → r ≡ choiceIn (choice (v .run .model) (v .run .is) (take k (v .run .is .blocked)) (offers (v .asked)))) ⌝ }
 {
-    let first = row_claim::first_met(s, map, w, a);
-    match first {
-        Choice::Waits => first,
-        Choice::Goes(_) => {
-            if barred(map, w, a, k) {
-                return Choice::Waits;
-            }
-            first
-        }
+    if barred(map, w, a, k) {
+        return Choice::Waits(Reason::Barred);
     }
+    row_claim::first_met(s, map, w, a)
+}
+
+// The same, and not why it waits. A walk asks it of all who are blocked, and most of them lack something: that is asked first.
+pub fn branch<'a>(s: &'a [u8], map: &'a [u32], w: &'a [u64], a: usize, k: usize) -> Branch
+    requires { ⌜ Facing (now s) (now map) (now w) a k ⌝ }
+    ensures { λ r. ⌜ ((v : Facing (now (s .entry)) (now (map .entry)) (now (w .entry)) a k)
+        → r ≡ branchIn (choice (v .run .model) (v .run .is) (take k (v .run .is .blocked)) (offers (v .asked)))) ⌝ }
+{
+    let first = row_claim::first_met(s, map, w, a);
+    let Choice::Goes(n) = first else {
+        return Branch::Stays;
+    };
+    if barred(map, w, a, k) {
+        return Branch::Stays;
+    }
+    Branch::Goes(n)
 }

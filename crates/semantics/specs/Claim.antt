@@ -1,4 +1,5 @@
--- When a claim is met, what taking it does, who is barred, and which branch is taken (document 01, "One step").
+-- When a claim is met, what taking it does, who is barred, and which branch is taken or why none is (document 01, "One step", as
+-- document 02's request Two amends it).
 -- Assumes nothing.
 use Prim.Native.Nat.{ℕ, suc}
 use mathlib.Core.List.{List, [], _∷_, _++_, map}
@@ -9,6 +10,7 @@ use lib.ListN.{length, getD, set, take, drop, getElem?}
 use lib.IntN.{ℤ, pos}
 use lib.Signed.{ltZ, leZ}
 use Rattle.semantics.specs.Words.{all, any, isEmpty, more, fewer}
+use Rattle.semantics.specs.Numbers as No
 use Rattle.semantics.specs.Model.{Kind, resource, bin, sync, Relation, below, atMost, equals, differs, atLeast, above}
 use Rattle.semantics.specs.Model.{Item, get, condition, Claim, Action, HOLD, PRIO, TRACE, SET, LSET, DO, PUTR, PUTB, PUTS}
 use Rattle.semantics.specs.Model.{BECOME, REQ, TRY, WHILE, START, CLOSE, Model, block}
@@ -33,8 +35,18 @@ abbrev pub itemMet : State → Item → Bool
 itemMet s (get k i n) = leb n (there s k i)
 itemMet s (condition i r v) = holds r (getD (s .globals) i (pos 0)) v
 
-abbrev pub met : State → Claim → Bool
-met s c = all (itemMet s) c
+-- The test of a claim: it is met, or it lacks an item, the first one, counted from 1 in the order written, conditions among them.
+pub data Test : Type 0 where
+  met : Test
+  lacks : ℕ → Test
+
+-- The same of the items from the n-th on.
+unfoldable pub testFrom : ℕ → State → Claim → Test
+testFrom n s [] = met
+testFrom n s (i ∷ is) = elim (itemMet s i) [ true ↦ testFrom (suc n) s is | false ↦ lacks n ]
+
+abbrev pub test : State → Claim → Test
+test s c = testFrom 1 s c
 
 -- TAKING removes them, for the process in place p; getS takes the first waiting.
 unfoldable pub takeItem : ℕ → Item → State → State
@@ -133,18 +145,35 @@ bars b q = all (covered b) q
 abbrev pub barred : Model → State → List Waiter → List Offer → Bool
 barred m s ws q = any (λ w. bars (asks m s (w .place)) q) ws
 
--- WHICH BRANCH: if not barred and some branch can be met, the first that can.
+-- WHICH BRANCH: if not barred and some branch can be met, the first that can. Else it waits, and why: it is barred, which is said
+-- where something is lacking too; or the first branch lacks its item of that number.
+pub data Reason : Type 0 where
+  isBarred : Reason
+  firstLacks : ℕ → Reason
+
 pub data Choice : Type 0 where
-  waits : Choice
+  waits : Reason → Choice
   goes : ℕ → Offer → Choice  -- which, from 0
 
+-- A later branch, if one can be met; else this one lacks item n, and so it is said unless there is one before it.
+abbrev pub orLacks : ℕ → Choice → Choice
+orLacks n (waits r) = waits (firstLacks n)
+orLacks n (goes i o) = goes i o
+
+-- An action that asks has a branch, so the 0 of none is never said.
 unfoldable pub firstMet : State → ℕ → List Offer → Choice
-firstMet s i [] = waits
-firstMet s i (o ∷ os) = elim (met s (o .claim)) [ true ↦ goes i o | false ↦ firstMet s (suc i) os ]
+unfolding testFrom
+firstMet s i [] = waits (firstLacks 0)
+firstMet s i (o ∷ os) = elim (test s (o .claim)) [ met ↦ goes i o | lacks n ↦ orLacks n (firstMet s (suc i) os) ]
 
 unfoldable pub choice : Model → State → List Waiter → List Offer → Choice
 unfolding firstMet
-choice m s ws q = elim (barred m s ws q) [ true ↦ waits | false ↦ firstMet s 0 q ]
+choice m s ws q = elim (barred m s ws q) [ true ↦ waits isBarred | false ↦ firstMet s 0 q ]
+
+-- Why it waits, as the value of a journal line of kind 3 (document 02, Two).
+abbrev pub reasonSaid : Reason → ℤ
+reasonSaid isBarred = No.barred
+reasonSaid (firstLacks n) = pos n
 
 -- The process in place p takes the offer: a REQ is passed, the block of a TRY or WHILE is entered for one round.
 abbrev pub follow : Then → Process → Process

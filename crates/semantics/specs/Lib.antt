@@ -19,3 +19,4 @@ pub mod Desk
 pub mod Plan
 pub mod Plans
 pub mod Sampled
+pub mod Waited

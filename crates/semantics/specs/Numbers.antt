@@ -100,6 +100,10 @@ traced = 9
 abbrev pub closed : ℕ
 closed = 10
 
+-- The value of a line of kind 3 whose process is barred; else it is the number of an item.
+abbrev pub barred : ℤ
+barred = negsuc 0
+
 -- At most, of a model file: its bytes; each of RES, BIN, SYNC and VAR; samplers; CLASS, BLOCK, ENTITY; actions.
 abbrev pub longestFile : ℕ
 longestFile = 65_535

@@ -20,16 +20,16 @@ use Rattle.semantics.specs.Plan.{PrintedLine, Printed, refusedAt, ran, p
 abbrev pub rec : ℕ → List ℕ → List ℕ
 rec k bs = le16 (2 + length bs) ++ le16 k ++ bs
 
-abbrev RES : ℕ → List ℕ
+abbrev pub RES : ℕ → List ℕ
 RES n = rec K.RES (le32 n)
 
-abbrev CLASS : ℕ → List ℕ
+abbrev pub CLASS : ℕ → List ℕ
 CLASS b = rec K.CLASS (le16 b)
 
-abbrev BLOCK : List ℕ
+abbrev pub BLOCK : List ℕ
 BLOCK = rec K.BLOCK []
 
-abbrev ENTITY : ℕ → ℕ → List ℕ
+abbrev pub ENTITY : ℕ → ℕ → List ℕ
 ENTITY c t = rec K.ENTITY (le16 c ++ le32 t)
 
 abbrev HOLD : ℤ → List ℕ
@@ -137,15 +137,15 @@ priority1 bs v = record { look = priority 1; file = bs; shows = has v }
 -- The lines of plans 2 and 9.
 abbrev exampleLines : List PrintedLine
 exampleLines =
-    (0, 1, 4, pos 0) ∷ (0, 2, 3, pos 0)
+    (0, 1, 4, pos 0) ∷ (0, 2, 3, pos 1)
     ∷ (3, 1, 2, pos 0) ∷ (3, 1, 5, pos 0) ∷ (3, 2, 4, pos 0)
     ∷ (6, 2, 2, pos 0) ∷ (6, 2, 5, pos 0)
     ∷ []
 
 abbrev threeLines : List PrintedLine
 threeLines =
-    (0, 1, 4, pos 0) ∷ (0, 2, 3, pos 0)
-    ∷ (1, 3, 3, pos 0)
+    (0, 1, 4, pos 0) ∷ (0, 2, 3, pos 1)
+    ∷ (1, 3, 3, No.barred)
     ∷ (10, 1, 2, pos 0) ∷ (10, 1, 5, pos 0) ∷ (10, 2, 4, pos 0)
     ∷ (15, 2, 2, pos 0) ∷ (15, 2, 5, pos 0) ∷ (15, 2, 5, pos 1)
     ∷ (15, 3, 4, pos 0) ∷ (15, 3, 2, pos 0) ∷ (15, 3, 5, pos 1)
@@ -172,9 +172,9 @@ thePlans =
     ∷ toEnd (one (HOLD (pos 2_000_000_000) ++ HOLD (pos 1))) (ran [] (FAULT 23) 1 (AT 3))
     ∷ [])
     ∷ numbered 7
-    (stops 4 (three []) (ran ((0, 1, 4, pos 0) ∷ (0, 2, 3, pos 0) ∷ (1, 3, 3, pos 0) ∷ []) LIMIT 4 (AT 16)) ∷ [])
+    (stops 4 (three []) (ran ((0, 1, 4, pos 0) ∷ (0, 2, 3, pos 1) ∷ (1, 3, 3, No.barred) ∷ []) LIMIT 4 (AT 16)) ∷ [])
     ∷ numbered 8
-    (stops 5 (three (PRIO (pos 1))) (ran ((0, 1, 4, pos 0) ∷ (0, 2, 3, pos 0) ∷ (1, 3, 4, pos 0) ∷ []) LIMIT 5 (AT 17)) ∷ [])
+    (stops 5 (three (PRIO (pos 1))) (ran ((0, 1, 4, pos 0) ∷ (0, 2, 3, pos 1) ∷ (1, 3, 4, pos 0) ∷ []) LIMIT 5 (AT 17)) ∷ [])
     ∷ numbered 9 (toEnd (three []) (ran threeLines IDLE 16 (AT 16)) ∷ [])
     ∷ numbered 10 (priority1 (one (PRIO (negsuc 19_999))) (negsuc 9_999) ∷ [])
     ∷ numbered 11 (toEnd (RES 2 ++ one (REQ (0 ∷ []) ++ PUTR 0 2)) (ran ((0, 1, 4, pos 0) ∷ []) (FAULT 24) 1 (AT 4)) ∷ [])
@@ -193,8 +193,8 @@ the-twelve-plans = refl
 -- two waiters; plan 9 with W: A comes back first at 15, the walk passes Z, since B is still out, and goes on to W.
 abbrev waitersLines : List PrintedLine
 waitersLines =
-    (0, 1, 4, pos 0) ∷ (0, 2, 3, pos 0)
-    ∷ (1, 3, 3, pos 0)
+    (0, 1, 4, pos 0) ∷ (0, 2, 3, pos 1)
+    ∷ (1, 3, 3, pos 1)
     ∷ (10, 1, 2, pos 0) ∷ (10, 1, 5, pos 0)
     ∷ (10, 3, 4, pos 0) ∷ (10, 3, 2, pos 0) ∷ (10, 3, 5, pos 0)
     ∷ (10, 2, 4, pos 0) ∷ (10, 2, 2, pos 0) ∷ (10, 2, 5, pos 0)
@@ -202,9 +202,9 @@ waitersLines =
 
 abbrev fourLines : List PrintedLine
 fourLines =
-    (0, 1, 4, pos 0) ∷ (0, 2, 3, pos 0)
-    ∷ (1, 3, 3, pos 0)
-    ∷ (2, 4, 3, pos 0)
+    (0, 1, 4, pos 0) ∷ (0, 2, 3, pos 1)
+    ∷ (1, 3, 3, No.barred)
+    ∷ (2, 4, 3, No.barred)
     ∷ (10, 1, 2, pos 0) ∷ (10, 1, 5, pos 0) ∷ (10, 2, 4, pos 0)
     ∷ (15, 2, 2, pos 0) ∷ (15, 2, 5, pos 0) ∷ (15, 4, 4, pos 0) ∷ (15, 4, 2, pos 0)
     ∷ (15, 2, 5, pos 1) ∷ (15, 3, 4, pos 0) ∷ (15, 3, 2, pos 0)

@@ -20,7 +20,7 @@ use Rattle.semantics.specs.State.{with-bins, with-waiting, with-floor, w
 use Rattle.semantics.specs.State.{with-priority, with-locals, with-held, with-slaves, with-frames, enter, wake, join}
 use Rattle.semantics.specs.State.{onward, past, into, begin, living}
 use Rattle.semantics.specs.Value.{Valued, eval}
-use Rattle.semantics.specs.Claim.{offers, standsIn, waits, goes, choice, grant}
+use Rattle.semantics.specs.Claim.{offers, standsIn, waits, goes, choice, reasonSaid, grant}
 use Rattle.semantics.specs.Walk.{Next, line, quiet, after, walk}
 
 abbrev pub isReturn : Event → Bool
@@ -176,13 +176,13 @@ module _ (m : Model) (s : State) (p : ℕ) where
   abbrev pub inFront : List Waiter
   inFront = keep (λ w. leZ (q .priority) (w .priority)) (s .blocked)
 
-  -- REQ, TRY: take the first branch that can be met, or join the blocked list; floor lost.
+  -- REQ, TRY: take the first branch that can be met, or join the blocked list and say why; floor lost.
   unfoldable pub request : Action → Outcome Next
   unfolding choice grant join
   request a =
       elim (choice m s inFront (offers a)) [
-        | waits ↦
-            ok (after (line s (q .number) No.blocked (pos 0))
+        | waits r ↦
+            ok (after (line s (q .number) No.blocked (reasonSaid r))
             (quiet (with-blocked (with-floor s empty) (join s p (s .blocked)))))
         | goes i o ↦ ok (after (line s (q .number) No.granted (pos i)) (quiet (grant p o s)))
       ]
@@ -192,7 +192,7 @@ module _ (m : Model) (s : State) (p : ℕ) where
   unfolding choice grant past
   while a =
       elim (choice m s inFront (offers a)) [
-        | waits ↦ ok (quiet (on (past q)))
+        | waits r ↦ ok (quiet (on (past q)))
         | goes i o ↦ ok (after (line s (q .number) No.granted (pos i)) (quiet (grant p o s)))
       ]
 

@@ -38,7 +38,7 @@ unfolding choice grant wake
 walkOn m s ahead [] = quiet (with-blocked s ahead)
 walkOn m s ahead (w ∷ ws) =
     elim (choice m s ahead (asks m s (w .place))) [
-      | waits ↦ walkOn m s (ahead ++ w ∷ []) ws
+      | waits r ↦ walkOn m s (ahead ++ w ∷ []) ws
       | goes i o ↦
           after (line s (process s (w .place) .number) No.granted (pos i))
           (walkOn m (wake (s .clock) (w .place) (grant (w .place) o s)) ahead ws)
