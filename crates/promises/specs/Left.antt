@@ -261,7 +261,7 @@ module _ (m : Model) (t : Forward m) where
       (λ (n : Next).
       AtMost (NoTry m) (total m (n .state) + (length ahead + suc (length ws))) (total m s + length (n .state .blocked)))
       (choice m s ahead (asks m s (w .place)))
-      (λ e. let l = length-append ahead (w ∷ []) in likewise (walk-on-less ws s (ahead ++ w ∷ [])) (omega arith))
+      (λ r e. let l = length-append ahead (w ∷ []) in likewise (walk-on-less ws s (ahead ++ w ∷ [])) (omega arith))
       (λ i o e.
       let u : State = grant (w .place) o s in
       let y = ap returning (still-grant (w .place) o s .same-events) in
@@ -389,7 +389,7 @@ module _ (m : Model) (t : Forward m) (s : State) (p : ℕ) where
   request-falls a e =
       let ws : List Waiter = inFront m s p in
       choice-has (λ (o : Outcome Next). Good (Falls m s) o) (choice m s ws (offers a))
-      (λ c.
+      (λ r c.
       let w : Waiter = record { priority = process s p .priority; place = p } in
       let l = length-insert higher w (s .blocked) in
       good (exactly (omega arith)))

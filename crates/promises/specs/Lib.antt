@@ -19,6 +19,7 @@ pub mod Lines
 pub mod Nests
 pub mod Safe
 pub mod Answers
+pub mod Reasons
 pub mod Ends
 pub mod Calls
 pub mod Emptied

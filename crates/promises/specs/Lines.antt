@@ -32,7 +32,7 @@ unfolding walkOn
 walk-lines m [] s ahead = omega arith
 walk-lines m (w ∷ ws) s ahead =
     choice-has (λ (n : Next). length (n .lines) ≤ suc (length ws)) (choice m s ahead (asks m s (w .place)))
-    (λ e. let a = walk-lines m ws s (ahead ++ w ∷ []) in omega arith)
+    (λ r e. let a = walk-lines m ws s (ahead ++ w ∷ []) in omega arith)
     (λ i o e. let a = walk-lines m ws (wake (s .clock) (w .place) (grant (w .place) o s)) ahead in omega arith)
 
 -- and for each that a PUTS frees.
@@ -103,9 +103,9 @@ module _ (m : Model) (s : State) (h : Listed s) (p : ℕ) where
   act-lines (PUTB i n) = good-need _ _ λ a. good (omega arith)
   act-lines (PUTS i n) = good-need _ _ λ a. good (frees i n _)
   act-lines (BECOME i) = good (walked _ refl)
-  act-lines (REQ c) = choice-has FewLines (chosen (REQ c)) (λ g. good (omega arith)) (λ i o g. good (omega arith))
-  act-lines (TRY bs) = choice-has FewLines (chosen (TRY bs)) (λ g. good (omega arith)) (λ i o g. good (omega arith))
-  act-lines (WHILE b c) = choice-has FewLines (chosen (WHILE b c)) (λ g. good (omega arith)) (λ i o g. good (omega arith))
+  act-lines (REQ c) = choice-has FewLines (chosen (REQ c)) (λ r g. good (omega arith)) (λ i o g. good (omega arith))
+  act-lines (TRY bs) = choice-has FewLines (chosen (TRY bs)) (λ r g. good (omega arith)) (λ i o g. good (omega arith))
+  act-lines (WHILE b c) = choice-has FewLines (chosen (WHILE b c)) (λ r g. good (omega arith)) (λ i o g. good (omega arith))
   act-lines (START c t g) = good-need _ _ λ a. good-need _ _ λ b. good-need _ _ λ d. good (omega arith)
   act-lines CLOSE = good one-written
 

@@ -1,4 +1,5 @@
--- The promises of document 01 from the bytes of a model file: soundness kept, demand 3, and one answer for each call.
+-- The promises of document 01 from the bytes of a model file: soundness kept, demand 3, one answer for each call; and those of
+-- document 02's requests that speak of a run.
 -- Assumes nothing.
 use Prim.Native.Nat.{ℕ, _≤_}
 use native.Mathlib.Omega.{arith}
@@ -14,7 +15,7 @@ use Rattle.semantics.specs.State.{State, Process, fresh, process}
 use Rattle.semantics.specs.Walk.{Next}
 use Rattle.semantics.specs.Step.{step}
 use Rattle.semantics.specs.Sound.{sound}
-use Rattle.semantics.specs.Run.{FAULT, Ask, goesOn, before, stopped, run, call, noEnd, leaves, stepsOf, limitsOf, noneEnds}
+use Rattle.semantics.specs.Run.{FAULT, Room, Ask, goesOn, before, stopped, run, call, noEnd, leaves, stepsOf, limitsOf, noneEnds}
 use Rattle.semantics.specs.Bound.{bound, loops}
 use Rattle.promises.specs.Laws.{AllOf}
 use Rattle.promises.specs.Fit.{Fit}
@@ -30,6 +31,8 @@ use Rattle.promises.specs.Keep.{al-none, free-or-fine}
 use Rattle.promises.specs.Moves.{proc-at}
 use Rattle.promises.specs.Left.{noTry}
 use Rattle.promises.specs.Ends.{again}
+use Rattle.promises.specs.Reasons as R
+use Rattle.promises.specs.Reasons.{SaysWhyItWaits}
 use Rattle.promises.specs.Calls as C
 use Rattle.promises.specs.Demand3 as D
 
@@ -79,6 +82,15 @@ module _ (bs : List ℕ) (m : Model) (e : decode bs ≡ accepted m) where
 
   pub never-20 : (l : List Ask) (a : Ask) → call bs a (leaves bs l (fresh m)) .answer ≡ FAULT No.STATE → ⊥
   never-20 = C.never-20 bs m e
+
+  -- WHY A JOB WAITS. Each line of kind 3 is of a process that asked with the floor. Its value is -1 or 1 to 4, and is what it says
+  -- (`Explains`). So it is in a run from any state, and in each call of an open run that only our calls moved.
+  pub run-says-why : (n : ℕ) (r : Room) (s : State) → AllOf (SaysWhyItWaits m s) (run m n r s .lines)
+  run-says-why = R.run-says-why m fit
+
+  pub call-says-why : (l : List Ask) (a : Ask)
+      → AllOf (SaysWhyItWaits m (leaves bs l (fresh m))) (call bs a (leaves bs l (fresh m)) .lines)
+  call-says-why l a = rw (call-is-run l a) (run-says-why (a .limit) (a .room) (leaves bs l (fresh m)))
 
   -- DEMAND 3: no WHILE, and each START's class body later than the START's block. The steps of all calls together are at most
   -- the bound, whatever its size.

@@ -95,9 +95,9 @@ module _ (m : Model) (s : State) (p : ℕ) where
   act-safe (PUTB i n) = safe-need _ _ refl safe
   act-safe (PUTS i n) = safe-need _ _ refl safe
   act-safe (BECOME i) = safe
-  act-safe (REQ c) = choice-has Safe (chosen (REQ c)) (λ g. safe) (λ i o g. safe)
-  act-safe (TRY bs) = choice-has Safe (chosen (TRY bs)) (λ g. safe) (λ i o g. safe)
-  act-safe (WHILE b c) = choice-has Safe (chosen (WHILE b c)) (λ g. safe) (λ i o g. safe)
+  act-safe (REQ c) = choice-has Safe (chosen (REQ c)) (λ r g. safe) (λ i o g. safe)
+  act-safe (TRY bs) = choice-has Safe (chosen (TRY bs)) (λ r g. safe) (λ i o g. safe)
+  act-safe (WHILE b c) = choice-has Safe (chosen (WHILE b c)) (λ r g. safe) (λ i o g. safe)
   act-safe (START c t h) = safe-need _ _ refl (safe-need _ _ refl (safe-need _ _ refl safe))
   act-safe CLOSE = safe
 

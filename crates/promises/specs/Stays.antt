@@ -209,13 +209,13 @@ module _ (m : Model) (t : Fit m) (r : State) (p : ℕ) where
     unfolding request
     request-sound a e k =
         choice-has (Leads m) (choice m s (inFront m s p) (offers a))
-        (λ g. good (blocks s h p (λ k. omega arith) (ap asksAt e ∙ k)))
+        (λ r g. good (blocks s h p (λ k. omega arith) (ap asksAt e ∙ k)))
         (λ i o g. good (granted a (inFront m s p) e i o g))
 
     while-sound : (a : Action) → At a → Leads m (while m s p a)
     unfolding while
     while-sound a e =
-        choice-has (Leads m) (choice m s (inFront m s p) (offers a)) (λ g. good (passes a e))
+        choice-has (Leads m) (choice m s (inFront m s p) (offers a)) (λ r g. good (passes a e))
         (λ i o g. good (granted a (inFront m s p) e i o g))
 
     -- The giver goes on with as many blocks, so there is still a free place.

@@ -15,8 +15,9 @@ use Rattle.semantics.specs.Model.{Kind, resource, bin, sync, Item, get, conditi
 use Rattle.semantics.specs.Model.{TRACE, SET, LSET, DO, PUTR, PUTB, PUTS, BECOME, REQ, TRY, WHILE, START, CLOSE}
 use Rattle.semantics.specs.State.{State, Process, Frame, Slave, Waiter, wakes, nobody, process, put, with-free, with-waiting}
 use Rattle.semantics.specs.State.{with-held, with-slaves, with-frames, wake, past, into}
-use Rattle.semantics.specs.Claim.{there, itemMet, met, takeItem, takeAll, Then, pass, enterBlock, Offer, offers, standsIn}
-use Rattle.semantics.specs.Claim.{offersAt, asks, sameKind, barred, Choice, waits, goes, firstMet, choice, follow, grant}
+use Rattle.semantics.specs.Claim.{there, itemMet, Test, met, lacks, testFrom, test, takeItem, takeAll, Then, pass, enterBlock}
+use Rattle.semantics.specs.Claim.{Offer, offers, standsIn, offersAt, asks, sameKind, barred, Reason, isBarred, Choice, waits}
+use Rattle.semantics.specs.Claim.{goes, orLacks, firstMet, choice, follow, grant}
 use Rattle.semantics.specs.Walk.{Next, walkOn, walk}
 use Rattle.semantics.specs.Sound.{enters, chained}
 use Rattle.promises.specs.Laws.{true-and, or-left, or-right, AllOf, all-map, all-both, all-get, all-append, all-hold}
@@ -166,6 +167,21 @@ module _ (m : Model) (s : State) {l : List Waiter} {z : ℕ → ℕ} (h : Held m
       (λ j. refl)
   take-item (condition i r v) k e = h
 
+-- A claim is met where each of its items is.
+pub not-met : {A : Type 0} {n : ℕ} → lacks n ≡ met → A
+not-met e = let z : _≡_ {A = ℕ} 0 1 = cc in absurd (omega arith)
+
+pub all-met : (s : State) (n : ℕ) (c : Claim) → testFrom n s c ≡ met → AllOf (λ i. itemMet s i ≡ true) c
+unfolding testFrom
+all-met s n [] e = tt
+all-met s n (i ∷ is) e = go (itemMet s i) refl (all-met s (suc n) is) e
+  where
+    go : (b : Bool) → itemMet s i ≡ b → (testFrom (suc n) s is ≡ met → AllOf (λ i. itemMet s i ≡ true) is)
+        → _≡_ {A = Test} (elim b [ true ↦ testFrom (suc n) s is | false ↦ lacks n ]) met
+        → (itemMet s i ≡ true) × AllOf (λ i. itemMet s i ≡ true) is
+    go true d f g = (d, f g)
+    go false d f g = not-met g
+
 -- It takes a claim that is met, and goes on.
 module _ (m : Model) (p : ℕ) (l : List Waiter) (z : ℕ → ℕ) (one : 1 ≤ z p) where
   pub take-all :
@@ -180,39 +196,44 @@ module _ (m : Model) (p : ℕ) (l : List Waiter) (z : ℕ → ℕ) (one : 1 ≤ 
 
   pub grant-held :
       (a : Action) (o : Offer) (s : State) → Held m s l z (λ j. 0) → standsIn m (process s p .frames) ≡ some a
-      → ClaimFit m (o .claim) → ThenOk a (o .andThen) → met s (o .claim) ≡ true → Held m (grant p o s) l z (λ j. 0)
+      → ClaimFit m (o .claim) → ThenOk a (o .andThen) → test s (o .claim) ≡ met → Held m (grant p o s) l z (λ j. 0)
   unfolding grant
   grant-held a o s h e k t g =
       follow-held m (takeAll p (o .claim) s)
-      (take-all (o .claim) s h (k .1) (k .2) (all-hold (itemMet s) (o .claim) g)) p one
+      (take-all (o .claim) s h (k .1) (k .2) (all-met s 1 (o .claim) g)) p one
       a (o .andThen) (rw (take-frames p (o .claim) s) e) t
 
 -- WHAT WAS CHOSEN was offered, and is met.
-pub not-goes : {A : Type 0} {i : ℕ} {o : Offer} → waits ≡ goes i o → A
+pub not-goes : {A : Type 0} {r : Reason} {i : ℕ} {o : Offer} → waits r ≡ goes i o → A
 not-goes e = let z : _≡_ {A = ℕ} 0 1 = cc in absurd (omega arith)
 
+-- A later branch goes as it would go without the one before it.
+pub or-goes : (n : ℕ) {i : ℕ} {o : Offer} (c : Choice) → orLacks n c ≡ goes i o → c ≡ goes i o
+or-goes n (waits r) e = not-goes e
+or-goes n (goes j x) e = e
+
 module _ (P : Offer → Type 0) (s : State) (i : ℕ) (o : Offer) where
-  met-in : (k : ℕ) (os : List Offer) → AllOf P os → firstMet s k os ≡ goes i o → P o × (met s (o .claim) ≡ true)
+  met-in : (k : ℕ) (os : List Offer) → AllOf P os → firstMet s k os ≡ goes i o → P o × (test s (o .claim) ≡ met)
   unfolding firstMet
   met-in k [] h e = not-goes e
-  met-in k (x ∷ xs) h e = go (met s (x .claim)) refl (λ g. met-in (suc k) xs (h .1) g) e
+  met-in k (x ∷ xs) h e = go (test s (x .claim)) refl (λ g. met-in (suc k) xs (h .1) g) e
     where
       go :
-          (b : Bool) → met s (x .claim) ≡ b → (firstMet s (suc k) xs ≡ goes i o → P o × (met s (o .claim) ≡ true))
-          → _≡_ {A = Choice} (elim b [ true ↦ goes k x | false ↦ firstMet s (suc k) xs ]) (goes i o)
-          → P o × (met s (o .claim) ≡ true)
-      go true d f g = let z : x ≡ o = cc in (rw (← z) (h .0), rw (← z) d)
-      go false d f g = f g
+          (t : Test) → test s (x .claim) ≡ t → (firstMet s (suc k) xs ≡ goes i o → P o × (test s (o .claim) ≡ met))
+          → _≡_ {A = Choice} (elim t [ met ↦ goes k x | lacks n ↦ orLacks n (firstMet s (suc k) xs) ]) (goes i o)
+          → P o × (test s (o .claim) ≡ met)
+      go met d f g = let z : x ≡ o = cc in (rw (← z) (h .0), rw (← z) d)
+      go (lacks n) d f g = f (or-goes n (firstMet s (suc k) xs) g)
 
   pub chosen :
       (m : Model) (ws : List Waiter) (os : List Offer) → AllOf P os → choice m s ws os ≡ goes i o
-      → P o × (met s (o .claim) ≡ true)
+      → P o × (test s (o .claim) ≡ met)
   unfolding choice
   chosen m ws os h e = go (barred m s ws os) e
     where
       go :
-          (b : Bool) → _≡_ {A = Choice} (elim b [ true ↦ waits | false ↦ firstMet s 0 os ]) (goes i o)
-          → P o × (met s (o .claim) ≡ true)
+          (b : Bool) → _≡_ {A = Choice} (elim b [ true ↦ waits isBarred | false ↦ firstMet s 0 os ]) (goes i o)
+          → P o × (test s (o .claim) ≡ met)
       go true g = not-goes g
       go false g = met-in 0 os h g
 
@@ -228,9 +249,9 @@ asks-at m s ws p i o P f = go (standsIn m (process s p .frames)) refl
     go (some a) e g = f a e g
 
 pub choice-has :
-    {A : Type 0} (P : A → Type 0) (c : Choice) {x : A} {y : ℕ → Offer → A} → (c ≡ waits → P x)
-    → ((i : ℕ) (o : Offer) → c ≡ goes i o → P (y i o)) → P (elim c [ waits ↦ x | goes i o ↦ y i o ])
-choice-has P waits f g = f refl
+    {A : Type 0} (P : A → Type 0) (c : Choice) {x : Reason → A} {y : ℕ → Offer → A} → ((r : Reason) → c ≡ waits r → P (x r))
+    → ((i : ℕ) (o : Offer) → c ≡ goes i o → P (y i o)) → P (elim c [ waits r ↦ x r | goes i o ↦ y i o ])
+choice-has P (waits r) f g = f r refl
 choice-has P (goes i o) f g = g i o refl
 
 -- What an action offers fits.
@@ -312,7 +333,7 @@ module _ (m : Model) (t : Fit m) where
   walk-on-held [] s ahead z h = rw append-nil at h
   walk-on-held (w ∷ ws) s ahead z h =
       choice-has (λ (n : Next). Held m (n .state) (n .state .blocked) z (λ j. 0)) (choice m s ahead (asks m s (w .place)))
-      (λ e. walk-on-held ws s (ahead ++ w ∷ []) z (rw append-assoc h))
+      (λ r e. walk-on-held ws s (ahead ++ w ∷ []) z (rw append-assoc h))
       (λ i o e. walk-on-held ws (wake (s .clock) (w .place) (grant (w .place) o s)) ahead z (walk-one s ahead w ws z h i o e))
 
   pub walk-floor : (ws : List Waiter) (s : State) (ahead : List Waiter) → walkOn m s ahead ws .state .floor ≡ s .floor
@@ -320,7 +341,7 @@ module _ (m : Model) (t : Fit m) where
   walk-floor [] s ahead = refl
   walk-floor (w ∷ ws) s ahead =
       choice-has (λ (n : Next). n .state .floor ≡ s .floor) (choice m s ahead (asks m s (w .place)))
-      (λ e. walk-floor ws s (ahead ++ w ∷ []))
+      (λ r e. walk-floor ws s (ahead ++ w ∷ []))
       (λ i o e.
       walk-floor ws (wake (s .clock) (w .place) (grant (w .place) o s)) ahead ∙ still-grant (w .place) o s .same-floor)
 
