@@ -94,7 +94,7 @@ fn item_met<'a>(i: &'a [u8], w: &'a [u64]) -> bool
 // ---- the items of a claim
 
 // The claim at byte `at`.
-fn test<'a>(s: &'a [u8], at: usize, w: &'a [u64]) -> Test
+fn test_claim<'a>(s: &'a [u8], at: usize, w: &'a [u64]) -> Test
     requires { ⌜ Meeting (now s) at (now w) ⌝ }
     ensures { λ r. ⌜ ((v : Meeting (now (s .entry)) at (now (w .entry))) → r ≡ testIn (test (v .is) (v .claim))) ⌝ }
 {
@@ -125,7 +125,7 @@ pub fn first_met<'a>(s: &'a [u8], map: &'a [u32], w: &'a [u64], a: usize) -> Cho
     let mut k = 0;
     while k < many {
         let at = file_map::claim_at(map, from + k);
-        let tested = test(s, at, w);
+        let tested = test_claim(s, at, w);
         match tested {
             Test::Met => return Choice::Goes(k),
             Test::Lacks(n) => {
