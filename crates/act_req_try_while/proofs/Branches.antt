@@ -8,7 +8,7 @@ use lib.ListN.{length, getD, take}
 use lib.IntN.{pos}
 use Rattle.semantics.specs.Model.{Branch, Action}
 use Rattle.semantics.specs.State.{State}
-use Rattle.semantics.specs.Claim.{met, Offer, enterBlock, offers, choice, grant}
+use Rattle.semantics.specs.Claim.{met, test, Offer, enterBlock, offers, choice, grant}
 use Rattle.semantics.specs.Walk.{line}
 use Rattle.semantics.specs.Step.{inFront}
 use Rattle.promises.specs.Laws.{AllOf, some-in}
@@ -25,6 +25,7 @@ use Rattle.row_lists.specs.Lists.{waiterOf}
 use Rattle.row_lists.specs.Queues.{before}
 use Rattle.row_lists.specs.Front.{in-front}
 use Rattle.row_claim.specs.Choices.{choiceIn, says-waits, Takes, takes}
+use Rattle.row_claim.specs.declared.Reason.{Reason}
 use Rattle.row_claim.specs.declared.Choice.{Choice as Answer}
 use Rattle.row_claim.specs.declared.Choice.the-variants.{Waits, Goes}
 use Rattle.row_grant.specs.Grant.{intoBlock, Granting, Facing}
@@ -105,10 +106,10 @@ module _ {bs row w : List ℕ} {p a : ℕ} {x : Action} (v : Asked bs row w p a 
           let e = ap (λ j. take j (s .blocked)) (in-front-of-it .0) ∙ in-front s p (is-sized (here v)) o in
           told facing ∙ ap (λ ws. choiceIn (choice (model v) s ws os)) e
 
-      pub none-taken : r ≡ Waits → (at : ℕ) (out : List ℕ) → Branched (taken v) false p s w w at out out
+      pub none-taken : {y : Reason} → r ≡ Waits y → (at : ℕ) (out : List ℕ) → Branched (taken v) r p s w w at out out
       none-taken h at out =
-          let e = says-waits (taken v) (sym h ∙ taken-is) in
-          record { comes = subst (λ c. Comes c false p s w w at out out) (sym e) (refl, (refl, refl)) }
+          let e = says-waits (taken v) (sym h ∙ taken-is) .1 .0 in
+          record { answers = taken-is; comes = subst (λ c. Comes c p s w w at out out) (sym e) (refl, refl) }
 
       module _ {n : ℕ} (h : r ≡ Goes n) where
         pub found : Takes (model v) s (inFront (model v) s p) os n
@@ -126,15 +127,15 @@ module _ {bs row w : List ℕ} {p a : ℕ} {x : Action} (v : Asked bs row w p a 
 
         pub one-taken : {w₁ : List ℕ} → w₁ ≡ workOf (grant p offer s) → (at : ℕ) (out : List ℕ) {out₁ : List ℕ}
             → out₁ ≡ wroteAt at (line s (who v .number) 4 (valueOf (2_147_483_648 + n)) ∷ []) out
-            → Branched (taken v) true p s w w₁ at out out₁
+            → Branched (taken v) r p s w w₁ at out out₁
         one-taken {w₁} e at out {out₁} t =
             let u = t ∙ ap (λ z. wroteAt at (line s (who v .number) 4 z ∷ []) out) value-is in
-            record { comes = subst (λ c. Comes c true p s w w₁ at out out₁) (sym (found .chosen)) (refl, (e, u)) }
+            record { answers = taken-is; comes = subst (λ c. Comes c p s w w₁ at out out₁) (sym (found .chosen)) (e, u) }
 
         -- It is granted.
         module _ {first : ℕ} (f : first ≡ getD row (1_345 + a) 0) (b : Bool)
             (all : AllOf (λ o. b ≡ intoBlock (o .andThen)) os) where
-          pub met-and : (b ≡ intoBlock (offer .andThen)) × (met s (offer .claim) ≡ true)
+          pub met-and : (b ≡ intoBlock (offer .andThen)) × (test s (offer .claim) ≡ met)
           met-and = chosen (λ o. b ≡ intoBlock (o .andThen)) s n offer (model v) _ os all (found .chosen)
 
           abbrev pub granting : Granting bs row w p (first + n) b
@@ -151,6 +152,6 @@ module _ {bs row w : List ℕ} {p a : ℕ} {x : Action} (v : Asked bs row w p a 
                 which = n;
                 offered = found .there;
                 offer-at = rw f (offers-there .each n offer (found .there));
-                met = met-and .1;
+                is-met = met-and .1;
                 enters-is = met-and .0;
               }

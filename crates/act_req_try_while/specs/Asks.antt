@@ -1,5 +1,5 @@
 -- A process on the floor that asks: where it stands, by the map, and what comes of its branches. Assumes nothing.
-use Prim.Native.Nat.{ℕ, _+_}
+use Prim.Native.Nat.{ℕ, _+_, _≤_}
 use mathlib.Core.Path.{_≡_}
 use mathlib.Core.List.{List, [], _∷_}
 use mathlib.Core.Bool.{Bool, true, false}
@@ -14,8 +14,13 @@ use Rattle.semantics.specs.Claim.{offers, Choice, waits, goes, choice, grant}
 use Rattle.semantics.specs.Walk.{Next, line}
 use Rattle.semantics.specs.Step.{inFront}
 use Rattle.promises.specs.Laws.{AllOf}
+use Rattle.base_numbers.specs.Code as Code
 use Rattle.base_journal.specs.Wrote.{wroteAt}
 use Rattle.row_work.specs.Work.{workOf}
+use Rattle.row_claim.specs.Choices.{choiceIn}
+use Rattle.row_claim.specs.declared.Reason.{Reason}
+use Rattle.row_claim.specs.declared.Reason.the-variants.{Barred, Lacks}
+use Rattle.row_claim.specs.declared.Choice.{Choice as Answer}
 use Rattle.row_grant.specs.Grant.{intoBlock}
 use Rattle.act_floor.specs.Acting.{Acting}
 
@@ -66,12 +71,22 @@ pub record Branching (bs map w : List ℕ) (p a : ℕ) (enters : Bool) : Type 0 
   pub asked : Asked bs map w p a action
   pub enters-all : AllOf (λ o. enters ≡ intoBlock (o .andThen)) (offers action)
 
--- The process in place p of s took the branch that was chosen, with a line at `at`; or there was none and all is as it was.
-abbrev pub Comes : Choice → Bool → (p : ℕ) (s : State) (w w′ : List ℕ) (at : ℕ) (out out′ : List ℕ) → Type 0
-Comes waits b p s w w′ at out out′ = (b ≡ false) × ((w′ ≡ w) × (out′ ≡ out))
-Comes (goes n o) b p s w w′ at out out′ =
-    (b ≡ true)
-    × ((w′ ≡ workOf (grant p o s)) × (out′ ≡ wroteAt at (line s (process s p .number) No.granted (pos n) ∷ []) out))
+-- The process in place p of s took the branch that was chosen, with a line at `at`; or it waits and all is as it was. r tells
+-- which.
+abbrev pub Comes : Choice → (p : ℕ) (s : State) (w w′ : List ℕ) (at : ℕ) (out out′ : List ℕ) → Type 0
+Comes (waits y) p s w w′ at out out′ = (w′ ≡ w) × (out′ ≡ out)
+Comes (goes n o) p s w w′ at out out′ =
+    (w′ ≡ workOf (grant p o s)) × (out′ ≡ wroteAt at (line s (process s p .number) No.granted (pos n) ∷ []) out)
 
-pub record Branched (c : Choice) (b : Bool) (p : ℕ) (s : State) (w w′ : List ℕ) (at : ℕ) (out out′ : List ℕ) : Type 0 where
-  pub comes : Comes c b p s w w′ at out out′
+pub record Branched (c : Choice) (r : Answer) (p : ℕ) (s : State) (w w′ : List ℕ) (at : ℕ) (out out′ : List ℕ) : Type 0 where
+  pub answers : r ≡ choiceIn c
+  pub comes : Comes c p s w w′ at out out′
+
+-- WHY IT WAITS, as the code of what a line says; the number of an item is small.
+abbrev pub Few : Reason → Type 0
+Few Barred = Unit {0}
+Few (Lacks n) = n ≤ No.mostItems
+
+abbrev pub codeSaid : Reason → ℕ
+codeSaid Barred = Code.MINUS_ONE
+codeSaid (Lacks n) = Code.ZERO + n

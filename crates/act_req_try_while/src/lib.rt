@@ -1,8 +1,10 @@
 // REQ, TRY and WHILE of the process on the floor: it takes a branch, or is blocked and says why, or passes on.
+ghost use mathlib.Core.Path.{_≡_};
 ghost use Rattle.semantics.specs.Model.{WHILE};
 ghost use Rattle.semantics.specs.Step.{request, while};
 ghost use Rattle.act_floor.specs.Acting.{Roomy, Stepped};
 ghost use Rattle.act_req_try_while.specs.Asks.{Requesting, Looping, Branching, Branched, state, made, taken};
+ghost use Rattle.act_req_try_while.specs.Asks.{Few, codeSaid};
 use act_floor::Went;
 use base_numbers::code;
 use base_numbers::line;
@@ -12,7 +14,7 @@ use row_claim::Reason;
 // What a line of kind 3 says of why the process waits, as its code.
 fn said(why: Reason) -> u32
     requires { ⌜ Few why ⌝ }
-    ensures { λ r. ⌜ r ≡ codeSaid (why .entry) ⌝ }
+    ensures { λ r. ⌜ r ≡ codeSaid why ⌝ }
 {
     match why {
         Reason::Barred => code::MINUS_ONE,

@@ -10,7 +10,7 @@ use lib.ListN.{getD, getElem?, take, drop, take-append-drop}
 use lib.Seq.{drop-cons}
 use Rattle.semantics.specs.Model.{Model}
 use Rattle.semantics.specs.State.{State, Waiter, process, wake}
-use Rattle.semantics.specs.Claim.{met, Offer, offers, standsIn, asks, goes, choice, grant}
+use Rattle.semantics.specs.Claim.{met, test, Offer, offers, standsIn, asks, goes, choice, grant}
 use Rattle.promises.specs.Laws.{once, once-self}
 use Rattle.promises.specs.Sound.{Held}
 use Rattle.promises.specs.Parts.{fit-at}
@@ -91,7 +91,7 @@ module _ {bs row w : List ℕ} {k : ℕ} (v : Visiting bs row w k) where
           ∙ ap (choice m s (take k (s .blocked))) (sym (asks-are stands) ∙ ap (asks m s) e)
           ∙ c
 
-      met-left : met left (o .claim) ≡ true
+      met-left : test left (o .claim) ≡ met
       met-left =
           chosen (OfferOk m (stands .action)) left i o m (take k (s .blocked)) (offers (stands .action))
           (offers-ok m (stands .action)
@@ -155,7 +155,7 @@ module _ {bs row w : List ℕ} {k p n : ℕ} {enters : Bool} (g : Going bs row w
           which = g .which;
           offered = ap (λ os. getElem? os (g .which)) (sym (asks-are (stands v p e))) ∙ g .offered;
           offer-at = g .offer-at;
-          met = met-left v p e (g .which) (g .offer) (g .chosen);
+          is-met = met-left v p e (g .which) (g .offer) (g .chosen);
           enters-is = g .enters-is;
         }
 

@@ -97,7 +97,7 @@ module _ {bs row w₀ : List ℕ} (v : Walking bs row w₀) (at : ℕ) (out₀ :
         where
           by : (c : Choice) → chooses m (d .is) k ≡ c → Visited (d .is) k c r w w′ (at + wrote) out out′
               → Midway v at out₀ w′ out′ (left - 1) (k + (1 - r)) (wrote + r)
-          by waits e h =
+          by (waits y) e h =
               record {
                 is = d .is;
                 shows = h .1 .0 ∙ d .shows;
@@ -110,7 +110,7 @@ module _ {bs row w₀ : List ℕ} (v : Walking bs row w₀) (at : ℕ) (out₀ :
                 few = omega (arith, d .few, h .0);
                 rest =
                     ap (λ j. behind (d .lines) (visits m (left - 1) j (d .is))) (omega (arith, h .0))
-                    ∙ ap (behind (d .lines)) (sym (one-of ∙ visit-waits m (left - 1) k (d .is) e))
+                    ∙ ap (behind (d .lines)) (sym (one-of ∙ visit-waits m (left - 1) k (d .is) y e))
                     ∙ d .rest;
               }
           by (goes i o) e h =

@@ -19,9 +19,9 @@ use Rattle.file_map.specs.Map.{OfferAt, OffersAt}
 use Rattle.row_process.specs.Process.{Shown, Lives}
 use Rattle.row_process.specs.Put.{process-sized}
 use Rattle.row_lists.specs.Lists.{Any, IsBlocked}
-use Rattle.row_claim.specs.Choices.{choiceIn, says-waits, Takes, takes}
-use Rattle.row_claim.specs.declared.Choice.{Choice as Answer}
-use Rattle.row_claim.specs.declared.Choice.the-variants.{Waits, Goes}
+use Rattle.row_claim.specs.Choices.{branchIn, says-stays, Takes, branch-takes}
+use Rattle.row_claim.specs.declared.Branch.{Branch as Answer}
+use Rattle.row_claim.specs.declared.Branch.the-variants.{Stays, Goes}
 use Rattle.row_grant.specs.Grant.{Facing}
 use Rattle.row_grant.specs.Standing.{numberIn, asks-are, offers-there, number-low, placeAt}
 use Rattle.act_walk.specs.Walking.{Visiting, chooses, went, Visited, Going, AtAction, enteredBy}
@@ -98,24 +98,24 @@ module _ {bs row w : List ℕ} {k : ℕ} (v : Visiting bs row w k) where
       -- THE ANSWER says what it chooses: to wait,
       module _ {r : Answer}
           (told₂ : (d : Facing bs row w a k)
-          → r ≡ choiceIn (choice (d .run .model) (d .run .is) (take k (d .run .is .blocked)) (offers (d .asked)))) where
+          → r ≡ branchIn (choice (d .run .model) (d .run .is) (take k (d .run .is .blocked)) (offers (d .asked)))) where
         abbrev os : List Offer
         os = offers (stands v p e .action)
 
         chooses-is : chooses m s k ≡ choice m s (take k (s .blocked)) os
         chooses-is = ap (choice m s (take k (s .blocked))) (ap (asks m s) (sym e) ∙ asks-are (stands v p e))
 
-        pub stayed : (at : ℕ) (out : List ℕ) → r ≡ Waits → Visited s k (chooses m s k) 0 w w at out out
+        pub stayed : (at : ℕ) (out : List ℕ) → r ≡ Stays → Visited s k (chooses m s k) 0 w w at out out
         unfolding facing
         stayed at out h =
-            subst (λ c. Visited s k c 0 w w at out out) (sym (chooses-is ∙ says-waits _ (sym h ∙ told₂ facing)))
+            subst (λ c. Visited s k c 0 w w at out out) (sym (chooses-is ∙ says-stays _ (sym h ∙ told₂ facing) .1))
             (refl, (refl, refl))
 
         -- or to go.
         module _ {which : ℕ} (h : r ≡ Goes which) where
           taken : Takes m s (take k (s .blocked)) os which
           unfolding facing
-          taken = takes m s (take k (s .blocked)) os (sym h ∙ told₂ facing)
+          taken = branch-takes m s (take k (s .blocked)) os (sym h ∙ told₂ facing)
 
           pub branch-few : getD row (1_345 + a) 0 + which < 4_096
           branch-few = omega (arith, offers-at .from-few, some-in os which (taken .offer) (taken .there))

@@ -4,15 +4,15 @@ use native.Mathlib.Numerals.{add-one}
 use native.Mathlib.Omega.{arith}
 use mathlib.Core.Path.{_≡_, refl, sym, _∙_, ap}
 use mathlib.Core.List.{List, [], _∷_, _++_}
-use mathlib.Core.Bool.{true, false, _&&_}
+use mathlib.Core.Bool.{true, false}
 use lib.ListN.{length, getD, take, drop, drop-of-length-le}
 use lib.Seq.{take-all, take-suc, drop-cons, take-at, drop-at, length-take-le}
 use lib.IntN.{pos}
 use Rattle.semantics.specs.Numbers as No
 use Rattle.semantics.specs.Model.{Model, Item, get, condition, resource, bin, sync, Claim}
 use Rattle.semantics.specs.State.{State, Waiter, process, put, with-blocked, wake}
-use Rattle.semantics.specs.Claim.{itemMet, met, Offer, asks, barred, Choice, waits, goes, firstMet, choice}
-use Rattle.semantics.specs.Claim.{takeItem, takeAll, follow, grant}
+use Rattle.semantics.specs.Claim.{itemMet, met, lacks, testFrom, test, takeItem, takeAll, Offer, asks, barred, Reason}
+use Rattle.semantics.specs.Claim.{isBarred, Choice, waits, goes, orLacks, firstMet, choice, follow, grant}
 use Rattle.semantics.specs.Walk.{Next, line, after, walkOn, walk}
 use Rattle.promises.specs.Takes.{still-grant}
 use Rattle.base_ordered.specs.Lines.{removed}
@@ -38,20 +38,23 @@ module _ (s : State) (x : List Waiter) where
   item-same (get sync i n) = refl
   item-same (condition i r v) = refl
 
-  met-same : (c : Claim) → met (with-blocked s x) c ≡ met s c
-  met-same [] = refl
-  met-same (i ∷ is) = ap (λ b. b && met (with-blocked s x) is) (item-same i) ∙ ap (λ b. itemMet s i && b) (met-same is)
+  test-same : (n : ℕ) (c : Claim) → testFrom n (with-blocked s x) c ≡ testFrom n s c
+  unfolding testFrom
+  test-same n [] = refl
+  test-same n (i ∷ is) =
+      ap (λ b. elim b [ true ↦ testFrom (suc n) (with-blocked s x) is | false ↦ lacks n ]) (item-same i)
+      ∙ ap (λ t. elim (itemMet s i) [ true ↦ t | false ↦ lacks n ]) (test-same (suc n) is)
 
   first-same : (i : ℕ) (os : List Offer) → firstMet (with-blocked s x) i os ≡ firstMet s i os
   unfolding firstMet
   first-same i [] = refl
   first-same i (o ∷ os) =
-      ap (λ b. elim b [ true ↦ goes i o | false ↦ firstMet (with-blocked s x) (suc i) os ]) (met-same (o .claim))
-      ∙ ap (λ c. elim (met s (o .claim)) [ true ↦ goes i o | false ↦ c ]) (first-same (suc i) os)
+      ap (λ t. elim t [ met ↦ goes i o | lacks n ↦ orLacks n (firstMet (with-blocked s x) (suc i) os) ]) (test-same 1 (o .claim))
+      ∙ ap (λ c. elim (test s (o .claim)) [ met ↦ goes i o | lacks n ↦ orLacks n c ]) (first-same (suc i) os)
 
   pub choice-same : (m : Model) (ws : List Waiter) (q : List Offer) → choice m (with-blocked s x) ws q ≡ choice m s ws q
   unfolding choice
-  choice-same m ws q = ap (λ c. elim (barred m s ws q) [ true ↦ waits | false ↦ c ]) (first-same 0 q)
+  choice-same m ws q = ap (λ c. elim (barred m s ws q) [ true ↦ waits isBarred | false ↦ c ]) (first-same 0 q)
 
 module _ (p : ℕ) (x : List Waiter) where
   item-keeps : (i : Item) (s : State) → takeItem p i (with-blocked s x) ≡ with-blocked (takeItem p i s) x
@@ -77,11 +80,11 @@ module _ (p : ℕ) (x : List Waiter) where
 
 -- THE SAME CHOICE leads to the same where each of its cases does.
 either-same : {c d : Choice} {x y : Next} {f g : ℕ → Offer → Next} → c ≡ d → x ≡ y → ((i : ℕ) (o : Offer) → f i o ≡ g i o)
-    → _≡_ {A = Next} (elim c [ waits ↦ x | goes i o ↦ f i o ]) (elim d [ waits ↦ y | goes i o ↦ g i o ])
-either-same {d = d} {x} {y} {f} {g} e a b = ap (λ k. elim k [ waits ↦ x | goes i o ↦ f i o ]) e ∙ by d
+    → _≡_ {A = Next} (elim c [ waits r ↦ x | goes i o ↦ f i o ]) (elim d [ waits r ↦ y | goes i o ↦ g i o ])
+either-same {d = d} {x} {y} {f} {g} e a b = ap (λ k. elim k [ waits r ↦ x | goes i o ↦ f i o ]) e ∙ by d
   where
-    by : (k : Choice) → _≡_ {A = Next} (elim k [ waits ↦ x | goes i o ↦ f i o ]) (elim k [ waits ↦ y | goes i o ↦ g i o ])
-    by waits = a
+    by : (k : Choice) → _≡_ {A = Next} (elim k [ waits r ↦ x | goes i o ↦ f i o ]) (elim k [ waits r ↦ y | goes i o ↦ g i o ])
+    by (waits r) = a
     by (goes i o) = b i o
 
 module _ (m : Model) where
@@ -142,13 +145,13 @@ module _ (m : Model) where
 
   -- ONE VISIT of those that are left.
   module _ (n k : ℕ) (s : State) where
-    pub visit-waits : chooses m s k ≡ waits → visits m (suc n) k s ≡ visits m n (suc k) s
+    pub visit-waits : (r : Reason) → chooses m s k ≡ waits r → visits m (suc n) k s ≡ visits m n (suc k) s
     unfolding visits
-    visit-waits e =
+    visit-waits r e =
         ap
         (λ c.
         elim c
-        [ waits ↦ visits m n (suc k) s | goes i o ↦ after (grantedLine s k i) (visits m n k (went k o s)) ])
+        [ waits x ↦ visits m n (suc k) s | goes i o ↦ after (grantedLine s k i) (visits m n k (went k o s)) ])
         e
 
     pub visit-goes : (i : ℕ) (o : Offer) → chooses m s k ≡ goes i o
@@ -158,7 +161,7 @@ module _ (m : Model) where
         ap
         (λ c.
         elim c
-        [ waits ↦ visits m n (suc k) s | goes j x ↦ after (grantedLine s k j) (visits m n k (went k x s)) ])
+        [ waits r ↦ visits m n (suc k) s | goes j x ↦ after (grantedLine s k j) (visits m n k (went k x s)) ])
         e
 
   pub walk-visits : (s : State) → visits m (length (s .blocked)) 0 s ≡ walk m s

@@ -54,7 +54,7 @@ grantedLine s k i = line s (process s (placeAt (s .blocked) k) .number) No.grant
 
 -- It was visited: it went and wrote its line at `at`, or all is as it was. r is how many lines were written.
 abbrev pub Visited : State → ℕ → Choice → ℕ → (w w′ : List ℕ) (at : ℕ) (out out′ : List ℕ) → Type 0
-Visited s k waits r w w′ at out out′ = (r ≡ 0) × ((w′ ≡ w) × (out′ ≡ out))
+Visited s k (waits y) r w w′ at out out′ = (r ≡ 0) × ((w′ ≡ w) × (out′ ≡ out))
 Visited s k (goes i o) r w w′ at out out′ =
     (r ≡ 1) × ((w′ ≡ workOf (went k o s)) × (out′ ≡ wroteAt at (grantedLine s k i ∷ []) out))
 
@@ -84,6 +84,6 @@ unfoldable pub visits : Model → ℕ → ℕ → State → Next
 visits m zero k s = quiet s
 visits m (suc n) k s =
     elim (chooses m s k) [
-      | waits ↦ visits m n (suc k) s
+      | waits r ↦ visits m n (suc k) s
       | goes i o ↦ after (grantedLine s k i) (visits m n k (went k o s))
     ]

@@ -15,6 +15,12 @@ pub fn wide_short(short: u16) -> u32
     short as u32
 }
 
+pub fn long(short: u16) -> u64
+    ensures { λ r. ⌜ (r ≡ short) × (r < Byte.TWO) ⌝ }
+{
+    short as u64
+}
+
 pub fn wide(x: u32) -> u64
     ensures { λ r. ⌜ (r ≡ x) × (r < Byte.FOUR) ⌝ }
 {

@@ -5,17 +5,10 @@ ghost use Prim.Native.Nat.{_+_, _<_, max};
 ghost use lib.Dec.{eqb};
 ghost use lib.ListN.{getD};
 ghost use Rattle.base_numbers.specs.Limit as Limit;
-ghost use Rattle.base_numbers.specs.Byte as Byte;
 ghost use Rattle.file_depth.specs.Deep.{Graph, Known};
 ghost use Rattle.file_weight.specs.Weigh.{actionWeightOf, weightOf, cap, told, weighed, actionWeighed};
 ghost use Rattle.file_weight.specs.Weigh.{actsIn, Stands};
 use base_numbers::limit;
-
-fn long(x: u16) -> u64
-    ensures { λ r. ⌜ (r ≡ x) × (r < Byte.TWO) ⌝ }
-{
-    x as u64
-}
 
 fn larger(x: u64, y: u64) -> u64
     ensures { λ r. ⌜ r ≡ max x y ⌝ }
@@ -114,8 +107,8 @@ fn action_weight<'a>(
         top = larger(top, v);
         k = k + 1;
     }
-    let weight = long(own[a]);
-    let rounds = long(times[a]);
+    let weight = base_wide::long(own[a]);
+    let rounds = base_wide::long(times[a]);
     capped(weight + rounds * top)
 }
 

@@ -25,9 +25,9 @@ use Rattle.semantics.specs.Step.{become, puts, start, inFront, request, while, 
 use Rattle.semantics.specs.Run.{Room, run}
 use Rattle.promises.specs.Laws.{no-way, if-has, Good, good, stopped, good-bind, good-need, good-map}
 use Rattle.promises.specs.Laws.{good-out, AllOf, all-map, all-append}
-use Rattle.promises.specs.Fit.{ClaimFit, ActFit, Fit}
+use Rattle.promises.specs.Fit.{ActFit, Fit}
 use Rattle.promises.specs.Parts.{fit-at, moves-has}
-use Rattle.promises.specs.Takes.{choice-has, offers-ok, OfferOk}
+use Rattle.promises.specs.Takes.{choice-has}
 use Rattle.promises.specs.Answers.{Made, none-made, one-made, run-made}
 
 -- THE FIRST LACKING ITEM of a claim, counted from k, is its n-th: it is lacking, and those before it aren't.
@@ -94,6 +94,9 @@ pub data WaitValue : ℤ → Type 0 where
   is-barred : WaitValue No.barred
   is-item : {n : ℕ} → 1 ≤ n → n ≤ No.mostItems → WaitValue (pos n)
 
+pub item-few : (n : ℕ) → WaitValue (pos n) → n ≤ No.mostItems
+item-few n (is-item a b) = b
+
 pub record Explains (m : Model) (s : State) (ws : List Waiter) (os : List Offer) (v : ℤ) : Type 0 where
   pub in-range : WaitValue v
   pub only-if-barred : v ≡ No.barred → barred m s ws os ≡ true
@@ -149,17 +152,17 @@ module _ (m : Model) (s : State) (ws : List Waiter) (o : Offer) (os : List Offer
       go true d g = let z : isBarred ≡ r = cc in rw (← z) (bars-why d)
       go false d g = first-why r d g
 
--- An action that fits and is a REQ or TRY has a first branch, and that has 4 items at most.
-pub data Requests : Action → Type 0 where
-  by-req : {c : Claim} → Requests (REQ c)
-  by-try : {bs : List Branch} → Requests (TRY bs)
+-- A REQ or TRY that fits has a first branch, and that has 4 items at most.
+module _ (m : Model) (s : State) (ws : List Waiter) where
+  abbrev pub WhyWaits : Action → Type 0
+  WhyWaits a = (r : Reason) → choice m s ws (offers a) ≡ waits r → Explains m s ws (offers a) (reasonSaid r)
 
-pub request-why : (m : Model) (s : State) (ws : List Waiter) (a : Action) → Requests a → ActFit m a → (r : Reason)
-    → choice m s ws (offers a) ≡ waits r → Explains m s ws (offers a) (reasonSaid r)
-request-why m s ws (REQ c) by-req k r e = choice-why m s ws (record { claim = c; andThen = _ }) [] (k .0) r e
-request-why m s ws (TRY []) by-try k r e = let w = k .0 in absurd (omega arith)
-request-why m s ws (TRY (b ∷ bs)) by-try k r e =
-    choice-why m s ws (record { claim = b .claim; andThen = _ }) _ (k .1 .0 .1 .0) r e
+  pub req-why : (c : Claim) → ActFit m (REQ c) → WhyWaits (REQ c)
+  req-why c k r e = choice-why m s ws (record { claim = c; andThen = _ }) [] (k .0) r e
+
+  pub try-why : (bs : List Branch) → ActFit m (TRY bs) → WhyWaits (TRY bs)
+  try-why [] k r e = let w = k .0 in absurd (omega arith)
+  try-why (b ∷ bs) k r e = choice-why m s ws (record { claim = b .claim; andThen = _ }) _ (k .1 .0 .1 .0) r e
 
 -- A LINE OF KIND 3 is of the process in place p, which has the floor of s and stands at an action, and says why that waits.
 pub record Asked (m : Model) (s : State) (p : ℕ) (l : Line) : Type 0 where
@@ -201,13 +204,15 @@ module _ (m : Model) (t : Fit m) (s : State) (p : ℕ) where
   abbrev SaysWhy : Outcome Next → Type 0
   SaysWhy o = Good (λ n. Saying (Asked m s p) (n .lines)) o
 
-  request-says : (a : Action) → Requests a → standsIn m (process s p .frames) ≡ some a → SaysWhy (request m s p a)
+  fits : (a : Action) → standsIn m (process s p .frames) ≡ some a → ActFit m a
+  fits a e = fit-at m t (process s p .frames) a e
+
+  request-says : (a : Action) → standsIn m (process s p .frames) ≡ some a → WhyWaits m s (inFront m s p) a
+      → SaysWhy (request m s p a)
   unfolding request
-  request-says a k e =
+  request-says a e why =
       choice-has SaysWhy (choice m s (inFront m s p) (offers a))
-      (λ r g.
-      let why = request-why m s (inFront m s p) a k (fit-at m t (process s p .frames) a e) r g in
-      good ((λ l. record { asked = a; stands = e; of-it = refl; explained = why }), tt))
+      (λ r g. good ((λ l. record { asked = a; stands = e; of-it = refl; explained = why r g }), tt))
       (λ i o g. good ((λ l. absurd (omega arith)), tt))
 
   do-says : (n b : ℕ) → SaysWhy (doTimes m s p n b)
@@ -238,8 +243,8 @@ module _ (m : Model) (t : Fit m) (s : State) (p : ℕ) where
   act-says (PUTB i n) e = good-need _ _ λ a. good tt
   act-says (PUTS i n) e = good-need _ _ λ a. good (free-says _ i (freed i n (process s p .slaves)) _)
   act-says (BECOME i) e = become-says i
-  act-says (REQ c) e = request-says (REQ c) by-req e
-  act-says (TRY bs) e = request-says (TRY bs) by-try e
+  act-says (REQ c) e = request-says (REQ c) e (req-why m s (inFront m s p) c (fits (REQ c) e))
+  act-says (TRY bs) e = request-says (TRY bs) e (try-why m s (inFront m s p) bs (fits (TRY bs) e))
   act-says (WHILE b c) e =
       choice-has SaysWhy (choice m s (inFront m s p) (offers (WHILE b c))) (λ r g. good tt)
       (λ i o g. good ((λ l. absurd (omega arith)), tt))

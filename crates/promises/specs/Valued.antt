@@ -115,8 +115,8 @@ module _ (n : List ℕ) (g : Gathered) (c : (j : ℕ) → getD n j 0 ≡ getD (c
   there j i e = omega (arith, ltb-true i (getD n j 0) e, c j)
 
   -- What 6, 7 and 8 say of a tail.
-  abbrev Told : Tail → List ℕ → Type 0
-  Told t bs = (valid t bs ≡ true) × (twice t bs ≡ false) × (tailKnown n t bs ≡ true)
+  abbrev TailPasses : Tail → List ℕ → Type 0
+  TailPasses t bs = (valid t bs ≡ true) × (twice t bs ≡ false) × (tailKnown n t bs ≡ true)
 
   -- Expressions.
   abbrev NodeFit : Node → Type 0
@@ -176,7 +176,7 @@ module _ (n : List ℕ) (g : Gathered) (c : (j : ℕ) → getD n j 0 ≡ getD (c
   tree-fits (some []) h = tt
   tree-fits (some (e ∷ es)) h = h .0
 
-  expression-fits : (bs : List ℕ) → Told expression bs → ExprFit m (expressionIn bs)
+  expression-fits : (bs : List ℕ) → TailPasses expression bs → ExprFit m (expressionIn bs)
   unfolding tailKnown expressionIn
   expression-fits bs t = tree-fits (pile (nodes bs)) (pile-fits (nodes bs) (t .2))
 
@@ -187,7 +187,7 @@ module _ (n : List ℕ) (g : Gathered) (c : (j : ℕ) → getD n j 0 ≡ getD (c
   list-fits : {B : Type 0} (p : Part) (f : List ℕ → B) (P : B → Type 0) (R : B → B → Type 0)
       → ((x : List ℕ) → partValid p x ≡ true → partKnown p n x ≡ true → P (f x))
       → ((x y : List ℕ) → samePart p x y ≡ false → R (f x) (f y))
-      → (bs : List ℕ) → Told (listOf p) bs → ListFit P R (map f (partsOf p bs))
+      → (bs : List ℕ) → TailPasses (listOf p) bs → ListFit P R (map f (partsOf p bs))
   unfolding tailKnown listValid listTwice
   list-fits p f P R g h bs t =
       let xs : List (List ℕ) = partsOf p bs in
@@ -207,12 +207,12 @@ module _ (n : List ℕ) (g : Gathered) (c : (j : ℕ) → getD n j 0 ≡ getD (c
       let d = at-3 x (suc (suc (suc k))) (omega arith) e in
       (there K.VAR (u16 x 2) (subst (λ j. ltb (u16 x 2) (getD n (j + 1) 0) ≡ true) d f), signed-fits (u32 x 4))
 
-  claim-fits : (bs : List ℕ) → Told claim bs → ClaimFit m (claimIn bs)
+  claim-fits : (bs : List ℕ) → TailPasses claim bs → ClaimFit m (claimIn bs)
   unfolding claimIn
   claim-fits =
       list-fits item itemOf (ItemFit m) Apart (λ x. item-fits x (u8 x 0)) (λ x y. no-clash x y (u8 x 0) (u8 y 0))
 
-  shares-fit : (bs : List ℕ) → Told shares bs → ListFit (ShareFit m) SharesApart (sharesIn bs)
+  shares-fit : (bs : List ℕ) → TailPasses shares bs → ListFit (ShareFit m) SharesApart (sharesIn bs)
   unfolding sharesIn
   shares-fit =
       list-fits share shareOf (ShareFit m) SharesApart
@@ -231,7 +231,7 @@ module _ (n : List ℕ) (g : Gathered) (c : (j : ℕ) → getD n j 0 ≡ getD (c
       let k₂ = and-true (ltb (u16 b 0) (getD n K.BLOCK 0)) _ (k₁ .0) in
       ((there K.BLOCK (u16 b 0) (k₂ .0), claim-fits (drop 2 b) (v₁ .0, t₁ .0, k₂ .1)), each-branch xs (v₁ .1) (t₁ .1) (k₁ .1))
 
-  branches-fit : (bs : List ℕ) → Told branches bs
+  branches-fit : (bs : List ℕ) → TailPasses branches bs
       → Within 1 No.mostBranches (length (branchesIn bs)) × AllOf (BranchFit m) (branchesIn bs)
   unfolding tailKnown branchesIn
   branches-fit bs t =
@@ -256,7 +256,7 @@ module _ (n : List ℕ) (g : Gathered) (c : (j : ℕ) → getD n j 0 ≡ getD (c
   abbrev RowFit : Row → Type 0
   RowFit r =
       (bs : List ℕ) → inSet (r .field) bs ≡ true → fieldKnown n (r .naming) bs ≡ true
-      → Told (r .tail) (drop (r .head) bs) → EntryFit m (r .says bs)
+      → TailPasses (r .tail) (drop (r .head) bs) → EntryFit m (r .says bs)
 
   rows-fit : AllOf RowFit table
   rows-fit =

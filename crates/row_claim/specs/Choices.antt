@@ -65,6 +65,10 @@ says-taken : (c : Choice) {n : ℕ} → Taken.Goes n ≡ branchIn c → Goes n �
 says-taken (waits r) e = let z : _≡_ {A = ℕ} 0 1 = cc in absurd (omega arith)
 says-taken (goes i o) {n} e = let z : n ≡ i = cc in ap Goes z
 
+pub as-branch : (c : Choice) {n : ℕ} → Goes n ≡ choiceIn c → Taken.Goes n ≡ branchIn c
+as-branch (waits r) e = let z : _≡_ {A = ℕ} 0 1 = cc in absurd (omega arith)
+as-branch (goes i o) {n} e = let z : n ≡ i = cc in ap Taken.Goes z
+
 -- which is that of its number.
 first-there : (s : State) (i : ℕ) (os : List Offer) {j : ℕ} {o : Offer} → firstMet s i os ≡ goes j o
     → (k : ℕ) × ((j ≡ k + i) × (getElem? os k ≡ some o))

@@ -9,7 +9,7 @@ use lib.ListN.{length, getD, take, drop}
 use Rattle.semantics.specs.Words.{any}
 use Rattle.semantics.specs.Model.{Model}
 use Rattle.semantics.specs.State.{State, Waiter}
-use Rattle.semantics.specs.Claim.{offers, bars, asks, barred, Choice, waits, firstMet, choice}
+use Rattle.semantics.specs.Claim.{offers, bars, asks, barred, isBarred, Choice, waits, firstMet, choice}
 use Rattle.promises.specs.Laws.{AllOf, all-map}
 use Rattle.promises.specs.Fit.{ItemFit}
 use Rattle.promises.specs.Takes.{OfferOk, offers-ok}
@@ -19,9 +19,12 @@ use Rattle.row_process.specs.Process.{Shown, Lives}
 use Rattle.row_lists.specs.Lists.{IsBlocked}
 use Rattle.file_bars.specs.Barring.{Barring}
 use Rattle.row_claim.specs.Asking.{Asking}
-use Rattle.row_claim.specs.Choices.{choiceIn}
+use Rattle.row_claim.specs.Choices.{choiceIn, branchIn, as-branch, says-waits}
+use Rattle.row_claim.specs.declared.Reason.{Reason as ReasonAnswer}
+use Rattle.row_claim.specs.declared.Reason.the-variants.{Barred}
 use Rattle.row_claim.specs.declared.Choice.{Choice as Answer}
-use Rattle.row_claim.specs.declared.Choice.the-variants.{Waits}
+use Rattle.row_claim.specs.declared.Choice.the-variants.{Waits, Goes}
+use Rattle.row_claim.specs.declared.Branch.the-variants.{Stays, Goes as TakesBranch}
 use Rattle.row_grant.specs.Grant.{Facing, Faced}
 use Rattle.row_grant.specs.Standing.{Standing, numberIn, asks-are, offers-there, number-low, placeAt, blocked-standing}
 
@@ -178,13 +181,16 @@ module _ {bs row w : List ℕ} {a k : ℕ} (v : Facing bs row w a k) where
   unfolding choice
   free-chooses e = rw (e, choice)
 
-  barred-waits : is-barred ≡ true → chosen ≡ waits
+  barred-waits : is-barred ≡ true → chosen ≡ waits isBarred
   unfolding choice
   barred-waits e = rw (e, choice)
 
   -- One is barred,
-  pub barred-taken : true ≡ is-barred → Waits ≡ choiceIn chosen
+  pub barred-taken : true ≡ is-barred → Waits Barred ≡ choiceIn chosen
   barred-taken e = ap choiceIn (sym (barred-waits (sym e)))
+
+  pub barred-stays : true ≡ is-barred → Stays ≡ branchIn chosen
+  barred-stays e = ap branchIn (sym (barred-waits (sym e)))
 
   -- or takes the first that is met;
   module _ {r : Answer} (told : (d : Asking bs row w a) → r ≡ choiceIn (firstMet (d .is) 0 (d .asks))) where
@@ -195,10 +201,13 @@ module _ {bs row w : List ℕ} {a k : ℕ} (v : Facing bs row w a k) where
     pub first-taken : false ≡ is-barred → r ≡ choiceIn chosen
     first-taken e = first-is ∙ ap choiceIn (sym (free-chooses (sym e)))
 
+    pub first-goes : {n : ℕ} → r ≡ Goes n → false ≡ is-barred → TakesBranch n ≡ branchIn chosen
+    first-goes h e = as-branch chosen (sym h ∙ first-taken e)
+
     -- where none is, it waits, barred or not.
-    pub none-taken : r ≡ Waits → r ≡ choiceIn chosen
+    pub none-taken : {x : ReasonAnswer} → r ≡ Waits x → Stays ≡ branchIn chosen
     none-taken h = by is-barred refl
       where
-        by : (t : Bool) → is-barred ≡ t → r ≡ choiceIn chosen
-        by true e = h ∙ barred-taken (sym e)
-        by false e = first-taken (sym e)
+        by : (t : Bool) → is-barred ≡ t → Stays ≡ branchIn chosen
+        by true e = barred-stays (sym e)
+        by false e = ap branchIn (sym (free-chooses e ∙ says-waits first (sym h ∙ first-is) .1 .0))

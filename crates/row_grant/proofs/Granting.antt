@@ -10,11 +10,11 @@ use lib.ListN.{length, getD, List·getD-eq-default}
 use Rattle.semantics.specs.Model.{Model}
 use Rattle.semantics.specs.Bytes.{u16}
 use Rattle.semantics.specs.State.{State, Process, process, past, into}
-use Rattle.semantics.specs.Claim.{itemMet, Then, pass, enterBlock, offers, takeAll, follow, grant}
-use Rattle.promises.specs.Laws.{no-way, all-at, all-hold}
+use Rattle.semantics.specs.Claim.{Then, pass, enterBlock, offers, takeAll, follow, grant}
+use Rattle.promises.specs.Laws.{no-way, all-at}
 use Rattle.promises.specs.Sound.{Held}
 use Rattle.promises.specs.Parts.{fit-at}
-use Rattle.promises.specs.Takes.{OfferOk, still-all, still-grant, take-all, grant-held, offers-ok}
+use Rattle.promises.specs.Takes.{OfferOk, still-all, still-grant, all-met, take-all, grant-held, offers-ok}
 use Rattle.row_work.specs.Work.{workOf, FloorSized, Sized, Doing, Done}
 use Rattle.row_work.specs.Underway.{still-sized}
 use Rattle.row_process.specs.Process.{Lives, changed}
@@ -78,7 +78,7 @@ module _ {bs row w : List ℕ} {p n : ℕ} {enters : Bool} (v : Granting bs row 
                 claim-is = v .offer-at .claim-is;
               });
           claim-fit = is-ok .0;
-          met = v .met;
+          is-met = v .is-met;
         }
 
     -- and then the process goes on.
@@ -89,7 +89,7 @@ module _ {bs row w : List ℕ} {p n : ℕ} {enters : Bool} (v : Granting bs row 
     taken-held =
         subst (λ b. Held m t b (v .in-hand) (λ j. 0)) (sym (still-all p (v .offer .claim) s .same-blocked))
         (take-all m p (s .blocked) (v .in-hand) (v .one) (v .offer .claim) s (v .holds) (is-ok .0 .1)
-        (is-ok .0 .2) (all-hold (itemMet s) (v .offer .claim) (v .met)))
+        (is-ok .0 .2) (all-met s 1 (v .offer .claim) (v .is-met)))
 
     taken-sized : Sized t
     taken-sized =
@@ -104,7 +104,7 @@ module _ {bs row w : List ℕ} {p n : ℕ} {enters : Bool} (v : Granting bs row 
         still-sized (v .run) g
         (subst (λ b. Held m g b (v .in-hand) (λ j. 0)) (sym (still-grant p (v .offer) s .same-blocked))
         (grant-held m p (s .blocked) (v .in-hand) (v .one) (v .stands-at) (v .offer) s (v .holds) (v .stands)
-        (is-ok .0) (is-ok .1) (v .met)))
+        (is-ok .0) (is-ok .1) (v .is-met)))
         (subst FloorSized (sym (still-grant p (v .offer) s .same-floor)) (v .floor-ok))
 
     module _ {x : List ℕ} (told : (d : Taking bs at w p) → x ≡ workOf (takeAll p (d .claim) (d .run .is))) where

@@ -12,11 +12,11 @@ use Rattle.semantics.specs.Bytes.{u8, u16, i32}
 use Rattle.semantics.specs.Record.{relationOf, itemOf}
 use Rattle.semantics.specs.State.{State, Waiter, with-free, with-bins, with-held}
 use Rattle.semantics.specs.Claim.{itemMet, takeItem, takeAll}
-use Rattle.promises.specs.Laws.{AllOf, Ordered, all-map, all-both, all-set, all-get, all-hold}
+use Rattle.promises.specs.Laws.{AllOf, Ordered, all-map, all-both, all-set, all-get}
 use Rattle.promises.specs.Fit.{ItemFit, Apart}
 use Rattle.promises.specs.Sound.{Held}
 use Rattle.promises.specs.Moves.{hand-fine}
-use Rattle.promises.specs.Takes.{still-item, still-met, take-item}
+use Rattle.promises.specs.Takes.{still-item, still-met, take-item, all-met}
 use Rattle.base_numbers.specs.Row as Row
 use Rattle.file_check_parts.proofs.Laws.{rest-of, parts-cons, parts-none}
 use Rattle.row_work.specs.Work.{workOf, FloorSized, Sized, Doing, Done}
@@ -228,7 +228,7 @@ module _ {bs : List ℕ} {at : ℕ} {first : List ℕ} {p : ℕ} (v : Taking bs 
         fit = subst (AllOf (ItemFit m)) (sym c) (v .claim-fit .1);
         apart = subst (Ordered Apart) (sym c) (v .claim-fit .2);
         enough =
-            subst (AllOf (λ x. itemMet (v .run .is) x ≡ true)) (sym c) (all-hold (itemMet (v .run .is)) (v .claim) (v .met));
+            subst (AllOf (λ x. itemMet (v .run .is) x ≡ true)) (sym c) (all-met (v .run .is) 1 (v .claim) (v .is-met));
         same = ap (λ x. takeAll p x (v .run .is)) c;
       })
 

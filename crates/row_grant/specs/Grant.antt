@@ -7,7 +7,7 @@ use mathlib.Core.Option.{some}
 use lib.ListN.{length, getD, getElem?}
 use Rattle.semantics.specs.Model.{resource, bin, sync, Item, get, condition, Claim, Action}
 use Rattle.semantics.specs.State.{State, process}
-use Rattle.semantics.specs.Claim.{itemMet, met, Then, pass, enterBlock, Offer, offers, standsIn}
+use Rattle.semantics.specs.Claim.{itemMet, met, test, Then, pass, enterBlock, Offer, offers, standsIn}
 use Rattle.promises.specs.Fit.{ClaimFit, ActFit}
 use Rattle.promises.specs.Sound.{Held}
 use Rattle.base_numbers.specs.Limit as Limit
@@ -44,7 +44,7 @@ pub record Taking (bs : List ℕ) (at : ℕ) (w : List ℕ) (p : ℕ) : Type 0 w
   pub claim : Claim
   pub claim-at : ClaimAt bs at claim
   pub claim-fit : ClaimFit (run .model) claim
-  pub met : met (run .is) claim ≡ true
+  pub is-met : test (run .is) claim ≡ met
 
 -- THE OFFER, which is the n-th branch of the map, is granted to it: it stands at the action that makes the offer.
 abbrev pub intoBlock : Then → Bool
@@ -63,7 +63,7 @@ pub record Granting (bs map w : List ℕ) (p n : ℕ) (enters : Bool) : Type 0 w
   pub which : ℕ  -- of the action's offers
   pub offered : getElem? (offers stands-at) which ≡ some offer
   pub offer-at : OfferAt bs map n offer
-  pub met : met (run .is) (offer .claim) ≡ true
+  pub is-met : test (run .is) (offer .claim) ≡ met
   pub enters-is : enters ≡ intoBlock (offer .andThen)
 
 -- THE ACTION of number a is held against the first k of the blocked.

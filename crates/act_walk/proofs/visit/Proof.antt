@@ -19,8 +19,8 @@ action-at-requires c κs =
     let v = start .pre .0 in
     (its-place v _ (place-is v _ (at-blocked-at .blocked-at .ensures .0)), v .walking .mapped .long)
 
-choice-requires : tie.Need-choice-requires
-choice-requires c κs =
+branch-requires : tie.Need-branch-requires
+branch-requires c κs =
     let at-action-at = c .before in
     let at-blocked-at = at-action-at .before .before in
     let start = at-blocked-at .before .before .before .before .before .before in
@@ -38,12 +38,12 @@ same-length c = search needs
 
 returns : tie.Need-returns
 returns c =
-    let at-choice = c .before .before in
-    let at-action-at = at-choice .before .before in
+    let at-branch = c .before .before in
+    let at-action-at = at-branch .before .before in
     let at-blocked-at = at-action-at .before .before in (
       λ v.
           stayed v _ (place-is v _ (at-blocked-at .blocked-at .ensures .0)) _ (at-action-at .action-at .ensures)
-          (at-choice .choice .ensures) _ _ (c .enum-told .given .1),
+          (at-branch .branch .ensures) _ _ (c .enum-told .given .1),
       omega arith,
     )
 
@@ -58,14 +58,14 @@ note-requires : tie.Need-note-requires
 note-requires c κs =
     let at-number-of = c .before .before in
     let at-chosen = at-number-of .before .before .before in
-    let at-choice = at-chosen .before .before in
-    let at-action-at = at-choice .before .before in
+    let at-branch = at-chosen .before .before in
+    let at-action-at = at-branch .before .before in
     let at-blocked-at = at-action-at .before .before in
     let start = at-blocked-at .before .before .before .before .before .before in
     let v = start .pre .0 in
     let e = place-is v _ (at-blocked-at .blocked-at .ensures .0) in
     let f =
-    branch-few v _ e _ (at-action-at .action-at .ensures) (at-choice .choice .ensures) (at-chosen .chosen .given .1) in
+    branch-few v _ e _ (at-action-at .action-at .ensures) (at-branch .branch .ensures) (at-chosen .chosen .given .1) in
     let fits = number-fits v _ e _ (at-number-of .number-of .ensures) in
     ((shown (v .walking) tt, (start .pre .1, omega arith)), (fits, omega (arith, f)))
 
@@ -91,14 +91,14 @@ add-release : tie.Need-add-release
 add-release c =
     let at-branches-from = c .before .before in
     let at-chosen = at-branches-from .before .before .before .before .before .before .before .before .before in
-    let at-choice = at-chosen .before .before in
-    let at-action-at = at-choice .before .before in
+    let at-branch = at-chosen .before .before in
+    let at-action-at = at-branch .before .before in
     let at-blocked-at = at-action-at .before .before in
     let start = at-blocked-at .before .before .before .before .before .before in
     let v = start .pre .0 in
     let e = place-is v _ (at-blocked-at .blocked-at .ensures .0) in
     let f =
-    branch-few v _ e _ (at-action-at .action-at .ensures) (at-choice .choice .ensures) (at-chosen .chosen .given .1) in
+    branch-few v _ e _ (at-action-at .action-at .ensures) (at-branch .branch .ensures) (at-chosen .chosen .given .1) in
     omega (arith, f, at-branches-from .branches-from .ensures)
 
 release-requires : tie.Need-release-requires
@@ -106,13 +106,13 @@ release-requires c κs =
     let at-enters-at = c .before in
     let at-branches-from = at-enters-at .before in
     let at-chosen = at-branches-from .before .before .before .before .before .before .before .before .before in
-    let at-choice = at-chosen .before .before in
-    let at-action-at = at-choice .before .before in
+    let at-branch = at-chosen .before .before in
+    let at-action-at = at-branch .before .before in
     let at-blocked-at = at-action-at .before .before in
     let start = at-blocked-at .before .before .before .before .before .before in
     let v = start .pre .0 in
     let e = place-is v _ (at-blocked-at .blocked-at .ensures .0) in
-    going v _ e _ (at-action-at .action-at .ensures) (at-choice .choice .ensures) (at-chosen .chosen .given .1)
+    going v _ e _ (at-action-at .action-at .ensures) (at-branch .branch .ensures) (at-chosen .chosen .given .1)
     (at-branches-from .branches-from .ensures) _ (at-enters-at .enters-at .ensures)
 
 same-length-2 : tie.Need-same-length-2
@@ -129,12 +129,12 @@ returns-2 c =
     let at-note = at-branches-from .before .before .before in
     let at-number-of = at-note .before .before .before in
     let at-chosen = at-number-of .before .before .before in
-    let at-choice = at-chosen .before .before in
-    let at-action-at = at-choice .before .before in
+    let at-branch = at-chosen .before .before in
+    let at-action-at = at-branch .before .before in
     let at-blocked-at = at-action-at .before .before in (
       λ v.
           gone v _ (place-is v _ (at-blocked-at .blocked-at .ensures .0)) _ (at-action-at .action-at .ensures)
-          (at-choice .choice .ensures) (at-chosen .chosen .given .1)
+          (at-branch .branch .ensures) (at-chosen .chosen .given .1)
           (at-branches-from .branches-from .ensures) _ (at-enters-at .enters-at .ensures)
           _ _ _ _ _ (at-number-of .number-of .ensures) (at-note .note .ensures) (at-release .release .ensures),
       omega arith,
@@ -146,7 +146,7 @@ visit-spec =
     (tie.spec
     blocked-at-requires
     action-at-requires
-    choice-requires
+    branch-requires
     enum-known-chosen
     enum-told
     same-length

@@ -32,7 +32,7 @@ use Rattle.file_weight.proofs.class_weight.Reads as class
 use Rattle.file_weight.proofs.goes_weight.Kinds as goes-kinds
 use Rattle.file_weight.proofs.goes_weight.Reads as goes
 use Rattle.file_weight.proofs.larger.Reads as larger-reads
-use Rattle.file_weight.proofs.long.Reads as long-reads
+use Rattle.base_wide.proofs.long.Reads as long-reads
 use Rattle.file_weight.proofs.starts.Reads as starts-reads
 use Rattle.base_wide.proofs.short_index.Reads as short-index-reads
 use Rattle.file_weight.specs.Weigh.{actsIn}

@@ -152,11 +152,11 @@ module _ {M : Type 1} (𝓤 : URA M) (H : Heap 𝓤) (A : Atoms 𝓤) (W : Given
         nothing ! $ move ! (3 ∷ 0 ∷ []) $ fjoin ! $ owns-u32 ! n n-fits $ fjoin ! $ owns-state ! h is $ fjoin ! $
         move ! (2 ∷ 0 ∷ []) $ fjoin ! $ nothing ! $ move ! (2 ∷ 0 ∷ []) $ join ! $ join ! $ frame ! $ done !
 
-    abbrev Told : Moved → List ℕ → Type 0
-    Told r zs = TellsMoved (callRow (now s) (asked n (now j)) (rowOf h)) r (now j) zs
+    abbrev TellsAll : Moved → List ℕ → Type 0
+    TellsAll r zs = TellsMoved (callRow (now s) (asked n (now j)) (rowOf h)) r (now j) zs
 
     pub record Answers (r : Moved) (zs : List ℕ) : Type 0 where
-      pub tells : Told r zs
+      pub tells : TellsAll r zs
       pub was-full : Full h
       pub as-long : length zs ≡ length (now j)
 
@@ -179,8 +179,8 @@ module _ {M : Type 1} (𝓤 : URA M) (H : Heap 𝓤) (A : Atoms 𝓤) (W : Given
         (some
         (λ (ws : Unit {0} × (Unit {0} × (Unit {0} × (List ℕ × Unit {0})))).
         ‵ (lasts run-state.ended (κ, tt) (s, (h, (n, (j, tt)))) ws)
-        ⊛ (raw (fact 𝓤 (Told r (ws .1 .1 .1 .0))) ⊛ raw (fact 𝓤 (Full h))))) (id⊢ 𝓤 _) $ pick ! (λ ws.
-        split ! $ move ! (1 ∷ []) $ split ! $ heard ! (Told r (ws .1 .1 .1 .0)) (λ t. heard ! (Full h) (λ f.
+        ⊛ (raw (fact 𝓤 (TellsAll r (ws .1 .1 .1 .0))) ⊛ raw (fact 𝓤 (Full h))))) (id⊢ 𝓤 _) $ pick ! (λ ws.
+        split ! $ move ! (1 ∷ []) $ split ! $ heard ! (TellsAll r (ws .1 .1 .1 .0)) (λ t. heard ! (Full h) (λ f.
         fsplit ! $ drop ! $ fsplit ! $ drop ! $ fsplit ! $ drop ! $ fsplit ! $ fsplit ! $ move ! (1 ∷ []) $ feqL ! (λ l.
         at-once ! $ show ! (λ r′. ex 𝓤 (λ zs′. mean 𝓤 H A (Answered w r′ zs′))) r $
         show ! (λ zs′. mean 𝓤 H A (Answered w r zs′)) (ws .1 .1 .1 .0) $

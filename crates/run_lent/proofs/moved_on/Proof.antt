@@ -142,11 +142,11 @@ module _ {M : Type 1} (𝓤 : URA M) (H : Heap 𝓤) (A : Atoms 𝓤) (W : Given
           move ! (4 ∷ 0 ∷ []) $ fjoin ! $ move ! (3 ∷ 0 ∷ []) $ fjoin ! $
           nothing ! $ move ! (3 ∷ 0 ∷ []) $ join ! $ move ! (2 ∷ 0 ∷ []) $ join ! $ join ! $ frame ! $ done !
 
-      abbrev Told : Ran → State → List ℕ → Type 0
-      Told r h′ zs = TellsCall (callRow (now s) (asked n (now j)) (rowOf h)) r (rowOf h′) (now j) zs × (Full h × Full h′)
+      abbrev TellsAll : Ran → State → List ℕ → Type 0
+      TellsAll r h′ zs = TellsCall (callRow (now s) (asked n (now j)) (rowOf h)) r (rowOf h′) (now j) zs × (Full h × Full h′)
 
       pub record Answers (r : Ran) (h′ : State) (zs : List ℕ) : Type 0 where
-        pub tells : Told r h′ zs
+        pub tells : TellsAll r h′ zs
         pub as-long : length zs ≡ length (now j)
 
       abbrev Left : State → Item 𝓤
@@ -174,8 +174,8 @@ module _ {M : Type 1} (𝓤 : URA M) (H : Heap 𝓤) (A : Atoms 𝓤) (W : Given
           (some
           (λ (ws : Unit {0} × (State × (Unit {0} × (List ℕ × Unit {0})))).
           ‵ (lasts move-on.ended (κ, (ν ∷ [], tt)) (s, (kept 𝓤 H A W b h δ, (n, (j, tt)))) ws)
-          ⊛ raw (fact 𝓤 (Told r (ws .1 .0) (ws .1 .1 .1 .0))))) (id⊢ 𝓤 _) $ pick ! (λ ws.
-          split ! $ move ! (1 ∷ []) $ heard ! (Told r (ws .1 .0) (ws .1 .1 .1 .0)) (λ t.
+          ⊛ raw (fact 𝓤 (TellsAll r (ws .1 .0) (ws .1 .1 .1 .0))))) (id⊢ 𝓤 _) $ pick ! (λ ws.
+          split ! $ move ! (1 ∷ []) $ heard ! (TellsAll r (ws .1 .0) (ws .1 .1 .1 .0)) (λ t.
           fsplit ! $ drop ! $ fsplit ! $ move ! (1 ∷ []) $ fsplit ! $ drop ! $ fsplit ! $ fsplit ! $
           move ! (1 ∷ []) $ feqL ! (λ l.
           at-once ! $ show ! (λ r′. ex 𝓤 (λ h″. ex 𝓤 (λ zs′. mean 𝓤 H A (Answered w r′ h″ zs′)))) r $
