@@ -127,10 +127,13 @@ module _ {bs row w : List ℕ} {p a : ℕ} {x : Action} (v : Asked bs row w p a 
 
         pub one-taken : {w₁ : List ℕ} → w₁ ≡ workOf (grant p offer s) → (at : ℕ) (out : List ℕ) {out₁ : List ℕ}
             → out₁ ≡ wroteAt at (line s (who v .number) 4 (valueOf (2_147_483_648 + n)) ∷ []) out
-            → Branched (taken v) r p s w w₁ at out out₁
+            → Branched (taken v) (Goes n) p s w w₁ at out out₁
         one-taken {w₁} e at out {out₁} t =
             let u = t ∙ ap (λ z. wroteAt at (line s (who v .number) 4 z ∷ []) out) value-is in
-            record { answers = taken-is; comes = subst (λ c. Comes c p s w w₁ at out out₁) (sym (found .chosen)) (e, u) }
+            record {
+              answers = sym h ∙ taken-is;
+              comes = subst (λ c. Comes c p s w w₁ at out out₁) (sym (found .chosen)) (e, u);
+            }
 
         -- It is granted.
         module _ {first : ℕ} (f : first ≡ getD row (1_345 + a) 0) (b : Bool)

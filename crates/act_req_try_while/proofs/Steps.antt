@@ -74,7 +74,7 @@ module _ {bs map w : List ℕ} {p a : ℕ} {x : Action} (v : Asked bs map w p a 
     same-out = kept .1
 
     -- The number of an item is one of four, and what is said of it fits.
-    module _ {enters : Bool} (k : Requests enters x) where
+    module _ {into : Bool} (k : Requests into x) where
       pub few-items : Few y
       few-items =
           subst Few (sym (why .1 .1)) (small (why .0) (explained k (action-fits (here v)) (why .0) (why .1 .0) .in-range))
@@ -94,17 +94,18 @@ module _ {bs map w : List ℕ} {p a : ℕ} {x : Action} (v : Asked bs map w p a 
       said-is (firstLacks n) h = valueOf-code (pos n) (omega arith)
 
       pub request-blocked : {w₂ : List ℕ}
-          → w₂ ≡ workOf (with-blocked (with-floor (state v) empty) (join (state v) p (state v .blocked))) → {out₂ : List ℕ}
-          → out₂ ≡ wroteAt at (line (state v) (who v .number) No.blocked (valueOf (codeSaid y)) ∷ []) out₁
+          → w₂ ≡ workOf (with-blocked (with-floor (state v) empty) (join (state v) p (state v .blocked))) → {c : ℕ}
+          → c ≡ codeSaid y → {out₂ : List ℕ}
+          → out₂ ≡ wroteAt at (line (state v) (who v .number) No.blocked (valueOf c) ∷ []) out₁
           → Stepped (request (model v) (state v) p x) 0 1 w w₂ at out out₂
       unfolding request
-      request-blocked f g =
+      request-blocked f {c} h g =
           let z : Reason = why .0 in
-          let d : valueOf (codeSaid y) ≡ reasonSaid z =
-          ap (λ u. valueOf (codeSaid u)) (why .1 .1) ∙ said-is z (subst Few (why .1 .1) few-items) in
+          let d : valueOf c ≡ reasonSaid z =
+          ap valueOf (h ∙ ap codeSaid (why .1 .1)) ∙ said-is z (subst Few (why .1 .1) few-items) in
           let u =
           g
-          ∙ ap (wroteAt at (line (state v) (who v .number) No.blocked (valueOf (codeSaid y)) ∷ [])) same-out
+          ∙ ap (wroteAt at (line (state v) (who v .number) No.blocked (valueOf c) ∷ [])) same-out
           ∙ ap (λ i. wroteAt at (line (state v) (who v .number) No.blocked i ∷ []) out) d in
           rw (Stepped, why .1 .0) (refl, (refl, (f, u)))
 
