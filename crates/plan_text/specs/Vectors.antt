@@ -10,7 +10,7 @@ use Rattle.semantics.specs.Plans.{example, the-72-bytes}
 use Rattle.plan_text.specs.Text.{ascii, printedText}
 
 pub the-example : printedText (plan example)
-    ≡ ascii "0 1 4 0\n0 2 3 0\n3 1 2 0\n3 1 5 0\n3 2 4 0\n6 2 2 0\n6 2 5 0\nidle 10 bound 10\n"
+    ≡ ascii "0 1 4 0\n0 2 3 1\n3 1 2 0\n3 1 5 0\n3 2 4 0\n6 2 2 0\n6 2 5 0\nidle 10 bound 10\n"
 unfolding printedText plan
 the-example = rw the-72-bytes
 

@@ -17,8 +17,8 @@ use Rattle.semantics.specs.State.{State, Process, Frame, Waiter, Event, Notice,
 use Rattle.semantics.specs.State.{nobody, process, put, living, at-clock, with-globals, with-free, with-bins, with-waiting}
 use Rattle.semantics.specs.State.{with-floor, with-events, with-seeds, with-slaves, wake, join, past, into}
 use Rattle.semantics.specs.Value.{Valued, eval}
-use Rattle.semantics.specs.Claim.{met, takeItem, takeAll, Then, pass, enterBlock, Offer, offers, barred, asks, Choice, waits}
-use Rattle.semantics.specs.Claim.{goes, firstMet, choice, follow, grant}
+use Rattle.semantics.specs.Claim.{Test, met, lacks, test, takeItem, takeAll, Then, pass, enterBlock, Offer, offers, barred, asks}
+use Rattle.semantics.specs.Claim.{isBarred, Choice, waits, goes, orLacks, firstMet, choice, reasonSaid, follow, grant}
 use Rattle.semantics.specs.Walk.{Line, Next, line, quiet, after, walkOn, walk}
 use Rattle.semantics.specs.Step as Step
 use Rattle.semantics.specs.Step.{freed, stay, freeAll, ends, exhausted, hold, prio, setGlobal, setLocal, doTimes, notify, putr}
@@ -30,9 +30,10 @@ use Rattle.promises.specs.Fit.{I32, ActFit, Fit}
 use Rattle.promises.specs.Sound.{ProcOk, ReturnOk, NoticeOk, EventOk, SeedsOk, Sound}
 use Rattle.promises.specs.Keep.{free-or-fine}
 use Rattle.promises.specs.Parts.{ValuedOk, eval-good, fit-at, moves-has}
-use Rattle.promises.specs.Takes.{still-grant, not-goes, asks-at, choice-has}
+use Rattle.promises.specs.Takes.{still-grant, not-goes, or-goes, asks-at, choice-has}
 use Rattle.promises.specs.Stays.{step-ok}
 use Rattle.promises.specs.Answers.{run-keeps}
+use Rattle.promises.specs.Reasons.{WaitValue, is-barred, is-item, WhyWaits, req-why, try-why}
 use Rattle.plan_text.specs.Tells.{Writable}
 
 abbrev LinesFit : Next → Type 0
@@ -96,19 +97,20 @@ module _ (p : ℕ) where
 first-in : (s : State) (i : ℕ) (o : Offer) (k : ℕ) (os : List Offer) → firstMet s k os ≡ goes i o → i < k + length os
 unfolding firstMet
 first-in s i o k [] e = not-goes e
-first-in s i o k (x ∷ xs) e = go (met s (x .claim)) (λ f. first-in s i o (suc k) xs f) e
+first-in s i o k (x ∷ xs) e = go (test s (x .claim)) (λ f. first-in s i o (suc k) xs f) e
   where
-    go : (b : Bool) → (firstMet s (suc k) xs ≡ goes i o → i < suc k + length xs)
-        → _≡_ {A = Choice} (elim b [ true ↦ goes k x | false ↦ firstMet s (suc k) xs ]) (goes i o) → i < k + suc (length xs)
-    go true f g = let z : k ≡ i = cc in omega arith
-    go false f g = let a = f g in omega arith
+    go : (t : Test) → (firstMet s (suc k) xs ≡ goes i o → i < suc k + length xs)
+        → _≡_ {A = Choice} (elim t [ met ↦ goes k x | lacks n ↦ orLacks n (firstMet s (suc k) xs) ]) (goes i o)
+        → i < k + suc (length xs)
+    go met f g = let z : k ≡ i = cc in omega arith
+    go (lacks n) f g = let a = f (or-goes n (firstMet s (suc k) xs) g) in omega arith
 
 choice-in : (m : Model) (s : State) (ws : List Waiter) (os : List Offer) (i : ℕ) (o : Offer) → choice m s ws os ≡ goes i o
     → i < length os
 unfolding choice
 choice-in m s ws os i o e = go (barred m s ws os) e
   where
-    go : (b : Bool) → _≡_ {A = Choice} (elim b [ true ↦ waits | false ↦ firstMet s 0 os ]) (goes i o) → i < length os
+    go : (b : Bool) → _≡_ {A = Choice} (elim b [ true ↦ waits isBarred | false ↦ firstMet s 0 os ]) (goes i o) → i < length os
     go true g = not-goes g
     go false g = let a = first-in s i o 0 os g in omega arith
 
@@ -143,7 +145,7 @@ module _ (m : Model) (t : Fit m) where
   walk-on-writes (w ∷ ws) s ahead c h =
       let p : ℕ = w .place in
       choice-has LinesFit (choice m s ahead (asks m s p))
-      (λ e. walk-on-writes ws s (ahead ++ w ∷ []) c h)
+      (λ r e. walk-on-writes ws s (ahead ++ w ∷ []) c h)
       (λ i o e.
       let small-i = asks-at m s ahead p i o (I32 (pos i))
       (λ a f g. branch-small s ahead a (fit-at m t (process s p .frames) a f) i o g) e in
@@ -233,15 +235,21 @@ module _ (m : Model) (t : Fit m) (s : State) (h : SmallIn m s) (p : ℕ) where
       → Writable (line s (q .number) No.granted (pos i))
   granted a k i o g = own No.granted (pos i) (omega arith) (branch-small m t s (Step.inFront m s p) a k i o g)
 
-  request-writes : (a : Action) → ActFit m a → Writes (request m s p a)
+  -- why it waits is a small number
+  reason-small : {v : ℤ} → WaitValue v → I32 v
+  reason-small is-barred = omega arith
+  reason-small (is-item a b) = omega arith
+
+  request-writes : (a : Action) → ActFit m a → WhyWaits m s (Step.inFront m s p) a → Writes (request m s p a)
   unfolding request
-  request-writes a k =
-      choice-has Writes (chosen a) (λ g. one-line (own No.blocked (pos 0) (omega arith) (omega arith)))
+  request-writes a k why =
+      choice-has Writes (chosen a)
+      (λ r g. one-line (own No.blocked (reasonSaid r) (omega arith) (reason-small (why r g .in-range))))
       (λ i o g. one-line (granted a k i o g))
 
   while-writes : (a : Action) → ActFit m a → Writes (while m s p a)
   unfolding while
-  while-writes a k = choice-has Writes (chosen a) (λ g. good tt) (λ i o g. one-line (granted a k i o g))
+  while-writes a k = choice-has Writes (chosen a) (λ r g. good tt) (λ i o g. one-line (granted a k i o g))
 
   start-writes : (c d : ℕ) (hs : List Share) → c < length (m .classes) → Writes (start m s p c d hs)
   unfolding start
@@ -279,8 +287,8 @@ module _ (m : Model) (t : Fit m) (s : State) (h : SmallIn m s) (p : ℕ) where
   act-writes (PUTB i n) k = good-need _ _ λ a. good tt
   act-writes (PUTS i n) k = puts-writes i n (k .0)
   act-writes (BECOME i) k = become-writes i k
-  act-writes (REQ c) k = request-writes (REQ c) k
-  act-writes (TRY bs) k = request-writes (TRY bs) k
+  act-writes (REQ c) k = request-writes (REQ c) k (req-why m s (Step.inFront m s p) c k)
+  act-writes (TRY bs) k = request-writes (TRY bs) k (try-why m s (Step.inFront m s p) bs k)
   act-writes (WHILE b c) k = while-writes (WHILE b c) k
   act-writes (START c d hs) k = start-writes c d hs (k .0)
   act-writes CLOSE k = one-line (own No.closed (pos 0) (omega arith) (omega arith))
