@@ -84,8 +84,8 @@ module _ (s : State) where
       within (i ∷ is) zero t = omega arith
       within (i ∷ is) (suc j) t = let h = within is j t in omega arith
 
--- WHY A PROCESS WAITS that offers os, and is held against those in ws: v is -1 exactly if it is barred; else v is n exactly if item
--- n of the first branch is lacking, and those before it aren't; and this is 1 to 4.
+-- WHY A PROCESS WAITS that offers os, and is held against those in ws: v is -1 exactly if it is barred; else v is n exactly if
+-- item n of the first branch is lacking and those before it aren't; and then n is 1 to 4.
 abbrev pub FirstLacks : State → List Offer → ℕ → Type 0
 FirstLacks s [] n = ⊥
 FirstLacks s (o ∷ os) n = FirstLacking s 1 (o .claim) n
@@ -164,45 +164,45 @@ module _ (m : Model) (s : State) (ws : List Waiter) where
   try-why [] k r e = let w = k .0 in absurd (omega arith)
   try-why (b ∷ bs) k r e = choice-why m s ws (record { claim = b .claim; andThen = _ }) _ (k .1 .0 .1 .0) r e
 
--- A LINE OF KIND 3 is of the process in place p, which has the floor of s and stands at an action, and says why that waits.
-pub record Asked (m : Model) (s : State) (p : ℕ) (l : Line) : Type 0 where
+-- A LINE OF KIND 3 is of the process in place p, which has the floor of s and stands at an action, and says why it waits.
+pub record WaitLineOf (m : Model) (s : State) (p : ℕ) (l : Line) : Type 0 where
   pub asked : Action
   pub stands : standsIn m (process s p .frames) ≡ some asked
   pub of-it : l .process ≡ process s p .number
   pub explained : Explains m s (inFront m s p) (offers asked) (l .value)
 
 -- All lines of kind 3 are such.
-abbrev Saying : (Line → Type 0) → List Line → Type 0
-Saying P ls = AllOf (λ l. l .kind ≡ No.blocked → P l) ls
+abbrev WaitLines : (Line → Type 0) → List Line → Type 0
+WaitLines P ls = AllOf (λ l. l .kind ≡ No.blocked → P l) ls
 
 module _ (P : Line → Type 0) where
-  abbrev Says : Next → Type 0
-  Says n = Saying P (n .lines)
+  abbrev InStep : Next → Type 0
+  InStep n = WaitLines P (n .lines)
 
   -- One's own line, and those after it.
-  own-says : {l : Line} (n : Next) → (l .kind ≡ No.blocked → P l) → Says n → Good Says (ok (after l n))
+  own-says : {l : Line} (n : Next) → (l .kind ≡ No.blocked → P l) → InStep n → Good InStep (ok (after l n))
   own-says {l} n f h = good {a = after l n} (f, h)
 
-  walk-says : (m : Model) (ws : List Waiter) (s : State) (ahead : List Waiter) → Says (walkOn m s ahead ws)
+  walk-says : (m : Model) (ws : List Waiter) (s : State) (ahead : List Waiter) → InStep (walkOn m s ahead ws)
   unfolding walkOn
   walk-says m [] s ahead = tt
   walk-says m (w ∷ ws) s ahead =
-      choice-has Says (choice m s ahead (asks m s (w .place))) (λ r e. walk-says m ws s (ahead ++ w ∷ []))
+      choice-has InStep (choice m s ahead (asks m s (w .place))) (λ r e. walk-says m ws s (ahead ++ w ∷ []))
       (λ i o e.
       ((λ k. absurd (omega arith)), walk-says m ws (wake (s .clock) (w .place) (grant (w .place) o s)) ahead))
 
-  walked : (m : Model) (s : State) → Says (walk m s)
+  walked : (m : Model) (s : State) → InStep (walk m s)
   unfolding walk
   walked m s = walk-says m (s .blocked) s []
 
-  free-says : (i : ℕ) (rs : List ℕ) (s : State) → Says (freeAll i rs s)
+  free-says : (i : ℕ) (rs : List ℕ) (s : State) → InStep (freeAll i rs s)
   unfolding freeAll
   free-says i [] s = tt
   free-says i (r ∷ rs) s = ((λ k. absurd (omega arith)), free-says i rs (wake (s .clock) r s))
 
 module _ (m : Model) (t : Fit m) (s : State) (p : ℕ) where
   abbrev SaysWhy : Outcome Next → Type 0
-  SaysWhy o = Good (λ n. Saying (Asked m s p) (n .lines)) o
+  SaysWhy o = Good (λ n. WaitLines (WaitLineOf m s p) (n .lines)) o
 
   fits : (a : Action) → standsIn m (process s p .frames) ≡ some a → ActFit m a
   fits a e = fit-at m t (process s p .frames) a e
@@ -225,8 +225,8 @@ module _ (m : Model) (t : Fit m) (s : State) (p : ℕ) where
   become-says i =
       let u : State = with-floor (put p (past (process s p)) s) empty in
       let w : State = with-waiting u (set (u .waiting) i (join u p (getD (u .waiting) i []))) in
-      own-says (Asked m s p) {l = line s (process s p .number) No.waitingAsSlave (pos i)} (walk m w) (λ k. absurd (omega arith))
-      (walked (Asked m s p) m w)
+      own-says (WaitLineOf m s p) {l = line s (process s p .number) No.waitingAsSlave (pos i)} (walk m w)
+      (λ k. absurd (omega arith)) (walked (WaitLineOf m s p) m w)
 
   act-says : (a : Action) → standsIn m (process s p .frames) ≡ some a → SaysWhy (act m s p a)
   unfolding act hold prio trace setGlobal setLocal putr putb notify puts start while close
@@ -235,7 +235,7 @@ module _ (m : Model) (t : Fit m) (s : State) (p : ℕ) where
   act-says (TRACE x) e = good-bind (eval m s (process s p) x (s .seeds)) λ v. good ((λ l. absurd (omega arith)), tt)
   act-says (SET i x) e =
       good-bind (eval m s (process s p) x (s .seeds)) λ v.
-      good (walked (Asked m s p) m
+      good (walked (WaitLineOf m s p) m
       (with-globals (with-seeds (put p (past (process s p)) s) (v .seeds)) (set (s .globals) i (v .value))))
   act-says (LSET i x) e = good-bind (eval m s (process s p) x (s .seeds)) λ v. good tt
   act-says (DO n b) e = do-says n b
@@ -251,7 +251,7 @@ module _ (m : Model) (t : Fit m) (s : State) (p : ℕ) where
   act-says (START c d g) e =
       good-need _ _ λ a. good-need _ _ λ b. good-need _ _ λ f. good ((λ l. absurd (omega arith)), tt)
   act-says CLOSE e =
-      own-says (Asked m s p) {l = line s (process s p .number) No.closed (pos 0)} (quiet _) (λ k. absurd (omega arith)) tt
+      own-says (WaitLineOf m s p) {l = line s (process s p .number) No.closed (pos 0)} (quiet _) (λ k. absurd (omega arith)) tt
 
   exhausted-says : (fs : List Frame) → SaysWhy (exhausted m s p fs)
   unfolding exhausted ends
@@ -265,9 +265,9 @@ module _ (m : Model) (t : Fit m) (s : State) (p : ℕ) where
   moves-says = moves-has SaysWhy m s p (λ e. exhausted-says (process s p .frames)) act-says
 
 -- ONE STEP out of s: whoever acts in it has the floor of `floored s`, either since before or by its notice, which is the first.
-abbrev noticed : State → List Event → State
-noticed s [] = s
-noticed s (e ∷ es) =
+abbrev firstTakes : State → List Event → State
+firstTakes s [] = s
+firstTakes s (e ∷ es) =
     elim (e .notice) [
       | wakes p ↦ with-floor (with-events (at-clock s (e .time)) es) (heldBy p)
       | returnsR i n g ↦ s
@@ -275,28 +275,28 @@ noticed s (e ∷ es) =
     ]
 
 abbrev pub floored : State → State
-floored s = elim (s .floor) [ heldBy p ↦ s | empty ↦ noticed s (s .events) ]
+floored s = elim (s .floor) [ heldBy p ↦ s | empty ↦ firstTakes s (s .events) ]
 
-pub record Waiting (m : Model) (s : State) (l : Line) : Type 0 where
+pub record WaitLineIn (m : Model) (s : State) (l : Line) : Type 0 where
   pub place : ℕ
   pub has-floor : floored s .floor ≡ heldBy place
-  pub asking : Asked m (floored s) place l
+  pub asking : WaitLineOf m (floored s) place l
 
 -- Every line of kind 3 of a step.
 module _ (m : Model) (t : Fit m) where
   abbrev SaysHere : State → Outcome Next → Type 0
-  SaysHere s o = Good (λ n. Saying (Waiting m s) (n .lines)) o
+  SaysHere s o = Good (λ n. WaitLines (WaitLineIn m s) (n .lines)) o
 
   -- whoever has the floor of s there
   on-floor : (s : State) (p : ℕ) → floored s .floor ≡ heldBy p → SaysHere s (moves m (floored s) p)
   on-floor s p f =
-      good-map (λ n. Saying (Asked m (floored s) p) (n .lines)) (λ n. Saying (Waiting m s) (n .lines))
+      good-map (λ n. WaitLines (WaitLineOf m (floored s) p) (n .lines)) (λ n. WaitLines (WaitLineIn m s) (n .lines))
       (λ n h. all-map _ _ (λ l g k. record { place = p; has-floor = f; asking = g k }) (n .lines) h)
       (moves m (floored s) p) (moves-says m t (floored s) p)
 
   -- a return, and who is granted then
   return-says : (s u : State) (g k i : ℕ) → (k ≡ No.blocked → ⊥) → SaysHere s (ok (after (line u g k (pos i)) (walk m u)))
-  return-says s u g k i f = own-says (Waiting m s) (walk m u) (λ e. absurd (f e)) (walked (Waiting m s) m u)
+  return-says s u g k i f = own-says (WaitLineIn m s) (walk m u) (λ e. absurd (f e)) (walked (WaitLineIn m s) m u)
 
   -- what the first of the event list does
   module _ (s : State) (x : Event) (xs : List Event) (none : s .floor ≡ empty) (first : s .events ≡ x ∷ xs) where
@@ -327,15 +327,15 @@ module _ (m : Model) (t : Fit m) where
       go empty (x ∷ xs) e g = occurs-says s x xs e g (x .notice) refl
 
 -- A RUN: each line of kind 3 is that of a step out of a state to which the run comes.
-pub record Waited (m : Model) (s : State) (l : Line) : Type 0 where
+pub record WaitLineFrom (m : Model) (s : State) (l : Line) : Type 0 where
   pub steps : ℕ
   pub lines : List Line
   pub there : State
   pub comes-there : Made m s steps lines there
-  pub waiting : Waiting m there l
+  pub waiting : WaitLineIn m there l
 
 abbrev pub SaysWhyItWaits : Model → State → Line → Type 0
-SaysWhyItWaits m s l = l .kind ≡ No.blocked → Waited m s l
+SaysWhyItWaits m s l = l .kind ≡ No.blocked → WaitLineFrom m s l
 
 module _ (m : Model) (t : Fit m) where
   made-says : {s u : State} {n : ℕ} {ls : List Line} → Made m s n ls u → AllOf (SaysWhyItWaits m s) ls
@@ -343,7 +343,7 @@ module _ (m : Model) (t : Fit m) where
   made-says {s} (one-made {x = x} {ls = ls} e f h) =
       all-append (SaysWhyItWaits m s) (x .lines) ls
       (all-map _ _ (λ l g k. record { steps = 0; lines = []; there = s; comes-there = none-made; waiting = g k }) (x .lines)
-      (good-out (λ n. Saying (Waiting m s) (n .lines)) (step m s) x f (step-says m t s)))
+      (good-out (λ n. WaitLines (WaitLineIn m s) (n .lines)) (step m s) x f (step-says m t s)))
       (all-map (SaysWhyItWaits m (x .state)) _ (λ l g k.
       let w = g k in
       record {
