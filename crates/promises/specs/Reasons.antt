@@ -105,10 +105,10 @@ pub record Explains (m : Model) (s : State) (ws : List Waiter) (os : List Offer)
   pub if-lacking : (n : ℕ) → barred m s ws os ≡ false → FirstLacks s os n → v ≡ pos n
 
 module _ (m : Model) (s : State) (ws : List Waiter) (o : Offer) (os : List Offer) (few : length (o .claim) ≤ No.mostItems) where
-  abbrev Why : Reason → Type 0
-  Why r = Explains m s ws (o ∷ os) (reasonSaid r)
+  abbrev ByReason : Reason → Type 0
+  ByReason r = Explains m s ws (o ∷ os) (reasonSaid r)
 
-  bars-why : barred m s ws (o ∷ os) ≡ true → Why isBarred
+  bars-why : barred m s ws (o ∷ os) ≡ true → ByReason isBarred
   bars-why b =
       record {
         in-range = is-barred;
@@ -118,7 +118,7 @@ module _ (m : Model) (s : State) (ws : List Waiter) (o : Offer) (os : List Offer
         if-lacking = λ n e l. no-way (sym e ∙ b);
       }
 
-  lacks-why : (n : ℕ) → barred m s ws (o ∷ os) ≡ false → test s (o .claim) ≡ lacks n → Why (firstLacks n)
+  lacks-why : (n : ℕ) → barred m s ws (o ∷ os) ≡ false → test s (o .claim) ≡ lacks n → ByReason (firstLacks n)
   lacks-why n b t =
       let l = test-lacks s 1 (o .claim) n t in
       let w = lacks-within s 1 (o .claim) n l in
@@ -130,7 +130,7 @@ module _ (m : Model) (s : State) (ws : List Waiter) (o : Offer) (os : List Offer
         if-lacking = λ j e k. let u = lacks-test s 1 (o .claim) j k in let z : n ≡ j = cc in ap pos z;
       }
 
-  first-why : (r : Reason) → barred m s ws (o ∷ os) ≡ false → firstMet s 0 (o ∷ os) ≡ waits r → Why r
+  first-why : (r : Reason) → barred m s ws (o ∷ os) ≡ false → firstMet s 0 (o ∷ os) ≡ waits r → ByReason r
   unfolding firstMet
   first-why r b e = go (test s (o .claim)) refl e
     where
@@ -139,16 +139,16 @@ module _ (m : Model) (s : State) (ws : List Waiter) (o : Offer) (os : List Offer
       or-waits n (goes i x) g = let z : _≡_ {A = ℕ} 0 1 = cc in absurd (omega arith)
 
       go : (t : Test) → test s (o .claim) ≡ t
-          → _≡_ {A = Choice} (elim t [ met ↦ goes 0 o | lacks n ↦ orLacks n (firstMet s 1 os) ]) (waits r) → Why r
+          → _≡_ {A = Choice} (elim t [ met ↦ goes 0 o | lacks n ↦ orLacks n (firstMet s 1 os) ]) (waits r) → ByReason r
       go met d g = let z : _≡_ {A = ℕ} 0 1 = cc in absurd (omega arith)
       go (lacks n) d g = let z = or-waits n (firstMet s 1 os) g in rw (← z) (lacks-why n b d)
 
-  choice-why : (r : Reason) → choice m s ws (o ∷ os) ≡ waits r → Why r
+  choice-why : (r : Reason) → choice m s ws (o ∷ os) ≡ waits r → ByReason r
   unfolding choice
   choice-why r e = go (barred m s ws (o ∷ os)) refl e
     where
       go : (b : Bool) → barred m s ws (o ∷ os) ≡ b
-          → _≡_ {A = Choice} (elim b [ true ↦ waits isBarred | false ↦ firstMet s 0 (o ∷ os) ]) (waits r) → Why r
+          → _≡_ {A = Choice} (elim b [ true ↦ waits isBarred | false ↦ firstMet s 0 (o ∷ os) ]) (waits r) → ByReason r
       go true d g = let z : isBarred ≡ r = cc in rw (← z) (bars-why d)
       go false d g = first-why r d g
 
