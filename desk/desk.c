@@ -1,4 +1,5 @@
-/* The booking desk as a program: checks a model file, tells its bound, runs it whole, or keeps a run of it open (moves.c). */
+/* The booking desk as a program: checks a model file, tells its bound, runs it whole, keeps a run of it open (moves.c), or tells
+ * who waits in it and why (waits.c). */
 #include "desk.h"
 
 #include <errno.h>
@@ -8,11 +9,12 @@
 #include <string.h>
 
 #include "moves.h"
+#include "waits.h"
 #include "words.h"
 
 #define USUAL_LIMIT 1000000u
 
-enum request { CHECK, BOUND, RUN, MOVES, UNKNOWN };
+enum request { CHECK, BOUND, RUN, MOVES, WAITS, UNKNOWN };
 
 /* A whole file in memory of its own. */
 struct file {
@@ -27,9 +29,12 @@ static enum status usage(void)
             "       desk bound FILE\n"
             "       desk run FILE [LIMIT]\n"
             "       desk moves FILE STEPS\n"
+            "       desk waits FILE [LIMIT]\n"
             "LIMIT is the most steps that are made, 0 to 4294967295; without it %u. STEPS are made at a time, 1 to 4294967295,\n"
-            "until the run ends or has made %u.\n",
-            USUAL_LIMIT, USUAL_LIMIT);
+            "until the run ends or has made %u. waits tells who is blocked when the run stops, since when, and why.\n"
+            "run and moves tell what a job lacks, and how much of it there is, in the first %u lines that say that it lacks\n"
+            "something; in later ones they tell the item's number alone.\n",
+            USUAL_LIMIT, USUAL_LIMIT, ITEMS_TOLD);
     return TROUBLE;
 }
 
@@ -96,6 +101,8 @@ static enum status bound(const struct file *file)
 /* Runs again from fresh with twice the room for as long as the journal is too small: so the user never sees 30. */
 static enum status run(const struct file *file, uint32_t limit)
 {
+    static struct follower follower;
+
     for (size_t lines = 65536;; lines *= 2) {
         size_t room = lines * LINE_BYTES;
         uint8_t *journal = calloc(lines, LINE_BYTES);
@@ -108,7 +115,8 @@ static enum status run(const struct file *file, uint32_t limit)
         if (DESK_RUN_ANSWER(answer) == DESK_REFUSED) {
             tell_refusal((uint32_t)answer, file->length);
         } else if (DESK_RUN_ANSWER(answer) != FAULT_JOURNAL) {
-            tell_lines(journal, room);
+            follow(&follower, file->bytes, file->length);
+            tell_lines(&follower, journal, room);
             tell_answer(answer);
             printf("\n");
         }
@@ -136,12 +144,14 @@ static enum request request_of(int count, char **words, uint32_t *limit)
         return CHECK;
     if (count == 3 && strcmp(words[1], "bound") == 0)
         return BOUND;
-    if (count == 3 && strcmp(words[1], "run") == 0)
-        return RUN;
-    if (count == 4 && strcmp(words[1], "run") == 0 && reads_number(words[3], limit))
-        return RUN;
     if (count == 4 && strcmp(words[1], "moves") == 0 && reads_number(words[3], limit) && *limit > 0)
         return MOVES;
+    if (count != 3 && (count != 4 || !reads_number(words[3], limit)))
+        return UNKNOWN;
+    if (strcmp(words[1], "run") == 0)
+        return RUN;
+    if (strcmp(words[1], "waits") == 0)
+        return WAITS;
     return UNKNOWN;
 }
 
@@ -154,6 +164,8 @@ static enum status serve(enum request request, const struct file *file, uint32_t
         return bound(file);
     case MOVES:
         return moves(file->bytes, file->length, limit, USUAL_LIMIT);
+    case WAITS:
+        return waits(file->bytes, file->length, limit);
     default:
         return run(file, limit);
     }

@@ -40,7 +40,8 @@ uint64_t desk_run(const uint8_t *file, size_t length, uint32_t limit, uint8_t *j
 #define DESK_RUN_STEPS(answer) ((uint32_t)(answer))
 
 /* An open run is a row of DESK_WORDS words that the desk keeps between calls, and may copy. Its meaning is the library's own; a
- * desk reads of it the clock (below) and hands it back as it got it. It belongs to its file: both are handed over at each call.
+ * desk reads of it what is named below, and hands it back as it got it. It belongs to its file: both are handed over at each
+ * call.
  *
  * Open: 0, and the row holds the fresh run. Otherwise what desk_check answers; or 20 times 65,536, if `words` isn't DESK_WORDS.
  * Then the row is as it was. */
@@ -54,6 +55,28 @@ uint64_t desk_move(const uint8_t *file, size_t length, uint64_t *run, size_t wor
                    size_t room);
 
 #define DESK_WORDS 10712u
+
+/* What a desk may read of a row that desk_open or desk_move left; where it stands is crates/base_numbers' to say. The clock; and
+ * by its number, below DESK_THINGS, how much of a resource is free, how much is in a bin, the value of a variable, and how many
+ * wait at a sync. */
+#define DESK_THINGS 32u
 #define DESK_CLOCK(run) ((run)[0])
+#define DESK_FREE(run, resource) ((run)[8 + (resource)])
+#define DESK_BIN(run, bin) ((run)[40 + (bin)])
+#define DESK_VARIABLE(run, variable) ((int64_t)(run)[72 + (variable)] - 2147483648)
+#define DESK_WAITING(run, sync) ((run)[104 + (sync)])
+
+/* How many are blocked, and the place of each, k from 0 in the order of the list. A living process has a place, below
+ * DESK_PLACES; there are its number, which is 0 where nobody is, and in how many blocks it is, 1 to DESK_DEEPEST. Of the
+ * depth-th of these, 1 for the outermost: which block it is, and at which of its actions the process stands, both from 0. */
+#define DESK_PLACES 64u
+#define DESK_DEEPEST 8u
+#define DESK_BLOCKED(run) ((run)[6])
+#define DESK_BLOCKED_PLACE(run, k) ((run)[136 + (k)] % DESK_PLACES)
+#define DESK_PROCESS(run, place) ((run) + 2504 + 128 * (place))
+#define DESK_NUMBER(run, place) (DESK_PROCESS(run, place)[0])
+#define DESK_DEPTH(run, place) (DESK_PROCESS(run, place)[2])
+#define DESK_BLOCK(run, place, depth) (DESK_PROCESS(run, place)[43 + (depth)] % 65536)
+#define DESK_ACTION(run, place, depth) (DESK_PROCESS(run, place)[43 + (depth)] / 65536 % 65536)
 
 #endif

@@ -48,7 +48,6 @@ static const struct row faults[] = {
 static const struct row kinds[] = {
     {1, "started", "class"},
     {2, "ended", NULL},
-    {3, "blocked", NULL},
     {4, "granted", "branch"},
     {5, "resource returned", "resource"},
     {6, "bin returned", "bin"},
@@ -112,28 +111,37 @@ void tell_answer(uint64_t answer)
     printf(", steps done %" PRIu32, DESK_RUN_STEPS(answer));
 }
 
-static uint32_t u16_at(const uint8_t *bytes)
+uint32_t u16_at(const uint8_t *bytes)
 {
     return bytes[0] | (uint32_t)bytes[1] << 8;
 }
 
-static uint32_t u32_at(const uint8_t *bytes)
+uint32_t u32_at(const uint8_t *bytes)
 {
     return u16_at(bytes) | u16_at(bytes + 2) << 16;
 }
 
-void tell_lines(const uint8_t *journal, size_t room)
+bool line_at(const uint8_t *journal, size_t room, size_t k, struct line *line)
 {
-    const uint8_t *end = journal + room / LINE_BYTES * LINE_BYTES;
+    const uint8_t *bytes = journal + k * LINE_BYTES;
 
-    for (const uint8_t *line = journal; line < end && u16_at(line) == 14; line += LINE_BYTES) {
-        const struct row *kind = find(kinds, u16_at(line + 2));
+    if (k >= room / LINE_BYTES || u16_at(bytes) != 14)
+        return false;
+    line->kind = u16_at(bytes + 2);
+    line->time = u32_at(bytes + 4);
+    line->process = u32_at(bytes + 8);
+    line->value = (int32_t)u32_at(bytes + 12);
+    return true;
+}
 
-        printf("time %" PRIu32 ", process %" PRIu32 ": %s", u32_at(line + 4), u32_at(line + 8), kind->name);
-        if (kind->words != NULL)
-            printf(", %s %" PRId32, kind->words, (int32_t)u32_at(line + 12));
-        printf("\n");
-    }
+void tell_line(const struct line *line)
+{
+    const struct row *kind = find(kinds, line->kind);
+
+    printf("time %" PRIu32 ", process %" PRIu32 ": %s", line->time, line->process, kind->name);
+    if (kind->words != NULL)
+        printf(", %s %" PRId32, kind->words, line->value);
+    printf("\n");
 }
 
 enum status status_of(uint64_t answer)

@@ -3,7 +3,8 @@
     python3 -B tests/desk.py COMMAND ...    runs the program, e.g. target/desk/desk, or bin/run and a program for x86-64
 
 What it must tell of a model is known elsewhere as numbers: examples/*.plan, tests/plans.py and tests/cases.py. So its words are
-turned back into the lines of `plan`. The words themselves, WORDS and KINDS, were copied from document 01 by hand.
+turned back into the lines of `plan`. The words themselves, WORDS and KINDS, were copied from document 01 by hand. What it tells
+of a lacking item is held against tests/claims.py, and against texts that were written by hand: tests/waits.py, docs/MODEL.md.
 """
 import pathlib
 import re
@@ -12,8 +13,10 @@ import sys
 import tempfile
 
 import cases
+import claims
 import examples
 import plans
+import waits
 from records import *
 
 WORDS = {
@@ -38,8 +41,8 @@ WORDS = {
     29: 'NOTICES (a 65th return waiting)',
 }
 KINDS = {
-    'started, class': 1, 'ended': 2, 'blocked': 3, 'granted, branch': 4, 'resource returned, resource': 5,
-    'bin returned, bin': 6, 'waiting as slave, sync': 7, 'freed, sync': 8, 'TRACE, value': 9, 'closed': 10,
+    'started, class': 1, 'ended': 2, 'granted, branch': 4, 'resource returned, resource': 5, 'bin returned, bin': 6,
+    'waiting as slave, sync': 7, 'freed, sync': 8, 'TRACE, value': 9, 'closed': 10,
 }
 # Each fault but 20 and 30: a fresh run never gives 20, and the program never shows 30.
 FAULTS = {
@@ -56,7 +59,7 @@ FAULTS = {
 
 
 MOVED = '''time 0, process 1: granted, branch 0
-time 0, process 2: blocked
+time 0, job 2 waits: the first branch lacks item 1, 1 of resource 0 (0 free)
 time 3, process 1: ended
 time 3, process 1: resource returned, resource 0
 time 3, process 2: granted, branch 0
@@ -111,6 +114,25 @@ def plan_line(text):
     return '%s %s %d %s' % (found[1], found[2], KINDS[found[3]], found[4] or '0')
 
 
+def wait_line(text, claimed):
+    """The line of one that waits, if it is barred, or an item that it may lack is lacking."""
+    found = re.fullmatch(r'time (\d+), job (\d+) waits: (barred by a job ahead|the first branch lacks item (\d), (.*))', text)
+    if not found or (found[4] and not claimed.lacks(int(found[2]), int(found[4]), found[5])):
+        return text
+    return '%s %s 3 %s' % (found[1], found[2], found[4] or '-1')
+
+
+def plan_lines(texts, model):
+    """The lines that were told of this model, each as `plan` prints it if its words are right, and else as it was told."""
+    claimed = claims.Claims(model)
+    for text in texts:
+        line = wait_line(text, claimed) if ' waits: ' in text else plan_line(text)
+        started = re.fullmatch(r'\d+ (\d+) 1 (\d+)', line)
+        if started:
+            claimed.starts(*map(int, started.groups()))
+        yield line
+
+
 def ending(text):
     found = re.fullmatch(r'(CLOSED|IDLE|LIMIT|FAULT (\d+) (.*)), steps done (\d+)', text)
     if not found or (found[2] and WORDS.get(int(found[2])) != found[3]):
@@ -126,7 +148,7 @@ def run_and_bound(desk, name, model, expected):
     if bound.startswith('refused'):
         desk.same('run of ' + name, [refusal(told)], expected)
     else:
-        desk.same('run of ' + name, [plan_line(line) for line in lines[:-1]] + [ending(lines[-1]) + ' ' + bound], expected)
+        desk.same('run of ' + name, [*plan_lines(lines[:-1], model), ending(lines[-1]) + ' ' + bound], expected)
     desk.same('run of %s, its status' % name, status, 1 if expected[-1].startswith(('refused', 'fault')) else 0)
 
 
@@ -157,6 +179,34 @@ def moves(desk):
             desk.same('moves, its steps', (moved, sum(int(many) for _, many in parts)), (status, int(total)))
     desk.same('moves of two jobs', desk.asks('moves', str(examples.HERE / 'two-jobs.model'), '6'), (0, MOVED, ''))
     desk.same('moves of a bad file', desk.tells('check', b'x'), desk.asks('moves', str(desk.file), '6')[:2])
+
+
+def waiting(desk):
+    """Why each job waits, in the lines of a run and of one that is moved on, and when the run has stopped."""
+    for name, model, lines, last in waits.WAITS:
+        fault = 1 if last[-1].startswith('FAULT') else 0
+        desk.same('waits, ' + name, desk.tells('waits', model), (fault, '\n'.join(last) + '\n'))
+        for words in (['run', str(desk.file)], ['moves', str(desk.file), '3']):
+            status, told, _ = desk.asks(*words)
+            desk.same('%s, %s' % (words[0], name), (status, re.findall('^.* waits: .*', told, re.M)), (fault, lines))
+    desk.same('waits with a limit', desk.asks('waits', str(examples.HERE / 'two-jobs.model'), '2'), (
+        0, 'nobody waits\nLIMIT, steps done 2\n', ''))
+    desk.same('waits of a bad file', desk.tells('check', b'x'), desk.tells('waits', b'x'))
+    status, told = desk.tells('run', waits.CROWD)
+    named = 'the first branch lacks item 1'
+    desk.same('run of a crowd', (status, re.findall('waits: (.*)', told)), (
+        0, [named + ', 1 of bin 0 (0 there)'] * 10000 + [named] * (waits.MANY - 10000)))
+    moved = desk.asks('moves', str(desk.file), '5000')[1]
+    desk.same('moves of a crowd', re.findall('^time .*', moved, re.M), re.findall('^time .*', told, re.M))
+
+
+def page(desk):
+    """What docs/MODEL.md says that is told: in each of its blocks a command, and then that."""
+    root = examples.HERE.parent
+    blocks = re.findall(r'(?ms)^```told\ndesk (.*?) (.*?) (.*?)\n(.*?)^```$', (root / 'docs' / 'MODEL.md').read_text())
+    desk.same('blocks of docs/MODEL.md', [command for command, _, _, _ in blocks], ['run', 'waits'])
+    for command, model, limit, told in blocks:
+        desk.same('%s of docs/MODEL.md' % command, desk.asks(command, str(root / model), limit), (0, told, ''))
 
 
 def draws(desk):
@@ -194,11 +244,12 @@ def usage(desk):
     desk.same('run with the greatest limit', desk.asks('run', grade, '4294967295'), desk.asks('run', grade))
     for words in ([], ['check'], ['run'], ['plan', grade], ['check', grade, '1'], ['bound', grade, '1'],
                   ['run', grade, '1', '1'], ['run', grade, ''], ['run', grade, '-1'], ['run', grade, '1x'],
-                  ['moves', grade], ['moves', grade, '0'], ['run', grade, '4294967296'], ['run', grade, '99999999999999999999']):
+                  ['moves', grade], ['moves', grade, '0'], ['run', grade, '4294967296'], ['run', grade, '99999999999999999999'],
+                  ['waits'], ['waits', grade, '-1'], ['waits', grade, '1', '1']):
         status, told, complaint = desk.asks(*words)
         desk.same('words %s' % words, (status, told, complaint[:6]), (2, '', 'usage:'))
     for name, reason in ((str(desk.file) + '.none', 'No such file or directory'), (str(desk.file.parent), 'Is a directory')):
-        for command in ('check', 'bound', 'run'):
+        for command in ('check', 'bound', 'run', 'waits'):
             desk.same(command + ' of what is no file', desk.asks(command, name), (
                 2, '', "desk: %s can't be read: %s\n" % (name, reason)))
 
@@ -208,6 +259,8 @@ def main(words):
         desk = Desk(words, folder)
         runs(desk)
         moves(desk)
+        waiting(desk)
+        page(desk)
         draws(desk)
         checks(desk)
         usage(desk)

@@ -43,14 +43,17 @@ head -c 71 examples/two-jobs.model >"$folder/bad"
 # A line at every second step: the journal is filled to its end, and made larger.
 PYTHONPATH=tests python3 -B -c "import sys; from records import *
 sys.stdout.buffer.write(CLASS(0) + ENTITY(0) + BLOCK() + WHILE(1) + BLOCK())" >"$folder/endless" || exit 1
-for command in check bound run; do
+for command in check bound run waits; do
   under_valgrind 0 "$command" examples/two-jobs.model
   under_valgrind 1 "$command" "$folder/bad"
 done
 under_valgrind 0 moves examples/two-jobs.model 3
 under_valgrind 1 moves "$folder/bad" 3
 under_valgrind 0 run "$folder/endless" 140000
-echo "desk: nine runs under valgrind, as they should"
+# Six jobs wait then, each for one of two reasons.
+under_valgrind 0 waits examples/crowded-day.model 60
+under_valgrind 0 moves examples/crowded-day.model 50
+echo "desk: thirteen runs under valgrind, as they should"
 
 [ "$(uname -m)" != x86_64 ] || exit 0
 if ! command -v x86_64-linux-gnu-gcc >/dev/null; then
