@@ -1,5 +1,5 @@
 #!/usr/bin/env bash
-# The second program's own tests: document 01 in plain Rust, written without a look at the engine or the definitions.
+# The second program's own tests: documents 01 and 02 in plain Rust, written from their words (reference/README.md).
 set -u
 cd "$(dirname "$0")/../reference" || exit 1
 cargo test --release --offline --quiet

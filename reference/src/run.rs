@@ -37,6 +37,31 @@ pub enum Answer {
     Limit,
 }
 
+/// What the test of a claim answers: met, or the first item that is lacking, counted from 1 in the order written,
+/// conditions among them.
+#[derive(Clone, Copy, Debug, PartialEq, Eq)]
+pub enum Test {
+    Met,
+    Lacks(usize),
+}
+
+/// Why a process takes no branch: it is barred, whether or not anything is lacking; or its first branch lacks this item.
+#[derive(Clone, Copy, Debug, PartialEq, Eq)]
+enum Reason {
+    Barred,
+    Lacks(usize),
+}
+
+impl Reason {
+    /// The value of a line of kind 3.
+    fn value(self) -> i32 {
+        match self {
+            Reason::Barred => -1,
+            Reason::Lacks(item) => item as i32,
+        }
+    }
+}
+
 /// What one call gives: the answer, the steps done in this call, and the journal's bytes.
 #[derive(Clone, Debug, PartialEq, Eq)]
 pub struct Outcome {
@@ -287,18 +312,17 @@ impl State {
             Action::Req { .. } | Action::Try { .. } | Action::While { .. } => {
                 // Those of equal or higher priority are the ones it would join behind.
                 let ahead = self.behind_equals(&self.blocked_list, priority);
-                let branch =
-                    self.branch_to_take(model, action.claims(), &self.blocked_list[..ahead]);
-                match (branch, action) {
-                    (Some(branch), _) => Ok(vec![self.take(place, action, branch)]),
-                    (None, Action::While { .. }) => {
+                let choice = self.choose(model, action.claims(), &self.blocked_list[..ahead]);
+                match (choice, action) {
+                    (Ok(branch), _) => Ok(vec![self.take(place, action, branch)]),
+                    (Err(_), Action::While { .. }) => {
                         self.pass_on(place);
                         Ok(Vec::new())
                     }
-                    (None, _) => {
+                    (Err(reason), _) => {
                         self.blocked_list.insert(ahead, place);
                         self.floor = None;
-                        Ok(vec![self.line(journal::BLOCKED, number, 0)])
+                        Ok(vec![self.line(journal::BLOCKED, number, reason.value())])
                     }
                 }
             }
@@ -431,8 +455,10 @@ impl State {
             let action = self
                 .action(model, place)
                 .expect("a blocked process stands at a REQ or TRY");
-            match self.branch_to_take(model, action.claims(), &self.blocked_list) {
-                Some(branch) => {
+            // Who stays blocked says nothing again. So barring is looked at last: it costs more, and most who are
+            // blocked can't be met.
+            match self.first_met(action.claims()) {
+                Some(branch) if !self.is_barred(model, action.claims(), &self.blocked_list) => {
                     lines.push(self.take(place, action, branch));
                     self.enter(
                         self.clock,
@@ -440,25 +466,49 @@ impl State {
                         Entered::Process(place),
                     );
                 }
-                None => self.blocked_list.push(place),
+                _ => self.blocked_list.push(place),
             }
         }
         lines
     }
 
-    /// The first branch that can be met, unless one of the blocked processes `ahead` bars them all.
-    /// Barring is looked at last, as it costs more and most who are blocked can't be met.
-    fn branch_to_take(&self, model: &Model, claims: &[Claim], ahead: &[usize]) -> Option<usize> {
-        let first_met = claims
-            .iter()
-            .position(|claim| claim.iter().all(|item| self.is_met(item)))?;
-        let barred = ahead.iter().any(|blocked| {
+    /// The branch that a process on the floor takes, or why it takes none.
+    fn choose(&self, model: &Model, claims: &[Claim], ahead: &[usize]) -> Result<usize, Reason> {
+        if self.is_barred(model, claims, ahead) {
+            return Err(Reason::Barred);
+        }
+        match self.test(&claims[0]) {
+            Test::Met => Ok(0),
+            Test::Lacks(item) => match self.first_met(&claims[1..]) {
+                Some(after) => Ok(1 + after),
+                None => Err(Reason::Lacks(item)),
+            },
+        }
+    }
+
+    /// Whether one of the blocked processes `ahead` bars these claims.
+    fn is_barred(&self, model: &Model, claims: &[Claim], ahead: &[usize]) -> bool {
+        ahead.iter().any(|blocked| {
             let action = self
                 .action(model, *blocked)
                 .expect("a blocked process stands at a REQ or TRY");
             bars(action.claims(), claims)
-        });
-        (!barred).then_some(first_met)
+        })
+    }
+
+    fn first_met(&self, claims: &[Claim]) -> Option<usize> {
+        claims
+            .iter()
+            .position(|claim| self.test(claim) == Test::Met)
+    }
+
+    /// In line, as a walk asks it of the branches of all who are blocked.
+    #[inline]
+    pub fn test(&self, claim: &Claim) -> Test {
+        match claim.iter().position(|item| !self.is_met(item)) {
+            None => Test::Met,
+            Some(before) => Test::Lacks(1 + before),
+        }
     }
 
     fn is_met(&self, item: &Item) -> bool {

@@ -8,3 +8,4 @@ mod random;
 mod refusals;
 mod samplers;
 mod steps;
+mod waits;

@@ -64,7 +64,7 @@ fn plan_2_the_example_of_72_bytes() {
         &bytes,
         &[
             "0 1 4 0",
-            "0 2 3 0",
+            "0 2 3 1",
             "3 1 2 0",
             "3 1 5 0",
             "3 2 4 0",
@@ -145,8 +145,8 @@ fn plans_7_and_9_a_claim_of_a_part_waits_and_the_whole_goes_first() {
         &plan_7_to_9(0),
         &[
             "0 1 4 0",
-            "1 2 3 0",
-            "2 3 3 0",
+            "1 2 3 1",
+            "2 3 3 -1",
             "5 1 2 0",
             "5 1 5 0",
             "5 2 4 0",
@@ -167,7 +167,7 @@ fn plan_8_higher_priority_is_not_barred() {
         &plan_7_to_9(1),
         &[
             "0 1 4 0",
-            "1 2 3 0",
+            "1 2 3 1",
             "2 3 4 0",
             "3 3 2 0",
             "3 3 5 1",

@@ -2,7 +2,7 @@
 
 use crate::build::*;
 use reference::bound::Bound;
-use reference::journal::LINE_BYTES;
+use reference::journal::{BLOCKED, LINE_BYTES};
 use reference::model::{decode, Action, Model};
 use reference::run::{Answer, Entered, Returned, State, JOURNAL, PLACES};
 use reference::sampler::MOST_SEED;
@@ -38,7 +38,7 @@ impl Random {
 
     fn claim(&mut self) -> Vec<Item> {
         let mut items: Vec<Item> = Vec::new();
-        for _ in 0..self.below(4) {
+        for _ in 0..self.below(5) {
             let amount = 1 + self.below(2) as i32;
             let item = match self.below(6) {
                 0 => condition(1 + self.below(6) as u8, self.word(2), self.below(3) as i32),
@@ -216,6 +216,8 @@ fn is_sound(model: &Model, state: &State) {
 fn runs_are_sound_keep_their_bound_and_may_be_cut_anywhere() {
     let mut random = Random(88_172_645_463_325_252);
     let mut answers = [0; 4];
+    // Those barred, and by the item that is lacking.
+    let mut waits = [0; 5];
     for _ in 0..1_000 {
         let bytes = random.model();
         let model = decode(&bytes).expect("the generator makes sound models");
@@ -238,6 +240,13 @@ fn runs_are_sound_keep_their_bound_and_may_be_cut_anywhere() {
         let mut journal = Vec::new();
         for _ in 0..long.steps {
             let (after, lines) = state.step(&model).expect("the long call made this step");
+            for line in lines.iter().filter(|line| line.kind == BLOCKED) {
+                waits[match line.value {
+                    -1 => 0,
+                    item @ 1..=4 => item as usize,
+                    other => panic!("a line of kind 3 with value {other}"),
+                }] += 1;
+            }
             journal.extend(lines.iter().flat_map(|line| line.bytes()));
             state = after;
             is_sound(&model, &state);
@@ -263,6 +272,7 @@ fn runs_are_sound_keep_their_bound_and_may_be_cut_anywhere() {
         );
     }
     assert!(answers.iter().all(|count| *count > 10), "{answers:?}");
+    assert!(waits.iter().all(|count| *count > 0), "{waits:?}");
 }
 
 #[test]

@@ -272,7 +272,7 @@ fn a_blocked_try_is_granted_its_branch_in_a_walk() {
         journal(&bytes),
         [
             (0, 1, 4, 0),
-            (1, 2, 3, 0),
+            (1, 2, 3, 1),
             (2, 1, 6, 0),
             (2, 2, 4, 1),
             (2, 2, 9, 2),
@@ -340,7 +340,7 @@ fn a_return_waits_for_all_others_at_that_instant() {
         journal(&bytes),
         [
             (0, 1, 4, 0),
-            (3, 2, 3, 0),
+            (3, 2, 3, 1),
             (3, 1, 5, 0),
             (3, 2, 4, 0),
             (3, 2, 2, 0),
@@ -461,7 +461,7 @@ fn names_are_kinds_with_numbers() {
 fn a_claim_above_the_total_waits_for_ever() {
     assert_eq!(
         journal(&one_process(&[res(1)], &[&[req(&[get_r(0, 2)])]])),
-        [(0, 1, 3, 0)]
+        [(0, 1, 3, 1)]
     );
 }
 
@@ -573,7 +573,7 @@ fn become_walks_and_its_own_line_comes_first() {
     assert_eq!(
         journal(&bytes),
         [
-            (0, 1, 3, 0),
+            (0, 1, 3, 1),
             (1, 2, 7, 0),
             (1, 1, 4, 0),
             (1, 2, 8, 0),
