@@ -14,17 +14,18 @@ HERE = pathlib.Path(__file__).resolve().parent.parent / 'examples'
 
 
 def two_jobs():
-    """Two jobs and one suite. Both want the edit suite at once and keep it for three hours: the second waits, and gets
-    it when the first has given it back."""
+    """Two jobs and one suite. Both want the edit suite at once and keep it for three hours: the second waits, as item 1 of
+    its claim, the suite, is lacking, and gets it when the first has given it back."""
     return (RES(1) + CLASS(0) + ENTITY(0) + ENTITY(0)
             + BLOCK() + REQ(getR(0)) + HOLD(literal(3)) + PUTR(0, 1))
 
 
 def grade():
     """The grade that queued for a room. The theatre (resource 0) is taken by a screening until 4. The feature (process 2)
-    wants theatre and colour desk (1) together and waits. A wedding (3) that wants only the desk is barred, though
-    the desk is free: it would take a part of what the feature waits for. The trailer (4) has the higher priority, so
-    nobody in front of it bars it, and it gets the desk at once."""
+    wants theatre and colour desk (1) together and waits: its line ends in 1, as the theatre, item 1 of its claim, is
+    lacking. A wedding (3) that wants only the desk is barred, and its line ends in -1, though the desk is free: it would
+    take a part of what the feature waits for. The trailer (4) has the higher priority, so nobody in front of it bars it,
+    and it gets the desk at once."""
     return (RES(1) + RES(1) + CLASS(0) + CLASS(1) + CLASS(2) + CLASS(3)
             + ENTITY(0, 0) + ENTITY(1, 1) + ENTITY(2, 2) + ENTITY(3, 3)
             + BLOCK() + REQ(getR(0)) + HOLD(literal(4)) + PUTR(0, 1)
@@ -36,7 +37,8 @@ def grade():
 def crowded_day():
     """A crowded day. Ten jobs and three more over two suites (0), one theatre (1) and three decks (2): weddings take a
     suite and a deck, trailers whichever comes first of theatre or suite, the feature both rooms, twice; each writes
-    when it is done (TRACE). Every fourth hour the desk starts another wedding."""
+    when it is done (TRACE). Every fourth hour the desk starts another wedding. The trailers that come at 2 and at 3 are
+    barred (-1): the feature waits for both rooms. Everybody else who waits lacks a room, item 1 of what it claims first."""
     wedding = REQ(getR(0), getR(2)) + HOLD(literal(3)) + PUTR(0, 1) + PUTR(2, 1) + TRACE(CLOCK)
     trailer = TRY(branch(5, getR(1)), branch(6, getR(0))) + TRACE(CLOCK)
     feature = PRIO(literal(5)) + DO(2, 7) + TRACE(CLOCK)

@@ -1,4 +1,5 @@
-"""The twelve plans of document 01, a few other ends of a run, and plans that draw, through a program that prints plans.
+"""The twelve plans of document 01, a few other ends of a run, plans that draw and plans that wait, through a program that prints
+plans.
 
     python3 -B tests/plans.py COMMAND ...    runs COMMAND on each model and compares what it prints
 
@@ -35,23 +36,26 @@ def lowest(priority, value):
     return 0, PRIO(literal(priority)) + HOLD(literal(1)) + TRACE(literal(value))
 
 
+# Variable 0 is 5.
+IS_5, IS_NOT_5 = condition(0, 3, 5), condition(0, 4, 5)
+
 EXAMPLE = (RES(1) + CLASS(0) + ENTITY(0) + ENTITY(0)
            + BLOCK() + REQ(getR(0)) + HOLD(literal(3)) + PUTR(0, 1))
 
 PLANS = [
     ('1, an empty file', b'', ['idle 0 bound 0']),
     ('2, the example of 72 bytes', EXAMPLE,
-     ['0 1 4 0', '0 2 3 0', '3 1 2 0', '3 1 5 0', '3 2 4 0', '6 2 2 0', '6 2 5 0', 'idle 10 bound 10']),
+     ['0 1 4 0', '0 2 3 1', '3 1 2 0', '3 1 5 0', '3 2 4 0', '6 2 2 0', '6 2 5 0', 'idle 10 bound 10']),
     ('3, DO 0', one(b'', DO(0, 1), b''), ['0 1 2 0', 'idle 2 bound 2']),
     ('4, DO 3 of an empty block', one(b'', DO(3, 1), b''), ['0 1 2 0', 'idle 5 bound 5']),
     ('5, HOLD -1', one(b'', HOLD(literal(-1))), ['fault 22 0 bound 2']),
     ('6, HOLD to the last time', one(b'', HOLD(literal(2000000000))), ['2000000000 1 2 0', 'idle 2 bound 2']),
     ('6, and one more', one(b'', HOLD(literal(2000000001))), ['fault 23 0 bound 2']),
     ('7 and 9, a part waits and the whole goes first', barred(0),
-     ['0 1 4 0', '1 2 3 0', '2 3 3 0', '5 1 2 0', '5 1 5 0', '5 2 4 0', '10 2 2 0', '10 2 5 0', '10 2 5 1', '10 3 4 0',
+     ['0 1 4 0', '1 2 3 1', '2 3 3 -1', '5 1 2 0', '5 1 5 0', '5 2 4 0', '10 2 2 0', '10 2 5 0', '10 2 5 1', '10 3 4 0',
       '11 3 2 0', '11 3 5 1', 'idle 18 bound 18']),
     ('8, a higher priority is not barred', barred(1),
-     ['0 1 4 0', '1 2 3 0', '2 3 4 0', '3 3 2 0', '3 3 5 1', '5 1 2 0', '5 1 5 0', '5 2 4 0', '10 2 2 0', '10 2 5 0',
+     ['0 1 4 0', '1 2 3 1', '2 3 4 0', '3 3 2 0', '3 3 5 1', '5 1 2 0', '5 1 5 0', '5 2 4 0', '10 2 2 0', '10 2 5 0',
       '10 2 5 1', 'idle 18 bound 18']),
     ('10, PRIO -20,000 is -10,000', several(b'', lowest(-20000, 1), lowest(-10000, 2), lowest(-9999, 3)),
      ['1 3 9 3', '1 3 2 0', '1 1 9 1', '1 1 2 0', '1 2 9 2', '1 2 2 0', 'idle 12 bound 12']),
@@ -74,6 +78,19 @@ PLANS = [
     ('the 10,000th seed from 1 is 1043618065',
      one(SAMPLER(0, 1000000) + SAMPLER(0, 999999), DO(9999, 1) + TRACE(draw(0)) + TRACE(draw(1)), LSET(0, ADD, draw(0), draw(1))),
      ['0 1 9 617022', '0 1 9 618065', '0 1 2 0', 'idle 20002 bound 20002']),
+    ('the first item that is lacking, conditions counted',
+     several(RES(1) + RES(1) + BIN(0) + SYNC() + VAR(5),
+             (0, REQ(getB(0), getS(0))), (1, REQ(getR(0), IS_NOT_5, getB(0))), (2, REQ(getR(0), IS_5, getS(0))),
+             (3, REQ(IS_5, getR(0), getR(1), getB(0)))),
+     ['0 1 3 1', '1 2 3 2', '2 3 3 3', '3 4 3 4', 'idle 4 bound 8']),
+    # The second and the third are barred by the first, and the third lacks something besides. The fourth lacks item 2 of its
+    # first branch. No line tells that the fifth passes on, or that the walk of the last leaves the four blocked.
+    ('barred, or what the first branch lacks',
+     several(RES(1) + RES(1) + BIN(0) + VAR(5),
+             (0, REQ(getR(0, 2), getR(1))), (1, REQ(getR(1))), (2, REQ(IS_NOT_5, getR(0))),
+             (3, TRY(branch(6, getR(0), getB(0)), branch(6, getB(0)))), (4, WHILE(6, getR(1)) + WHILE(6, getB(0))),
+             (5, SET(0, literal(5)))) + BLOCK(),
+     ['0 1 3 1', '1 2 3 -1', '2 3 3 -1', '3 4 3 2', '4 5 2 0', '5 6 2 0', 'idle 9 bound none']),
     ('a refusal', EXAMPLE + BLOCK()[:3], ['refused 1 at 72']),
     ('65,536 bytes', bytes(65536), ['refused 4 at 0']),
     ('more than a model may have', bytes(70000), ['refused 4 at 0']),
