@@ -1,7 +1,8 @@
 //! How often each number that the desk sees came up: the table at the end.
 
 use crate::drawn::Drawers;
-use reference::journal::lines;
+use crate::waited::tests;
+use reference::journal::{lines, BLOCKED};
 use reference::model::{Action, Model};
 use reference::run::{Answer, Entered, Outcome, State};
 
@@ -17,6 +18,8 @@ pub const DRAWS: usize = 8;
 pub const DRAWS_UNDONE: usize = 9;
 pub const SEEDS: usize = 10;
 pub const PACES: usize = 11;
+pub const WAITS: usize = 12;
+pub const WAITED: usize = 13;
 
 struct Group {
     title: &'static str,
@@ -25,7 +28,7 @@ struct Group {
     names: &'static [&'static str],
 }
 
-const GROUPS: [Group; 12] = [
+const GROUPS: [Group; 14] = [
     Group {
         title: "refusals",
         first: 1,
@@ -114,6 +117,24 @@ const GROUPS: [Group; 12] = [
         first: 1,
         names: &["step", "steps", "steps", "steps", "steps", "steps", "steps"],
     },
+    Group {
+        title: "journal lines of those blocked, by the value",
+        first: 0,
+        names: &["barred: -1", "the first item is lacking", "the second", "the third", "the fourth"],
+    },
+    Group {
+        title: "claims that wait or pass on, of the first 200 steps",
+        first: 0,
+        names: &[
+            "barred, a branch could be met",
+            "barred, no branch could be met",
+            "a condition is lacking",
+            "lacking behind a condition",
+            "the last branch lacks another",
+            "a WHILE passes on, barred",
+            "a WHILE passes on, lacking",
+        ],
+    },
 ];
 
 /// What a run of the driver did besides.
@@ -153,7 +174,17 @@ impl Counts {
     }
 
     pub fn wrote(&mut self, journal: &[u8]) {
-        lines(journal).for_each(|line| self.add(LINES, usize::from(line.kind)));
+        for line in lines(journal) {
+            self.add(LINES, usize::from(line.kind));
+            if line.kind == BLOCKED {
+                self.add(WAITS, usize::try_from(line.value).unwrap_or(0));
+            }
+        }
+    }
+
+    /// Each that is so, counted under its place from `first` on.
+    pub fn add_each(&mut self, group: usize, first: usize, so: &[bool]) {
+        so.iter().enumerate().filter(|(_, so)| **so).for_each(|(i, _)| self.add(group, first + i));
     }
 
     /// The actions of at most so many steps from fresh, made again one by one.
@@ -162,6 +193,7 @@ impl Counts {
         let mut drawers = Drawers::default();
         for _ in 0..most {
             let doing = next(model, &state);
+            let tested = doing.map_or(Vec::new(), |(_, action)| tests(&state, action));
             let one = state.run(model, 1, usize::MAX);
             if one.steps == 0 {
                 return;
@@ -169,6 +201,7 @@ impl Counts {
             if let Some((process, action)) = doing {
                 self.add(ACTIONS, kind_of(action));
                 self.drew(action, process, &mut drawers);
+                self.waited(action, &tested, &one.journal);
             }
         }
     }

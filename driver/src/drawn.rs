@@ -13,11 +13,6 @@ const MOST_DIFFERENCE: i64 = 1_000_000;
 pub struct Drawers([Option<u32>; MOST_SAMPLERS]);
 
 impl Counts {
-    /// Each that is so, counted under its place from `first` on.
-    fn add_each(&mut self, group: usize, first: usize, so: &[bool]) {
-        so.iter().enumerate().filter(|(_, so)| **so).for_each(|(i, _)| self.add(group, first + i));
-    }
-
     /// The samplers of a model that is accepted.
     pub fn sampled(&mut self, model: &Model) {
         for sampler in &model.samplers {

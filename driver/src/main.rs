@@ -19,6 +19,7 @@ mod row;
 mod show;
 mod shrink;
 mod sound;
+mod waited;
 
 use compare::{Bench, Difference, Effort};
 use counts::Counts;

@@ -1,0 +1,32 @@
+//! What came up of waiting: who waits for what, and who passes on.
+
+use crate::counts::{Counts, WAITED};
+use reference::journal::{lines, BLOCKED};
+use reference::model::{Action, Item, CONDITION};
+use reference::run::{State, Test};
+
+/// What the branches of an action answer in this state.
+pub fn tests(state: &State, action: &Action) -> Vec<Test> {
+    action.claims().iter().map(|claim| state.test(claim)).collect()
+}
+
+impl Counts {
+    /// A step that did this action, whose branches answered so before, and the lines that it wrote.
+    pub fn waited(&mut self, action: &Action, tests: &[Test], journal: &[u8]) {
+        let some_met = tests.contains(&Test::Met);
+        if let Action::While { .. } = action {
+            let passed_on = journal.is_empty();
+            return self.add_each(WAITED, 5, &[passed_on && some_met, passed_on && !some_met]);
+        }
+        let Some(blocked) = lines(journal).find(|line| line.kind == BLOCKED) else {
+            return;
+        };
+        let Ok(lacking @ 1..) = usize::try_from(blocked.value) else {
+            return self.add_each(WAITED, 0, &[some_met, !some_met]);
+        };
+        let is_condition = |item: &Item| item.kind == CONDITION;
+        let (before, from) = action.claims()[0].split_at(lacking - 1);
+        let so = [is_condition(&from[0]), before.iter().any(is_condition), tests.first() != tests.last()];
+        self.add_each(WAITED, 2, &so);
+    }
+}
