@@ -42,7 +42,7 @@ CHANGES = [
     ('the walk stops at the first that can\'t go', 'act_walk', 'left = left - 1;',
      'left = if went == 0 { 0 } else { left - 1 };'),
     ('a walk grants one', 'act_walk', 'left = left - 1;', 'left = if went == 1 { 0 } else { left - 1 };'),
-    ('a walk bars nobody', 'act_walk', 'row_grant::choice(s, map, w, action, k)', 'row_grant::choice(s, map, w, action, 0)'),
+    ('a walk bars nobody', 'act_walk', 'row_grant::branch(s, map, w, action, k)', 'row_grant::branch(s, map, w, action, 0)'),
     ('SET doesn\'t walk', 'act_set_become', 'let lines = act_walk::walk(s, map, w, out, at);', 'let lines = 0;'),
     ('nobody on the floor is barred', 'act_req_try_while',
      'row_grant::choice(s, map, w, a, ahead)', 'row_grant::choice(s, map, w, a, 0)'),
@@ -61,10 +61,44 @@ CHANGES = [
      'if !covered(map, from, to, x) {\n            return false;\n        }',
      'if covered(map, from, to, x) {\n            return true;\n        }'),
     ('a barred TRY takes its second branch', 'row_grant',
-     'if barred(map, w, a, k) {',
+     'if barred(map, w, a, k) {\n        return Choice::Waits(Reason::Barred);',
      'if barred(map, w, a, k) {\n'
-     '            if file_map::number_at(map, 1346 + a) - file_map::number_at(map, 1345 + a) > 1 {\n'
-     '                return Choice::Goes(1);\n            }'),
+     '        let some_met = matches!(row_claim::first_met(s, map, w, a), Choice::Goes(_));\n'
+     '        if some_met & (file_map::branches_from(map, a + 1) - file_map::branches_from(map, a) > 1) {\n'
+     '            return Choice::Goes(1);\n        }\n'
+     '        return Choice::Waits(Reason::Barred);',
+     'if barred(map, w, a, k) {\n        return Branch::Stays;',
+     'if barred(map, w, a, k) {\n'
+     '        if file_map::branches_from(map, a + 1) - file_map::branches_from(map, a) > 1 {\n'
+     '            return Branch::Goes(1);\n        }\n'
+     '        return Branch::Stays;'),
+    # ---- why a process waits
+    ('the last lacking item', 'row_claim',
+     'return Test::Lacks(many - left + 1);', 'last = many - left + 1;',
+     'let mut left = many;', 'let mut left = many;\n    let mut last = 0;',
+     'Test::Met\n}', 'if last == 0 { Test::Met } else { Test::Lacks(last) }\n}'),
+    ('items counted from 0', 'row_claim', 'Test::Lacks(many - left + 1)', 'Test::Lacks(many - left)'),
+    ('conditions not counted', 'row_claim',
+     'let mut left = many;', 'let mut left = many;\n    let mut conditions = 0;',
+     'Test::Lacks(many - left + 1)', 'Test::Lacks(many - left + 1 - conditions)',
+     'rest = &rest[item::BYTES..];', 'conditions += (rest[0] == 3) as u32;\n        rest = &rest[item::BYTES..];'),
+    ('lacking before barred', 'row_grant',
+     'if barred(map, w, a, k) {\n        return Choice::Waits(Reason::Barred);\n    }\n    row_claim::first_met(s, map, w, a)',
+     'let first = row_claim::first_met(s, map, w, a);\n'
+     '    if matches!(first, Choice::Goes(_)) & barred(map, w, a, k) {\n'
+     '        return Choice::Waits(Reason::Barred);\n    }\n    first'),
+    ('the lacking item of the last branch', 'row_claim', 'if k == 0 {', 'if k + 1 == many {'),
+    ('a WHILE that passes on says why', 'act_req_try_while',
+     'let Choice::Waits(_) = chosen else {', 'let Choice::Waits(why) = chosen else {',
+     'row_process::past(w, p);\n    Went { fault: 0, lines: 0 }',
+     'act_floor::note(w, p, out, at, line::BLOCKED, said(why));\n'
+     '    row_process::past(w, p);\n    Went { fault: 0, lines: 1 }'),
+    ('a walk says again that one is blocked', 'act_walk',
+     'let Branch::Goes(which) = chosen else {\n        return 0;',
+     'let Branch::Goes(which) = chosen else {\n'
+     '        note(w, out, at, line::BLOCKED, row_process::number_of(w, place), 1);\n        return 0;',
+     'wrote = wrote + went;', 'wrote = wrote + 1;'),
+    ('the value 0 of all that are blocked', 'act_req_try_while', 'let value = said(why);', 'let value = code::ZERO;'),
     # ---- actions
     ('PRIO without its floor', 'act_hold_prio_lset_trace', 'base_i32::greater(code::LOWEST, value.code)', 'value.code'),
     ('a DO has one round more', 'act_do_close', 'row_process::into(w, p, n, b);', 'row_process::into(w, p, n + 1, b);'),
