@@ -103,8 +103,9 @@ def words(name):
 
 
 def defined():
-    """Refusals, faults, kinds of lines, limits."""
-    marks = ['-- 20 to 30 are faults.', '-- The kinds of a journal line.', '-- At most, of a model file']
+    """Refusals, faults, kinds of lines, the value of one that is barred, limits."""
+    marks = ['-- 20 to 30 are faults.', '-- The kinds of a journal line.', '-- The value of a line of kind 3',
+             '-- At most, of a model file']
     return [constants(part) for part in re.split('|'.join(marks), spec('Numbers'))]
 
 
@@ -142,7 +143,7 @@ def defined_field(row, at, kind, most):
 
 def defined_records():
     """The table of Record.antt, as `records` gives that of the page."""
-    text, kinds, most = spec('Record'), constants(spec('Kinds')), defined()[3]
+    text, kinds, most = spec('Record'), constants(spec('Kinds')), defined()[-1]
     whole = dict(re.findall(r'(?m)^((?:entity|sampler)Of bs) = (record .*)', text))
     rows = {}
     for line in text.partition('\ntable =\n')[2].partition('∷ []')[0].strip().split('\n'):
@@ -159,7 +160,7 @@ def defined_records():
 
 
 def defined_steps():
-    _, faults, kinds, _ = defined()
+    _, faults, kinds, _, _ = defined()
     parts = re.split(r'(?m)^ *unfoldable pub (\w+) :', spec('Step'))
     code = {name: re.sub(r'(?m)^ *(unfolding|--).*$', '', body) for name, body in zip(parts[1::2], parts[2::2])}
     rows = {}
@@ -187,13 +188,15 @@ def base(module, *but):
 
 
 def tables():
-    refusals, faults, lines, most = defined()
+    refusals, faults, lines, barred, most = defined()
     relations = re.search(r'relationOf r = getD \(\w+ ∷ ((?:\w+ ∷ )+)', spec('Record'))[1].split(' ∷ ')[:-1]
     return [
         ('records', records(), defined_records()),
         ('refusals', numbered('No.', 'Refusal'), refusals),
         ('faults', numbered('No.', 'Fault'), faults),
         ('kinds of lines', numbered('Kind', 'Name', 'Process'), {words(name): kind for name, kind in lines.items()}),
+        ('values of kind 3', {int(row[0]): True for row in table('Value', 'Why it waits')},
+         {value: True for value in [barred['barred'], *range(1, most['mostItems'] + 1)]}),
         ('limits', limits(), most),
         ('steps', steps(), defined_steps()),
         ('weights', weights(), defined_weights()),
@@ -348,6 +351,12 @@ def compare_files():
     for name, text in examples('journal').items():
         if not plans[name].startswith(''.join(journal_lines(text))):
             yield 'the journal of %s is not that of its plan' % name
+    quoted = re.findall(r'`([\d -]+)`\s+of\s+`examples/([\w-]+)\.plan`', PAGE)
+    for line, name in quoted:
+        if line not in (ROOT / 'examples' / (name + '.plan')).read_text().splitlines():
+            yield '%s is no line of %s' % (line, name)
+    if [line.split()[2:] for line, _ in quoted] != [['3', '1'], ['3', '-1']]:
+        yield 'of an example one that lacks its first item and one that is barred: %s' % quoted
     told = {int(row[1].split()[1]) for row in table('File', 'Prints')}
     if told != set(range(1, 10)):
         yield 'one refused file for each number from 1 to 9: %s' % sorted(told)
