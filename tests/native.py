@@ -83,7 +83,9 @@ pub unsafe extern "C" fn desk_move(
 }
 '''
 
-CARGO = '[package]\nname = "%s"\nversion = "0.1.0"\nedition = "2021"\n%s\n[profile.release]\nopt-level = 3\n%s\n[workspace]\n'
+# One unit, so that what is measured doesn't hang on how a change elsewhere makes rustc cut the whole into units.
+CARGO = ('[package]\nname = "%s"\nversion = "0.1.0"\nedition = "2021"\n%s\n'
+         '[profile.release]\nopt-level = 3\ncodegen-units = 1\n%s\n[workspace]\n')
 
 
 def without_contracts(text):
