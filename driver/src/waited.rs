@@ -3,17 +3,17 @@
 use crate::counts::{Counts, WAITED};
 use reference::journal::{lines, BLOCKED};
 use reference::model::{Action, Item, CONDITION};
-use reference::run::{State, Test};
+use reference::run::{State, Tested};
 
 /// What the branches of an action answer in this state.
-pub fn tests(state: &State, action: &Action) -> Vec<Test> {
+pub fn tests(state: &State, action: &Action) -> Vec<Tested> {
     action.claims().iter().map(|claim| state.test(claim)).collect()
 }
 
 impl Counts {
     /// A step that did this action, whose branches answered so before, and the lines that it wrote.
-    pub fn waited(&mut self, action: &Action, tests: &[Test], journal: &[u8]) {
-        let some_met = tests.contains(&Test::Met);
+    pub fn waited(&mut self, action: &Action, tests: &[Tested], journal: &[u8]) {
+        let some_met = tests.contains(&Tested::Met);
         if let Action::While { .. } = action {
             let passed_on = journal.is_empty();
             return self.add_each(WAITED, 5, &[passed_on && some_met, passed_on && !some_met]);

@@ -37,31 +37,6 @@ pub enum Answer {
     Limit,
 }
 
-/// What the test of a claim answers: met, or the first item that is lacking, counted from 1 in the order written,
-/// conditions among them.
-#[derive(Clone, Copy, Debug, PartialEq, Eq)]
-pub enum Test {
-    Met,
-    Lacks(usize),
-}
-
-/// Why a process takes no branch: it is barred, whether or not anything is lacking; or its first branch lacks this item.
-#[derive(Clone, Copy, Debug, PartialEq, Eq)]
-enum Reason {
-    Barred,
-    Lacks(usize),
-}
-
-impl Reason {
-    /// The value of a line of kind 3.
-    fn value(self) -> i32 {
-        match self {
-            Reason::Barred => -1,
-            Reason::Lacks(item) => item as i32,
-        }
-    }
-}
-
 /// What one call gives: the answer, the steps done in this call, and the journal's bytes.
 #[derive(Clone, Debug, PartialEq, Eq)]
 pub struct Outcome {
@@ -136,6 +111,31 @@ pub struct State {
     pub variables: Vec<i32>,
     /// By sampler.
     pub seeds: Vec<u32>,
+}
+
+/// What the test of a claim answers. Items are counted from 0, as branches are.
+#[derive(Debug, Clone, Copy, PartialEq, Eq)]
+pub enum Tested {
+    Met,
+    /// The first item that is lacking.
+    Lacking(usize),
+}
+
+/// Why no branch is taken.
+enum Why {
+    Barred,
+    /// No branch can be met; this is the first lacking item of the first one.
+    Lacking(usize),
+}
+
+impl Why {
+    /// The value of a blocked line, where items are counted from 1.
+    fn value(&self) -> i32 {
+        match self {
+            Why::Barred => -1,
+            Why::Lacking(item) => *item as i32 + 1,
+        }
+    }
 }
 
 impl State {
@@ -309,29 +309,45 @@ impl State {
                 offset,
                 list,
             } => self.start(model, place, *class, *offset, list),
-            Action::Req { .. } | Action::Try { .. } | Action::While { .. } => {
-                // Those of equal or higher priority are the ones it would join behind.
-                let ahead = self.behind_equals(&self.blocked_list, priority);
-                let choice = self.choose(model, action.claims(), &self.blocked_list[..ahead]);
-                match (choice, action) {
-                    (Ok(branch), _) => Ok(vec![self.take(place, action, branch)]),
-                    (Err(_), Action::While { .. }) => {
-                        self.pass_on(place);
-                        Ok(Vec::new())
-                    }
-                    (Err(reason), _) => {
-                        self.blocked_list.insert(ahead, place);
-                        self.floor = None;
-                        Ok(vec![self.line(journal::BLOCKED, number, reason.value())])
-                    }
-                }
-            }
+            Action::Req { .. } | Action::Try { .. } => Ok(vec![self.request(model, place, action)]),
+            Action::While { .. } => Ok(self.meet_while(model, place, action)),
             Action::Close => {
                 self.pass_on(place);
                 self.closed = true;
                 Ok(vec![self.line(journal::CLOSED, number, 0)])
             }
         }
+    }
+
+    /// The step of a REQ or TRY.
+    fn request(&mut self, model: &Model, place: usize, action: &Action) -> Line {
+        let ahead = self.ahead_on_the_floor(place);
+        match self.branch_or_why(model, action.claims(), &self.blocked_list[..ahead]) {
+            Ok(branch) => self.take(place, action, branch),
+            Err(why) => {
+                self.blocked_list.insert(ahead, place);
+                self.floor = None;
+                self.line(journal::BLOCKED, self.process(place).number, why.value())
+            }
+        }
+    }
+
+    /// The step of a WHILE.
+    fn meet_while(&mut self, model: &Model, place: usize, action: &Action) -> Vec<Line> {
+        let ahead = self.ahead_on_the_floor(place);
+        match self.branch_to_take(model, action.claims(), &self.blocked_list[..ahead]) {
+            Some(branch) => vec![self.take(place, action, branch)],
+            None => {
+                self.pass_on(place);
+                Vec::new()
+            }
+        }
+    }
+
+    /// How many of the blocked list may bar the process on the floor: those of equal or higher priority are the ones it
+    /// would join behind.
+    fn ahead_on_the_floor(&self, place: usize) -> usize {
+        self.behind_equals(&self.blocked_list, self.process(place).priority)
     }
 
     fn block_exhausted(&mut self, model: &Model, place: usize) -> Result<Vec<Line>, Fault> {
@@ -455,10 +471,8 @@ impl State {
             let action = self
                 .action(model, place)
                 .expect("a blocked process stands at a REQ or TRY");
-            // Who stays blocked says nothing again. So barring is looked at last: it costs more, and most who are
-            // blocked can't be met.
-            match self.first_met(action.claims()) {
-                Some(branch) if !self.is_barred(model, action.claims(), &self.blocked_list) => {
+            match self.branch_to_take(model, action.claims(), &self.blocked_list) {
+                Some(branch) => {
                     lines.push(self.take(place, action, branch));
                     self.enter(
                         self.clock,
@@ -466,27 +480,45 @@ impl State {
                         Entered::Process(place),
                     );
                 }
-                _ => self.blocked_list.push(place),
+                None => self.blocked_list.push(place),
             }
         }
         lines
     }
 
-    /// The branch that a process on the floor takes, or why it takes none.
-    fn choose(&self, model: &Model, claims: &[Claim], ahead: &[usize]) -> Result<usize, Reason> {
+    /// The branch that a REQ or TRY takes, or why it takes none. Barred is said even where something is lacking too, so
+    /// barring is looked at whatever the test of the claims would answer.
+    fn branch_or_why(
+        &self,
+        model: &Model,
+        claims: &[Claim],
+        ahead: &[usize],
+    ) -> Result<usize, Why> {
         if self.is_barred(model, claims, ahead) {
-            return Err(Reason::Barred);
+            return Err(Why::Barred);
         }
-        match self.test(&claims[0]) {
-            Test::Met => Ok(0),
-            Test::Lacks(item) => match self.first_met(&claims[1..]) {
-                Some(after) => Ok(1 + after),
-                None => Err(Reason::Lacks(item)),
-            },
-        }
+        self.first_met(claims).map_err(Why::Lacking)
     }
 
-    /// Whether one of the blocked processes `ahead` bars these claims.
+    /// The branch that a WHILE or one in a walk takes; nobody is told why it takes none. So barring is looked at last, as
+    /// it costs more and most who are blocked can't be met.
+    fn branch_to_take(&self, model: &Model, claims: &[Claim], ahead: &[usize]) -> Option<usize> {
+        let branch = self.first_met(claims).ok()?;
+        (!self.is_barred(model, claims, ahead)).then_some(branch)
+    }
+
+    /// The first branch that can be met, or the first lacking item of the first branch.
+    fn first_met(&self, claims: &[Claim]) -> Result<usize, usize> {
+        let lacking = match self.test(&claims[0]) {
+            Tested::Met => return Ok(0),
+            Tested::Lacking(item) => item,
+        };
+        (1..claims.len())
+            .find(|branch| matches!(self.test(&claims[*branch]), Tested::Met))
+            .ok_or(lacking)
+    }
+
+    /// Whether one of the blocked processes `ahead` bars every branch.
     fn is_barred(&self, model: &Model, claims: &[Claim], ahead: &[usize]) -> bool {
         ahead.iter().any(|blocked| {
             let action = self
@@ -496,18 +528,10 @@ impl State {
         })
     }
 
-    fn first_met(&self, claims: &[Claim]) -> Option<usize> {
-        claims
-            .iter()
-            .position(|claim| self.test(claim) == Test::Met)
-    }
-
-    /// In line, as a walk asks it of the branches of all who are blocked.
-    #[inline]
-    pub fn test(&self, claim: &Claim) -> Test {
+    pub fn test(&self, claim: &Claim) -> Tested {
         match claim.iter().position(|item| !self.is_met(item)) {
-            None => Test::Met,
-            Some(before) => Test::Lacks(1 + before),
+            None => Tested::Met,
+            Some(item) => Tested::Lacking(item),
         }
     }
 

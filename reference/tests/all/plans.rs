@@ -264,62 +264,6 @@ fn the_10_000th_draws() {
 }
 
 #[test]
-fn the_first_item_that_is_lacking_conditions_counted() {
-    let (is_5, is_not_5) = (condition(3, 0, 5), condition(4, 0, 5));
-    let (first, second) = (
-        [get_b(0, 1), get_s(0, 1)],
-        [get_r(0, 1), is_not_5, get_b(0, 1)],
-    );
-    let (third, fourth) = (
-        [get_r(0, 1), is_5, get_s(0, 1)],
-        [is_5, get_r(0, 1), get_r(1, 1), get_b(0, 1)],
-    );
-    prints(
-        &processes(
-            &[res(1), res(1), bin(0), sync(), var(5)],
-            &[
-                (0, &[req(&first)]),
-                (1, &[req(&second)]),
-                (2, &[req(&third)]),
-                (3, &[req(&fourth)]),
-            ],
-        ),
-        &["0 1 3 1", "1 2 3 2", "2 3 3 3", "3 4 3 4", "idle 4 bound 8"],
-    );
-}
-
-#[test]
-fn barred_or_what_the_first_branch_lacks() {
-    let branches: [(u16, &[Item]); 2] = [(6, &[get_r(0, 1), get_b(0, 1)]), (6, &[get_b(0, 1)])];
-    let bytes = processes(
-        &[res(1), res(1), bin(0), var(5)],
-        &[
-            (0, &[req(&[get_r(0, 2), get_r(1, 1)])]),
-            (1, &[req(&[get_r(1, 1)])]),
-            (2, &[req(&[condition(4, 0, 5), get_r(0, 1)])]),
-            (3, &[try_branches(&branches)]),
-            (
-                4,
-                &[while_met(6, &[get_r(1, 1)]), while_met(6, &[get_b(0, 1)])],
-            ),
-            (5, &[set(0, &lit(5))]),
-        ],
-    );
-    prints(
-        &[bytes, block()].concat(),
-        &[
-            "0 1 3 1",
-            "1 2 3 -1",
-            "2 3 3 -1",
-            "3 4 3 2",
-            "4 5 2 0",
-            "5 6 2 0",
-            "idle 9 bound none",
-        ],
-    );
-}
-
-#[test]
 fn closed_and_over_and_none() {
     prints(
         &one_process(&[], &[&[close(), hold(&lit(1))]]),

@@ -2,10 +2,11 @@
 
 use crate::build::*;
 use reference::bound::Bound;
-use reference::journal::{BLOCKED, LINE_BYTES};
-use reference::model::{decode, Action, Model};
+use reference::journal::{Line, LINE_BYTES};
+use reference::model::{self, decode, Action, Claim, Model};
 use reference::run::{Answer, Entered, Returned, State, JOURNAL, PLACES};
 use reference::sampler::MOST_SEED;
+use std::collections::BTreeSet;
 
 /// A plain xorshift generator, so that every test run sees the same models.
 struct Random(u64);
@@ -38,7 +39,7 @@ impl Random {
 
     fn claim(&mut self) -> Vec<Item> {
         let mut items: Vec<Item> = Vec::new();
-        for _ in 0..self.below(5) {
+        for _ in 0..self.below(4) {
             let amount = 1 + self.below(2) as i32;
             let item = match self.below(6) {
                 0 => condition(1 + self.below(6) as u8, self.word(2), self.below(3) as i32),
@@ -129,6 +130,52 @@ impl Random {
         }
         model(&records)
     }
+
+    /// Up to four items, the first of a bin, the others of bins or conditions.
+    fn claim_of_bins(&mut self) -> Vec<Item> {
+        let mut items = vec![get_b(self.word(4), 1 + self.below(2) as i32)];
+        for _ in 0..self.below(4) {
+            let item = match self.below(3) {
+                0 => condition(1 + self.below(6) as u8, self.word(2), self.below(2) as i32),
+                _ => get_b(self.word(4), 1),
+            };
+            if item.0 == 3
+                || items
+                    .iter()
+                    .all(|other| (other.0, other.2) != (item.0, item.2))
+            {
+                items.push(item);
+            }
+        }
+        items
+    }
+
+    /// Many who claim of few bins, with waits of every kind among them.
+    fn crowd(&mut self) -> Vec<u8> {
+        let many = 12;
+        let bodies: Vec<Vec<Vec<u8>>> = (0..many)
+            .map(|_| {
+                let branches = [self.claim_of_bins(), self.claim_of_bins()];
+                let [first, second] = branches.each_ref().map(|claim| (many, &claim[..]));
+                vec![
+                    prio(&lit(self.below(3) as i32)),
+                    set(self.word(2), &lit(self.below(2) as i32)),
+                    putb(self.word(4), 1),
+                    hold(&lit(self.below(3) as i32)),
+                    req(&self.claim_of_bins()),
+                    putb(self.word(4), 2),
+                    while_met(many, &self.claim_of_bins()),
+                    try_branches(&[first, second]),
+                ]
+            })
+            .collect();
+        let bodies: Vec<(u32, &[Vec<u8>])> = bodies
+            .iter()
+            .map(|body| (self.below(4), &body[..]))
+            .collect();
+        let declarations = [bin(1), bin(1), bin(0), bin(0), var(0), var(1)];
+        [processes(&declarations, &bodies), block()].concat()
+    }
 }
 
 /// What an open run must be when it is sound, as far as the state's form does not already see to it.
@@ -212,12 +259,85 @@ fn is_sound(model: &Model, state: &State) {
     assert_eq!(listed, all);
 }
 
+/// What the line of the one who joined the blocked list at `at` must say, from the state after its step. Written with
+/// sets, so that the program is not its own witness.
+fn why_blocked(model: &Model, state: &State, at: usize) -> i32 {
+    let claims = |at: usize| -> &[Claim] {
+        let process = state.places[state.blocked_list[at]].as_ref();
+        let innermost = process.and_then(|process| process.blocks.last());
+        let innermost = innermost.expect("a blocked process lives, in a block");
+        model.blocks[usize::from(innermost.block)][innermost.place].claims()
+    };
+    let names = |claim: &Claim| -> BTreeSet<(u8, u16)> {
+        let named = claim.iter().filter(|item| item.kind != model::CONDITION);
+        named.map(|item| (item.kind, item.number)).collect()
+    };
+    let is_part = |part: BTreeSet<_>, whole: BTreeSet<_>| {
+        !part.is_empty() && part.is_subset(&whole) && part.len() < whole.len()
+    };
+    let own = claims(at);
+    let bars = |ahead: usize| {
+        own.iter().all(|claim| {
+            let mut others = claims(ahead).iter();
+            others.any(|other| is_part(names(claim), names(other)))
+        })
+    };
+    if (0..at).any(bars) {
+        return -1;
+    }
+    let lacking = own.iter().map(|claim| first_lacking(state, claim));
+    let lacking: Option<Vec<i32>> = lacking.collect();
+    lacking.expect("no branch is met")[0]
+}
+
+/// The first lacking item, counted from 1.
+fn first_lacking(state: &State, claim: &Claim) -> Option<i32> {
+    let lacks = |item: &model::Item| {
+        let number = usize::from(item.number);
+        let there = match item.kind {
+            model::GET_R => state.free[number] as i32,
+            model::GET_B => state.bins[number] as i32,
+            model::GET_S => state.waiting_lists[number].len() as i32,
+            _ => state.variables[number],
+        };
+        let order = there.cmp(&item.amount);
+        match item.relation {
+            1 => order.is_ge(),
+            2 => order.is_gt(),
+            3 => order.is_ne(),
+            4 => order.is_eq(),
+            // What is claimed must be there at the least, as with 5.
+            0 | 5 => order.is_lt(),
+            _ => order.is_le(),
+        }
+    };
+    (1..)
+        .zip(claim)
+        .find(|(_, item)| lacks(item))
+        .map(|(count, _)| count)
+}
+
+/// A step's blocked lines are those of who joined the blocked list, and say why; so a walk and a WHILE write none.
+fn blocked_lines_say_why(model: &Model, before: &State, after: &State, lines: &[Line]) -> Vec<i32> {
+    let joined = (0..after.blocked_list.len())
+        .filter(|at| !before.blocked_list.contains(&after.blocked_list[*at]));
+    let expected: Vec<(u32, i32)> = joined
+        .map(|at| {
+            let process = after.places[after.blocked_list[at]].as_ref();
+            let number = process.expect("a blocked process lives").number;
+            (number, why_blocked(model, after, at))
+        })
+        .collect();
+    let blocked = lines.iter().filter(|line| line.kind == 3);
+    let written: Vec<(u32, i32)> = blocked.map(|line| (line.process, line.value)).collect();
+    assert_eq!(written, expected);
+    written.into_iter().map(|(_, value)| value).collect()
+}
+
 #[test]
 fn runs_are_sound_keep_their_bound_and_may_be_cut_anywhere() {
     let mut random = Random(88_172_645_463_325_252);
     let mut answers = [0; 4];
-    // Those barred, and by the item that is lacking.
-    let mut waits = [0; 5];
     for _ in 0..1_000 {
         let bytes = random.model();
         let model = decode(&bytes).expect("the generator makes sound models");
@@ -240,14 +360,8 @@ fn runs_are_sound_keep_their_bound_and_may_be_cut_anywhere() {
         let mut journal = Vec::new();
         for _ in 0..long.steps {
             let (after, lines) = state.step(&model).expect("the long call made this step");
-            for line in lines.iter().filter(|line| line.kind == BLOCKED) {
-                waits[match line.value {
-                    -1 => 0,
-                    item @ 1..=4 => item as usize,
-                    other => panic!("a line of kind 3 with value {other}"),
-                }] += 1;
-            }
             journal.extend(lines.iter().flat_map(|line| line.bytes()));
+            blocked_lines_say_why(&model, &state, &after, &lines);
             state = after;
             is_sound(&model, &state);
         }
@@ -272,7 +386,27 @@ fn runs_are_sound_keep_their_bound_and_may_be_cut_anywhere() {
         );
     }
     assert!(answers.iter().all(|count| *count > 10), "{answers:?}");
-    assert!(waits.iter().all(|count| *count > 0), "{waits:?}");
+}
+
+#[test]
+fn a_crowd_is_told_why_it_waits() {
+    let mut random = Random(362_436_069_521_288_629);
+    // By value, from -1 to 4.
+    let mut reasons = [0; 6];
+    for _ in 0..500 {
+        let model = decode(&random.crowd()).expect("the generator makes sound models");
+        let mut state = State::fresh(&model);
+        while state.floor.is_some() || !state.event_list.is_empty() {
+            let (after, lines) = state.step(&model).expect("bins alone give no fault");
+            for value in blocked_lines_say_why(&model, &state, &after, &lines) {
+                reasons[(value + 1) as usize] += 1;
+            }
+            state = after;
+        }
+    }
+    assert_eq!(reasons[1], 0);
+    let met = reasons.iter().filter(|count| **count > 10).count();
+    assert_eq!(met, 5, "{reasons:?}");
 }
 
 #[test]
