@@ -228,8 +228,8 @@ pub mod limit {
     pub const OVER: u64 = 4294967296;
 }
 
-// Codes of numbers of the i32 range, v + 2^31: of 0, of the lowest priority of a process, of the priority of returns; and the
-// highest.
+// Codes of numbers of the i32 range, v + 2^31: of 0 and of -1, of the lowest priority of a process, of the priority of returns;
+// and the highest.
 pub mod code {
     pub const ZERO: u32 = 2147483648;
 
