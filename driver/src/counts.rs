@@ -177,7 +177,8 @@ impl Counts {
         for line in lines(journal) {
             self.add(LINES, usize::from(line.kind));
             if line.kind == BLOCKED {
-                self.add(WAITS, usize::try_from(line.value).unwrap_or(0));
+                let said = [-1, 1, 2, 3, 4].map(|value| line.value == value);
+                self.add_each(WAITS, 0, &said);
             }
         }
     }

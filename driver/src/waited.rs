@@ -21,9 +21,10 @@ impl Counts {
         let Some(blocked) = lines(journal).find(|line| line.kind == BLOCKED) else {
             return;
         };
-        let Ok(lacking @ 1..) = usize::try_from(blocked.value) else {
+        if blocked.value == -1 {
             return self.add_each(WAITED, 0, &[some_met, !some_met]);
-        };
+        }
+        let lacking = usize::try_from(blocked.value).expect("-1 or an item");
         let is_condition = |item: &Item| item.kind == CONDITION;
         let (before, from) = action.claims()[0].split_at(lacking - 1);
         let so = [is_condition(&from[0]), before.iter().any(is_condition), tests.first() != tests.last()];
