@@ -1,4 +1,5 @@
-// Whether one action's branches bar another's, by bits: the map has three words of each branch for the things that it names.
+// Whether one action's branches bar another's. The map has three words of each branch for the things that it names: these bits
+// decide, and amounts are looked at only where two branches name the same things.
 use base_numbers::map;
 ghost use mathlib.Core.Path.{_≡_};
 ghost use Prim.Native.Nat.{_≤_, _<_};
@@ -42,45 +43,50 @@ fn within(x: Named, y: Named) -> bool
         & ((x.bins & y.bins == x.bins) & (x.syncs & y.syncs == x.syncs))
 }
 
-// Whether x is a non-empty, strict part of what branch n names.
-fn strict_part(map: &[u32], x: Named, n: usize) -> bool
-    requires { ⌜ (length (now map) ≡ Map.WORDS) × (n < Limit.BRANCHES) ⌝ }
-    ensures { λ r. ⌜ r ≡ strictlyWithin x (namedAt (now (map .entry)) n) ⌝ }
-{
-    let y = named_at(map, n);
-    !names_nothing(x) & (within(x, y) & !within(y, x))
-}
-
-// Whether branch n names such a part of what one of the branches from `from` to before `to` names.
-fn covered(map: &[u32], from: usize, to: usize, n: usize) -> bool
-    requires { ⌜ (length (now map) ≡ Map.WORDS) × ((to ≤ Limit.BRANCHES) × (n < Limit.BRANCHES)) ⌝ }
-    ensures { λ r. ⌜ r ≡ any (strictlyWithin (namedAt (now (map .entry)) n)) (branchesTo (now (map .entry)) from to) ⌝ }
+// Whether branch m covers branch n: the bits decide, and where both name the same things, the amounts do.
+fn covers<'a>(s: &'a [u8], map: &'a [u32], m: usize, n: usize) -> bool
+    requires { ⌜ (length (now map) ≡ Map.WORDS) × (ClaimThere (now s) (now map) m × ClaimThere (now s) (now map) n) ⌝ }
+    ensures { λ r. ⌜ r ≡ coversAt (now (s .entry)) (now (map .entry)) m n ⌝ }
 {
     let x = named_at(map, n);
-    let mut y = from;
-    while y < to {
-        if strict_part(map, x, y) {
+    let y = named_at(map, m);
+    let part = within(x, y);
+    let whole = within(y, x);
+    if part & whole {
+        let of = file_map::claim_at(map, n);
+        let by = file_map::claim_at(map, m);
+        return file_claim::smaller_amounts(s, of, by);
+    }
+    !names_nothing(x) & part
+}
+
+// Whether one of the branches from `from` to before `to` covers branch n.
+fn covered<'a>(s: &'a [u8], map: &'a [u32], from: usize, to: usize, n: usize) -> bool
+{
+    let mut m = from;
+    while m < to {
+        if covers(s, map, m, n) {
             return true;
         }
-        y += 1;
+        m += 1;
     }
     false
 }
 
 // Whether action b bars action q.
-pub fn bars(map: &[u32], b: usize, q: usize) -> bool
-    requires { ⌜ Barring (now map) b q ⌝ }
-    ensures { λ r. ⌜ ((v : Barring (now (map .entry)) b q) → r ≡ bars (v .by) (v .of)) ⌝ }
+pub fn bars<'a>(s: &'a [u8], map: &'a [u32], b: usize, q: usize) -> bool
+    requires { ⌜ Barring (now s) (now map) b q ⌝ }
+    ensures { λ r. ⌜ ((v : Barring (now (s .entry)) (now (map .entry)) b q) → r ≡ bars (v .by) (v .of)) ⌝ }
 {
     let from = file_map::branches_from(map, b);
     let to = file_map::branches_from(map, b + 1);
     let end = file_map::branches_from(map, q + 1);
-    let mut x = file_map::branches_from(map, q);
-    while x < end {
-        if !covered(map, from, to, x) {
+    let mut n = file_map::branches_from(map, q);
+    while n < end {
+        if !covered(s, map, from, to, n) {
             return false;
         }
-        x += 1;
+        n += 1;
     }
     true
 }

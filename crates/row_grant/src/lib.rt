@@ -123,25 +123,25 @@ pub fn action_at<'a>(map: &'a [u32], w: &'a [u64], p: usize) -> usize
 }
 
 // Whether the i-th of the blocked bars action a.
-fn bars_at<'a>(map: &'a [u32], w: &'a [u64], a: usize, i: usize) -> bool
+fn bars_at<'a>(s: &'a [u8], map: &'a [u32], w: &'a [u64], a: usize, i: usize) -> bool
     requires { ⌜ Faced (now map) (now w) a (i + 1) ⌝ }
     ensures { λ r. ⌜ ((v : Faced (now (map .entry)) (now (w .entry)) a (i + 1))
         → r ≡ bars (asks (v .1 .run .model) (v .1 .run .is) (placeAt (v .1 .run .is .blocked) i)) (offers (v .1 .asked))) ⌝ }
 {
     let place = row_lists::blocked_at(w, i);
     let by = action_at(map, w, place);
-    file_bars::bars(map, by, a)
+    file_bars::bars(s, map, by, a)
 }
 
 // Whether one of the first k of the blocked bars it.
-fn barred<'a>(map: &'a [u32], w: &'a [u64], a: usize, k: usize) -> bool
+fn barred<'a>(s: &'a [u8], map: &'a [u32], w: &'a [u64], a: usize, k: usize) -> bool
     requires { ⌜ Faced (now map) (now w) a k ⌝ }
     ensures { λ r. ⌜ ((v : Faced (now (map .entry)) (now (w .entry)) a k)
         → r ≡ barred (v .1 .run .model) (v .1 .run .is) (take k (v .1 .run .is .blocked)) (offers (v .1 .asked))) ⌝ }
 {
     let mut i = 0;
     while i < k {
-        if bars_at(map, w, a, i) {
+        if bars_at(s, map, w, a, i) {
             return true;
         }
         i += 1;
@@ -157,7 +157,7 @@ pub fn choice<'a>(s: &'a [u8], map: &'a [u32], w: &'a [u64], a: usize, k: usize)
     ensures { λ r. ⌜ ((v : Facing (now (s .entry)) (now (map .entry)) (now (w .entry)) a k)
         → r ≡ choiceIn (choice (v .run .model) (v .run .is) (take k (v .run .is .blocked)) (offers (v .asked)))) ⌝ }
 {
-    if barred(map, w, a, k) {
+    if barred(s, map, w, a, k) {
         return Choice::Waits(Reason::Barred);
     }
     row_claim::first_met(s, map, w, a)
@@ -173,7 +173,7 @@ pub fn branch<'a>(s: &'a [u8], map: &'a [u32], w: &'a [u64], a: usize, k: usize)
     let Choice::Goes(n) = first else {
         return Branch::Stays;
     };
-    if barred(map, w, a, k) {
+    if barred(s, map, w, a, k) {
         return Branch::Stays;
     }
     Branch::Goes(n)

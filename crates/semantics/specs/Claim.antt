@@ -1,15 +1,15 @@
 -- When a claim is met, what taking it does, who is barred, and which branch is taken or why none is (document 01, "One step", as
--- document 02's request Two amends it).
+-- document 02's requests Two and Three amend it).
 -- Assumes nothing.
 use Prim.Native.Nat.{ℕ, suc}
 use mathlib.Core.List.{List, [], _∷_, _++_, map}
-use mathlib.Core.Bool.{Bool, true, false, not, _&&_}
+use mathlib.Core.Bool.{Bool, true, false, not, _&&_, _||_}
 use mathlib.Core.Option.{Option, none, some}
-use lib.Dec.{eqb, leb}
+use lib.Dec.{eqb, leb, ltb}
 use lib.ListN.{length, getD, set, take, drop, getElem?}
 use lib.IntN.{ℤ, pos}
 use lib.Signed.{ltZ, leZ}
-use Rattle.semantics.specs.Words.{all, any, isEmpty, more, fewer}
+use Rattle.semantics.specs.Words.{if_then_else_, all, any, isEmpty, more, fewer}
 use Rattle.semantics.specs.Numbers as No
 use Rattle.semantics.specs.Model.{Kind, resource, bin, sync, Relation, below, atMost, equals, differs, atLeast, above}
 use Rattle.semantics.specs.Model.{Item, get, condition, Claim, Action, HOLD, PRIO, TRACE, SET, LSET, DO, PUTR, PUTB, PUTS}
@@ -106,7 +106,7 @@ offersAt (some a) = offers a
 abbrev pub asks : Model → State → ℕ → List Offer
 asks m s p = offersAt (standsIn m (process s p .frames))
 
--- BARRED (000 section 9.4). A name is the item's kind with its number; conditions are dropped; amounts don't matter.
+-- BARRED (000 section 9.4). A name is the item's kind with its number; conditions are dropped.
 pub record Name : Type 0 where
   pub kind : Kind
   pub number : ℕ
@@ -134,9 +134,29 @@ sameName x y = sameKind (x .kind) (y .kind) && eqb (x .number) (y .number)
 abbrev pub strictPart : List Name → List Name → Bool
 strictPart xs ys = not (isEmpty xs) && (all (λ x. any (sameName x) ys) xs && not (all (λ y. any (sameName y) xs) ys))
 
--- B bars Q if every branch of Q names a non-empty, strict part of what some branch of B names.
+abbrev pub sameNames : List Name → List Name → Bool
+sameNames xs ys = all (λ x. any (sameName x) ys) xs && all (λ y. any (sameName y) xs) ys
+
+-- How much a claim has of a thing: it names none twice (check 7).
+abbrev pub amountOf : Claim → Name → ℕ
+amountOf [] x = 0
+amountOf (get k i n ∷ is) x = if sameName x (record { kind = k; number = i }) then n else amountOf is x
+amountOf (condition i r v ∷ is) x = amountOf is x
+
+-- No amount of c's is larger than d's, and at least one is smaller; so c names something.
+abbrev pub smallerAmounts : Claim → Claim → Bool
+smallerAmounts c d =
+    all (λ x. leb (amountOf c x) (amountOf d x)) (namesOf c) && any (λ x. ltb (amountOf c x) (amountOf d x)) (namesOf c)
+
+-- A branch of B covers a branch of Q if Q's names a non-empty, strict part of what that one names, whatever the amounts;
+-- or if both name the same things, and it has smaller amounts of them (document 02, Three).
+abbrev pub covers : Claim → Claim → Bool
+covers d c =
+    strictPart (namesOf c) (namesOf d) || (sameNames (namesOf c) (namesOf d) && smallerAmounts c d)
+
+-- B bars Q if every branch of Q is covered by some branch of B.
 abbrev pub covered : List Offer → Offer → Bool
-covered b x = any (λ y. strictPart (namesOf (x .claim)) (namesOf (y .claim))) b
+covered b x = any (λ y. covers (y .claim) (x .claim)) b
 
 abbrev pub bars : List Offer → List Offer → Bool
 bars b q = all (covered b) q
