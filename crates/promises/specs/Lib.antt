@@ -10,6 +10,7 @@ pub mod Accepted
 pub mod Keep
 pub mod Moves
 pub mod Parts
+pub mod Covers
 pub mod Takes
 pub mod Stays
 pub mod FreshSound

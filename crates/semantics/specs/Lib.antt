@@ -20,3 +20,4 @@ pub mod Plan
 pub mod Plans
 pub mod Sampled
 pub mod Waited
+pub mod Barred

@@ -13,26 +13,26 @@ use Rattle.semantics.specs.Plan.{PrintedLine, refusedAt, ran, planFor}
 use Rattle.semantics.specs.Plans.{rec, RES, CLASS, BLOCK, ENTITY}
 
 -- Items, written: an amount of a resource, of a bin, of the slaves of a sync; and that global 0 is a number.
-abbrev getR : ℕ → ℕ → List ℕ
+abbrev pub getR : ℕ → ℕ → List ℕ
 getR i n = 0 ∷ 0 ∷ le16 i ++ le32 n
 
-abbrev getB : ℕ → List ℕ
+abbrev pub getB : ℕ → List ℕ
 getB n = 1 ∷ 0 ∷ le16 0 ++ le32 n
 
-abbrev getS : ℕ → List ℕ
+abbrev pub getS : ℕ → List ℕ
 getS n = 2 ∷ 0 ∷ le16 0 ++ le32 n
 
-abbrev isNow : ℕ → List ℕ
+abbrev pub isNow : ℕ → List ℕ
 isNow v = 3 ∷ 3 ∷ le16 0 ++ le32 v
 
 abbrev claim : List (List ℕ) → List ℕ
 claim is = le16 (length is) ++ collect (λ i. i) is
 
 -- The actions that ask; each branch and the loop enter block 2.
-abbrev REQ : List (List ℕ) → List ℕ
+abbrev pub REQ : List (List ℕ) → List ℕ
 REQ is = rec K.REQ (claim is)
 
-abbrev TRY : List (List (List ℕ)) → List ℕ
+abbrev pub TRY : List (List (List ℕ)) → List ℕ
 TRY cs = rec K.TRY (le16 (length cs) ++ collect (λ is. le16 2 ++ claim is) cs)
 
 abbrev WHILE : List (List ℕ) → List ℕ
