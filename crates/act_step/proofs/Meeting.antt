@@ -10,7 +10,7 @@ use Rattle.semantics.specs.Words.{Outcome}
 use Rattle.semantics.specs.Model.{Expr, Action, HOLD, PRIO, TRACE, SET, LSET, DO, PUTR, PUTB, PUTS, BECOME, REQ, TRY, WHILE}
 use Rattle.semantics.specs.Model.{START, CLOSE, kindOf, Model}
 use Rattle.semantics.specs.Bytes.{u16, u32}
-use Rattle.semantics.specs.State.{State, process}
+use Rattle.semantics.specs.State.{State}
 use Rattle.semantics.specs.Walk.{Next}
 use Rattle.semantics.specs.Step.{act}
 use Rattle.file_index.specs.Ties.{bodyAt}

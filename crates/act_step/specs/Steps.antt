@@ -9,7 +9,7 @@ use lib.ListN.{getD, getElem?}
 use lib.IntN.{ℤ}
 use Rattle.semantics.specs.Words.{Outcome}
 use Rattle.semantics.specs.Model.{Action, block}
-use Rattle.semantics.specs.State.{Notice, empty, heldBy, process, with-floor}
+use Rattle.semantics.specs.State.{Notice, empty, heldBy, with-floor}
 use Rattle.semantics.specs.Walk.{Next}
 use Rattle.semantics.specs.Step.{act}
 use Rattle.promises.specs.Sound.{noticed, gives, NoticeOk, Held, Sound}

@@ -6,7 +6,7 @@ use mathlib.Core.Bool.{Bool, true, false, _&&_, _||_, and-assoc}
 use lib.Dec.{eqb}
 use Rattle.semantics.specs.Words.{if_then_else_, all, any, isEmpty}
 use Rattle.semantics.specs.Model.{Kind, resource, bin, sync, get, condition, Claim}
-use Rattle.semantics.specs.Claim.{Name, namesOf, sameKind, sameName, strictPart}
+use Rattle.semantics.specs.Claim.{Name, namesOf, sameKind, sameName, strictPart, sameNames}
 use Rattle.file_map.specs.Map.{maskOf}
 use Rattle.file_bars.specs.Bits.{bitsIn, namesNothing, within, strictlyWithin, namedBy}
 use Rattle.file_bars.proofs.Digits.{and-swap, or-in, bit-in-none, bit-in-bit, bit-in-or, in-none}
@@ -54,3 +54,7 @@ none-named c =
 
 pub strict-named : (c d : Claim) → strictlyWithin (namedBy c) (namedBy d) ≡ strictPart (namesOf c) (namesOf d)
 strict-named c d = rw (none-named c, all-named c d, all-named d c)
+
+pub same-named : (c d : Claim)
+    → within (namedBy c) (namedBy d) && within (namedBy d) (namedBy c) ≡ sameNames (namesOf c) (namesOf d)
+same-named c d = rw (all-named c d, all-named d c)

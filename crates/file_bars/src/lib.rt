@@ -2,14 +2,14 @@
 // decide, and amounts are looked at only where two branches name the same things.
 use base_numbers::map;
 ghost use mathlib.Core.Path.{_≡_};
-ghost use Prim.Native.Nat.{_≤_, _<_};
+ghost use Prim.Native.Nat.{_<_};
 ghost use lib.ListN.{length};
 ghost use Rattle.semantics.specs.Words.{any};
 ghost use Rattle.semantics.specs.Claim.{bars};
 ghost use Rattle.base_numbers.specs.Limit as Limit;
 ghost use Rattle.base_numbers.specs.Map as Map;
-ghost use Rattle.file_bars.specs.Barring.{Barring};
-ghost use Rattle.file_bars.specs.Bits.{namesNothing, within, strictlyWithin, namedAt, branchesTo};
+ghost use Rattle.file_bars.specs.Barring.{There, AllThere, Barring};
+ghost use Rattle.file_bars.specs.Bits.{namesNothing, within, namedAt, coversAt, numbersTo};
 
 // What a branch names: bit i of a word is set if it names the i-th thing of that kind.
 struct Named {
@@ -45,7 +45,7 @@ fn within(x: Named, y: Named) -> bool
 
 // Whether branch m covers branch n: the bits decide, and where both name the same things, the amounts do.
 fn covers<'a>(s: &'a [u8], map: &'a [u32], m: usize, n: usize) -> bool
-    requires { ⌜ (length (now map) ≡ Map.WORDS) × (ClaimThere (now s) (now map) m × ClaimThere (now s) (now map) n) ⌝ }
+    requires { ⌜ (length (now map) ≡ Map.WORDS) × (There (now s) (now map) m × There (now s) (now map) n) ⌝ }
     ensures { λ r. ⌜ r ≡ coversAt (now (s .entry)) (now (map .entry)) m n ⌝ }
 {
     let x = named_at(map, n);
@@ -62,6 +62,8 @@ fn covers<'a>(s: &'a [u8], map: &'a [u32], m: usize, n: usize) -> bool
 
 // Whether one of the branches from `from` to before `to` covers branch n.
 fn covered<'a>(s: &'a [u8], map: &'a [u32], from: usize, to: usize, n: usize) -> bool
+    requires { ⌜ (length (now map) ≡ Map.WORDS) × (AllThere (now s) (now map) from to × There (now s) (now map) n) ⌝ }
+    ensures { λ r. ⌜ r ≡ any (λ m. coversAt (now (s .entry)) (now (map .entry)) m n) (numbersTo from to) ⌝ }
 {
     let mut m = from;
     while m < to {

@@ -9,11 +9,11 @@ use lib.Dec.{ltb}
 use borrow.Author.Tests.{ltb-true}
 use lib.ListN.{length, getD, set, length-map}
 use lib.IntN.{ℤ, pos}
-use Rattle.semantics.specs.Words.{Outcome, ok, isEmpty, more}
+use Rattle.semantics.specs.Words.{Outcome, ok, more}
 use Rattle.semantics.specs.Numbers as No
 use Rattle.semantics.specs.Model.{resource, bin, sync, Item, get, condition, Claim, Share, Model, Action, HOLD, PRIO, TRACE}
 use Rattle.semantics.specs.Model.{SET, LSET, DO, PUTR, PUTB, PUTS, BECOME, REQ, TRY, WHILE, START, CLOSE, Expr}
-use Rattle.semantics.specs.State.{State, Process, Frame, Waiter, Event, Notice, wakes, returnsR, returnsB, Floor, empty, heldBy}
+use Rattle.semantics.specs.State.{State, Process, Waiter, Event, Notice, wakes, returnsR, returnsB, Floor, empty, heldBy}
 use Rattle.semantics.specs.State.{nobody, process, put, living, at-clock, with-globals, with-free, with-bins, with-waiting}
 use Rattle.semantics.specs.State.{with-floor, with-events, with-seeds, with-slaves, wake, join, past, into}
 use Rattle.semantics.specs.Value.{Valued, eval}
@@ -21,15 +21,15 @@ use Rattle.semantics.specs.Claim.{Test, met, lacks, test, takeItem, takeAll, Th
 use Rattle.semantics.specs.Claim.{isBarred, Choice, waits, goes, orLacks, firstMet, choice, reasonSaid, follow, grant}
 use Rattle.semantics.specs.Walk.{Line, Next, line, quiet, after, walkOn, walk}
 use Rattle.semantics.specs.Step as Step
-use Rattle.semantics.specs.Step.{freed, stay, freeAll, ends, exhausted, hold, prio, setGlobal, setLocal, doTimes, notify, putr}
+use Rattle.semantics.specs.Step.{freed, stay, freeAll, ends, hold, prio, setGlobal, setLocal, doTimes, notify, putr}
 use Rattle.semantics.specs.Step.{putb, become, puts, start, request, while, trace, close, act, moves, occurs, next, step}
 use Rattle.semantics.specs.Run.{Room, run}
-use Rattle.promises.specs.Laws.{and-true, if-has, Good, good, stopped, good-bind, good-then, good-need, good-out, AllOf, all-map}
+use Rattle.promises.specs.Laws.{and-true, Good, good, stopped, good-bind, good-then, good-need, good-out, AllOf, all-map}
 use Rattle.promises.specs.Laws.{all-set, all-get, all-append}
 use Rattle.promises.specs.Fit.{I32, ActFit, Fit}
 use Rattle.promises.specs.Sound.{ProcOk, ReturnOk, NoticeOk, EventOk, SeedsOk, Sound}
 use Rattle.promises.specs.Keep.{free-or-fine}
-use Rattle.promises.specs.Parts.{ValuedOk, eval-good, fit-at, moves-has}
+use Rattle.promises.specs.Parts.{ValuedOk, eval-good, fit-at, moves-has, exhausted-has}
 use Rattle.promises.specs.Takes.{still-grant, not-goes, or-goes, asks-at, choice-has}
 use Rattle.promises.specs.Stays.{step-ok}
 use Rattle.promises.specs.Answers.{run-keeps}
@@ -293,18 +293,14 @@ module _ (m : Model) (t : Fit m) (s : State) (h : SmallIn m s) (p : ℕ) where
   act-writes (START c d hs) k = start-writes c d hs (k .0)
   act-writes CLOSE k = one-line (own No.closed (pos 0) (omega arith) (omega arith))
 
-  exhausted-writes : (fs : List Frame) → Writes (exhausted m s p fs)
-  unfolding exhausted ends
-  exhausted-writes [] = stopped
-  exhausted-writes (f ∷ fs) =
-      if-has Writes (ltb 1 (f .rounds)) (λ e. good tt)
-      (λ e.
-      if-has Writes (isEmpty fs) (λ g. good-need _ _ λ a. one-line (own No.ended (pos 0) (omega arith) (omega arith)))
-      (λ g. good tt))
+  ends-writes : Writes (ends m s p)
+  unfolding ends
+  ends-writes = good-need _ _ λ a. one-line (own No.ended (pos 0) (omega arith) (omega arith))
 
   moves-writes : Writes (moves m s p)
   moves-writes =
-      moves-has Writes m s p (λ e. exhausted-writes (q .frames)) (λ a e. act-writes a (fit-at m t (q .frames) a e))
+      moves-has Writes m s p (λ e. exhausted-has Writes m s p stopped (λ u. good tt) ends-writes (q .frames))
+      (λ a e. act-writes a (fit-at m t (q .frames) a e))
 
 -- ONE STEP, and a run.
 module _ (m : Model) (t : Fit m) where

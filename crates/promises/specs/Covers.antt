@@ -4,14 +4,14 @@ use Prim.Native.Nat.{ℕ, suc, _≤_}
 use native.Mathlib.Omega.{arith}
 use mathlib.Core.Path.{_≡_, refl, sym, subst, _∙_, ap}
 use mathlib.Core.List.{List, [], _∷_}
-use mathlib.Core.Bool.{Bool, true, false, not, _&&_, _||_}
+use mathlib.Core.Bool.{Bool, true, false, not, _||_}
 use borrow.Author.Tests.{leb-true, eqb-true, eq-eqb, ltb-true, lt-ltb, le-leb}
 use mathlib.Core.Option.{some}
-use lib.Dec.{eqb, leb, ltb}
+use lib.Dec.{leb, ltb}
 use lib.ListN.{getElem?}
 use Rattle.semantics.specs.Words.{all, any, isEmpty}
 use Rattle.semantics.specs.Model.{Kind, resource, bin, sync, Claim}
-use Rattle.semantics.specs.Claim.{Offer, Name, namesOf, sameKind, sameName, strictPart, sameNames, amountOf, smallerAmounts, covers}
+use Rattle.semantics.specs.Claim.{Offer, Name, namesOf, sameKind, sameName, strictPart, sameNames, amountOf, covers}
 use Rattle.semantics.specs.Claim.{covered, bars}
 use Rattle.promises.specs.Laws.{no-way, and-true, true-and, or-true, or-left, or-right, not-true, not-false, AllOf, all-map}
 use Rattle.promises.specs.Laws.{all-at, all-hold, any-has}

@@ -6,23 +6,23 @@ use native.Mathlib.Nat.{le-of-lt}
 use mathlib.Core.Path.{_≡_, refl, ap}
 use mathlib.Core.List.{List, [], _∷_, _++_}
 use mathlib.Core.Bool.{Bool, true, false}
-use lib.Dec.{eqb, ltb}
+use lib.Dec.{eqb}
 use lib.ListN.{length}
-use Rattle.semantics.specs.Words.{Outcome, ok, isEmpty}
+use Rattle.semantics.specs.Words.{Outcome, ok}
 use Rattle.semantics.specs.Numbers as No
 use Rattle.semantics.specs.Model.{Model, Action, HOLD, PRIO, TRACE, SET, LSET, DO, PUTR, PUTB, PUTS, BECOME, REQ, TRY, WHILE}
 use Rattle.semantics.specs.Model.{START, CLOSE}
-use Rattle.semantics.specs.State.{State, Process, Frame, Slave, Waiter, Event, Notice, wakes, returnsR, returnsB, Floor}
+use Rattle.semantics.specs.State.{State, Process, Slave, Waiter, Event, Notice, wakes, returnsR, returnsB, Floor}
 use Rattle.semantics.specs.State.{empty, heldBy, nobody, process, with-floor, with-events, at-clock, wake}
 use Rattle.semantics.specs.Value.{eval}
 use Rattle.semantics.specs.Claim.{offers, Choice, asks, choice, grant}
 use Rattle.semantics.specs.Walk.{Next, walkOn, walk}
 use Rattle.semantics.specs.Step as Step
-use Rattle.semantics.specs.Step.{freed, freeAll, ends, exhausted, hold, prio, setGlobal, setLocal, doTimes, notify, putr, putb}
+use Rattle.semantics.specs.Step.{freed, freeAll, ends, hold, prio, setGlobal, setLocal, doTimes, notify, putr, putb}
 use Rattle.semantics.specs.Step.{become, puts, start, request, while, trace, close, act, moves, occurs, next, step}
-use Rattle.promises.specs.Laws.{if-has, Good, good, stopped, good-bind, good-need, good-out, AllOf, all-get, over}
+use Rattle.promises.specs.Laws.{Good, good, stopped, good-bind, good-need, good-out, AllOf, all-get, over}
 use Rattle.promises.specs.Sound.{Sound}
-use Rattle.promises.specs.Parts.{moves-has}
+use Rattle.promises.specs.Parts.{moves-has, exhausted-has}
 use Rattle.promises.specs.Takes.{choice-has}
 use Rattle.promises.specs.Capacity.{lists-fit}
 
@@ -109,15 +109,14 @@ module _ (m : Model) (s : State) (h : Listed s) (p : ℕ) where
   act-lines (START c t g) = good-need _ _ λ a. good-need _ _ λ b. good-need _ _ λ d. good (omega arith)
   act-lines CLOSE = good one-written
 
-  exhausted-lines : (fs : List Frame) → FewLines (exhausted m s p fs)
-  unfolding exhausted ends
-  exhausted-lines [] = stopped
-  exhausted-lines (f ∷ fs) =
-      if-has FewLines (ltb 1 (f .rounds)) (λ e. good none-written)
-      (λ e. if-has FewLines (isEmpty fs) (λ g. good-need _ _ λ a. good (omega arith)) (λ g. good none-written))
+  ends-lines : FewLines (ends m s p)
+  unfolding ends
+  ends-lines = good-need _ _ λ a. good (omega arith)
 
   moves-lines : FewLines (moves m s p)
-  moves-lines = moves-has FewLines m s p (λ e. exhausted-lines (q .frames)) (λ a e. act-lines a)
+  moves-lines =
+      moves-has FewLines m s p (λ e. exhausted-has FewLines m s p stopped (λ t. good none-written) ends-lines (q .frames))
+      (λ a e. act-lines a)
 
 module _ (m : Model) where
   occurs-lines : (s : State) → Listed s → (n : Notice) → FewLines (occurs m s n)

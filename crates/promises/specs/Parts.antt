@@ -7,12 +7,12 @@ use mathlib.Core.Path.{_≡_, refl, _∙_}
 use mathlib.Core.List.{List, [], _∷_, map}
 use mathlib.Core.Bool.{Bool, true, false, _&&_}
 use mathlib.Core.Option.{Option, none, some}
-use lib.Dec.{eqb, leb}
+use lib.Dec.{eqb, leb, ltb}
 use borrow.Author.Tests.{ltb-true, leb-true, le-leb, eqb-true, eqb-false, eq-eqb}
 use lib.ListN.{length, getD, set, getElem?, length-set, length-replicate}
 use lib.IntN.{ℤ, pos, negsuc, negℤ, _+ℤ_, _-ℤ_, _*ℤ_}
 use lib.Signed.{mag, leZ}
-use Rattle.semantics.specs.Words.{if_then_else_, Outcome, _>>=_, any, keep, more, fewer}
+use Rattle.semantics.specs.Words.{if_then_else_, Outcome, ok, fails, _>>=_, any, keep, isEmpty, more, fewer}
 use Rattle.semantics.specs.Numbers as No
 use Rattle.semantics.specs.Numbers.{lowest}
 use Rattle.semantics.specs.Model.{Expr, literal, global, local, add, subtract, multiply, lesser, greater, negate, theClock, draw}
@@ -22,8 +22,8 @@ use Rattle.semantics.specs.State.{State, Process, Frame, Slave, Event, Notice, 
 use Rattle.semantics.specs.State.{with-priority, with-locals, with-held, with-slaves, with-frames, onward, past}
 use Rattle.semantics.specs.Value.{isI32, inRange, Valued, Drawing, plain, ofOne, ofTwo, drawFrom, eval}
 use Rattle.semantics.specs.Claim.{standsIn}
-use Rattle.semantics.specs.Walk.{Next}
-use Rattle.semantics.specs.Step.{isReturn, handed, kept, freed, stay, comesBack, leave, exhausted, act, moves}
+use Rattle.semantics.specs.Walk.{Next, quiet}
+use Rattle.semantics.specs.Step.{isReturn, handed, kept, freed, stay, comesBack, leave, ends, exhausted, act, moves}
 use Rattle.semantics.specs.Sound.{enters, entersAt, namedThere, chained}
 use Rattle.promises.specs.Laws.{and-true, true-and, or-left, or-right, if-has, not-some, Good, good, good-then, good-need}
 use Rattle.promises.specs.Laws.{AllOf, all-map, all-both, all-set, all-get, all-in, all-at, all-replicate, Ordered, some-in}
@@ -117,6 +117,14 @@ moves-has P m s p f g = go (standsIn m (process s p .frames)) refl
         → P (elim x [ none ↦ exhausted m s p (process s p .frames) | some a ↦ act m s p a ])
     go none e = f e
     go (some a) e = g a e
+
+-- The end of a block is another round of it, the process's own end, or the block left; 20 where there is none.
+pub exhausted-has : (P : Outcome Next → Type 0) (m : Model) (s : State) (p : ℕ) → P (fails No.STATE)
+    → ((t : State) → P (ok (quiet t))) → P (ends m s p) → (fs : List Frame) → P (exhausted m s p fs)
+unfolding exhausted
+exhausted-has P m s p f g h [] = f
+exhausted-has P m s p f g h (x ∷ fs) =
+    if-has P (ltb 1 (x .rounds)) (λ e. g _) (λ e. if-has P (isEmpty fs) (λ i. h) (λ i. g _))
 
 pub onward-al : (fs : List Frame) → al (onward fs) ≡ al fs
 unfolding onward

@@ -6,27 +6,27 @@ use mathlib.Core.Path.{_≡_, refl, sym, subst, ap, _∙_}
 use mathlib.Core.List.{List, [], _∷_, _++_}
 use mathlib.Core.Bool.{Bool, true, false}
 use mathlib.Core.Option.{some}
-use lib.Dec.{leb, ltb}
+use lib.Dec.{leb}
 use lib.ListN.{length, getD, set, take, getElem?}
 use lib.IntN.{ℤ, pos}
-use Rattle.semantics.specs.Words.{Outcome, ok, isEmpty, more}
+use Rattle.semantics.specs.Words.{Outcome, ok, more}
 use Rattle.semantics.specs.Numbers as No
 use Rattle.semantics.specs.Model.{Item, Claim, Branch, Model, Action, HOLD, PRIO, TRACE, SET, LSET, DO, PUTR, PUTB, PUTS, BECOME}
 use Rattle.semantics.specs.Model.{REQ, TRY, WHILE, START, CLOSE}
-use Rattle.semantics.specs.State.{State, Frame, Waiter, Event, Notice, wakes, returnsR, returnsB, Floor, empty, heldBy, process}
+use Rattle.semantics.specs.State.{State, Waiter, Event, Notice, wakes, returnsR, returnsB, Floor, empty, heldBy, process}
 use Rattle.semantics.specs.State.{put, at-clock, with-globals, with-free, with-bins, with-waiting, with-floor, with-events}
 use Rattle.semantics.specs.State.{with-seeds, wake, join, past}
 use Rattle.semantics.specs.Value.{eval}
 use Rattle.semantics.specs.Claim.{itemMet, Test, met, lacks, testFrom, test, Offer, offers, standsIn, asks, barred, Reason}
 use Rattle.semantics.specs.Claim.{isBarred, firstLacks, Choice, waits, goes, orLacks, firstMet, choice, reasonSaid, grant}
 use Rattle.semantics.specs.Walk.{Line, Next, line, quiet, after, walkOn, walk}
-use Rattle.semantics.specs.Step.{freed, freeAll, ends, exhausted, hold, prio, setGlobal, setLocal, doTimes, notify, putr, putb}
+use Rattle.semantics.specs.Step.{freed, freeAll, ends, hold, prio, setGlobal, setLocal, doTimes, notify, putr, putb}
 use Rattle.semantics.specs.Step.{become, puts, start, inFront, request, while, trace, close, act, moves, occurs, next, step}
 use Rattle.semantics.specs.Run.{Room, run}
-use Rattle.promises.specs.Laws.{no-way, if-has, Good, good, stopped, good-bind, good-need, good-map}
+use Rattle.promises.specs.Laws.{no-way, Good, good, stopped, good-bind, good-need, good-map}
 use Rattle.promises.specs.Laws.{good-out, AllOf, all-map, all-append}
 use Rattle.promises.specs.Fit.{ActFit, Fit}
-use Rattle.promises.specs.Parts.{fit-at, moves-has}
+use Rattle.promises.specs.Parts.{fit-at, moves-has, exhausted-has}
 use Rattle.promises.specs.Takes.{choice-has}
 use Rattle.promises.specs.Answers.{Made, none-made, one-made, run-made}
 
@@ -253,16 +253,13 @@ module _ (m : Model) (t : Fit m) (s : State) (p : ℕ) where
   act-says CLOSE e =
       own-says (WaitLineOf m s p) {l = line s (process s p .number) No.closed (pos 0)} (quiet _) (λ k. absurd (omega arith)) tt
 
-  exhausted-says : (fs : List Frame) → SaysWhy (exhausted m s p fs)
-  unfolding exhausted ends
-  exhausted-says [] = stopped
-  exhausted-says (f ∷ fs) =
-      if-has SaysWhy (ltb 1 (f .rounds)) (λ e. good tt)
-      (λ e.
-      if-has SaysWhy (isEmpty fs) (λ g. good-need _ _ λ a. good ((λ l. absurd (omega arith)), tt)) (λ g. good tt))
+  ends-says : SaysWhy (ends m s p)
+  unfolding ends
+  ends-says = good-need _ _ λ a. good ((λ l. absurd (omega arith)), tt)
 
   moves-says : SaysWhy (moves m s p)
-  moves-says = moves-has SaysWhy m s p (λ e. exhausted-says (process s p .frames)) act-says
+  moves-says =
+      moves-has SaysWhy m s p (λ e. exhausted-has SaysWhy m s p stopped (λ t. good tt) ends-says (process s p .frames)) act-says
 
 -- ONE STEP out of s: whoever acts in it has the floor of `floored s`, either since before or by its notice, which is the first.
 abbrev firstTakes : State → List Event → State

@@ -29,7 +29,7 @@ use Rattle.semantics.specs.Step.{while, trace, close, act, moves, occurs, next,
 use Rattle.semantics.specs.Sound.{chained, asking, asksAt}
 use Rattle.promises.specs.Laws.{and-true, true-and, if-has, Good, good, stopped, good-then, good-need, good-out, all-map}
 use Rattle.promises.specs.Laws.{all-get, all-hold, empty-is, over, over-still, once, once-self, more-at, less-at}
-use Rattle.promises.specs.Fit.{I32, ExprFit, ShareFit, ActFit, Fit}
+use Rattle.promises.specs.Fit.{ExprFit, ShareFit, ActFit, Fit}
 use Rattle.promises.specs.Sound.{al, onFloor, noticed, slaved, gives, owes, Fine, NoticeOk, Held, Sound}
 use Rattle.promises.specs.Keep.{livingIn, living-are, some-free}
 use Rattle.promises.specs.Moves.{hand-fine, recount, remove, create, is-entered, frees, bin-is, seeds-are, global-is}

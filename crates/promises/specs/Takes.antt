@@ -20,7 +20,7 @@ use Rattle.semantics.specs.Claim.{Offer, offers, standsIn, offersAt, asks, same
 use Rattle.semantics.specs.Claim.{goes, orLacks, firstMet, choice, follow, grant}
 use Rattle.semantics.specs.Walk.{Next, walkOn, walk}
 use Rattle.semantics.specs.Sound.{enters, chained}
-use Rattle.promises.specs.Laws.{true-and, or-left, or-right, AllOf, all-map, all-both, all-get, all-append, all-hold}
+use Rattle.promises.specs.Laws.{true-and, or-left, or-right, AllOf, all-map, all-both, all-get, all-append}
 use Rattle.promises.specs.Laws.{Ordered, over-append, get-still, over-map, only, once, once-self, once-apart, set-away}
 use Rattle.promises.specs.Laws.{more-at, less-at}
 use Rattle.promises.specs.Fit.{ItemFit, Apart, ClaimFit, BranchFit, ActFit, Fit}

@@ -14,7 +14,7 @@ use lib.Signed.{leZ}
 use Rattle.semantics.specs.Words.{all, any, within}
 use Rattle.semantics.specs.Numbers as No
 use Rattle.semantics.specs.Kinds as K
-use Rattle.semantics.specs.Model.{Expr, add, subtract, multiply, lesser, greater, negate, theClock, draw, resource, bin, sync}
+use Rattle.semantics.specs.Model.{Expr, resource, bin, sync}
 use Rattle.semantics.specs.Model.{Item, get, condition, Model}
 use Rattle.semantics.specs.Bytes.{u8, u16, u32, i32, signed, parts}
 use Rattle.semantics.specs.Record.{Node, leaf, unary, binary, nodeOf, onto, pile, nodes, theTree, expressionIn, Part, item}
@@ -23,7 +23,7 @@ use Rattle.semantics.specs.Record.{itemOf, claimIn, shareOf, sharesIn, branches
 use Rattle.semantics.specs.Record.{branches, listOf, claim, shares, valid, twice, inSet, Entry, RES, BIN, SYNC, VAR, CLASS}
 use Rattle.semantics.specs.Record.{BLOCK, ENTITY, SAMPLER, ACTION, Row, table, rowOf, samplerOf, samplerValid}
 use Rattle.semantics.specs.Decode.{nodeKnown, partKnown, tailKnown, fieldKnown, Gathered}
-use Rattle.promises.specs.Laws.{no-way, and-true, or-false, or-true, if-has, _&_, AllOf, all-both, all-get, all-mapped}
+use Rattle.promises.specs.Laws.{no-way, and-true, or-false, or-true, if-has, _&_, AllOf, all-both, all-mapped}
 use Rattle.promises.specs.Laws.{all-hold, none-hold, Ordered}
 use Rattle.promises.specs.Fit.{I32, Within, ExprFit, ItemFit, Apart, ClaimFit, BranchFit, ShareFit, SharesApart, ActFit}
 use Rattle.promises.specs.Fit.{EntityFit, SamplerFit}

@@ -12,9 +12,9 @@ use Rattle.semantics.specs.Claim.{itemMet, testFrom, test}
 use Rattle.promises.specs.Laws.{AllOf}
 use Rattle.promises.specs.Fit.{ItemFit}
 use Rattle.file_check_parts.proofs.Laws.{rest-of, parts-cons, parts-none}
+use Rattle.file_claim.specs.Laid.{itemsIn, claim-items}
 use Rattle.row_claim.specs.Asking.{Meeting}
 use Rattle.row_claim.specs.Items.{MeetingItem}
-use Rattle.row_claim.specs.Laid.{itemsIn, claim-items}
 use Rattle.row_claim.specs.Choices.{testIn}
 use Rattle.row_claim.specs.declared.Test.the-variants.{Met, Lacks}
 
@@ -28,7 +28,8 @@ module _ (bs : List ℕ) (at : ℕ) (w : List ℕ) (v : Meeting bs at w) where
   pub all-left : (k n : ℕ) → k ≡ 1 → n ≡ u16 bs at
       → Left (v .model) (v .is) (v .claim) k n (take (length bs - (at + 2)) (drop (at + 2) bs))
   all-left k n d e =
-      let c : itemsIn n (drop (at + 2) bs) ≡ v .claim = ap (λ k. itemsIn k (drop (at + 2) bs)) e ∙ claim-items (v .claim-at) in
+      let c : itemsIn n (drop (at + 2) bs) ≡ v .claim =
+          ap (λ k. itemsIn k (drop (at + 2) bs)) e ∙ claim-items bs at ∙ v .claim-at .claim-is in
       rw (rest-of (at + 2) bs, d)
       (record { same = ap (test (v .is)) c; fit = subst (AllOf (ItemFit (v .model))) (sym c) (v .items-fit) })
 

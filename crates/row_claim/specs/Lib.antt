@@ -1,4 +1,3 @@
 pub mod Asking
 pub mod Items
-pub mod Laid
 pub mod Choices

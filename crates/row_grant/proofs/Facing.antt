@@ -25,7 +25,7 @@ use Rattle.row_claim.specs.declared.Reason.the-variants.{Barred}
 use Rattle.row_claim.specs.declared.Choice.{Choice as Answer}
 use Rattle.row_claim.specs.declared.Choice.the-variants.{Waits, Goes}
 use Rattle.row_claim.specs.declared.Branch.the-variants.{Stays, Goes as TakesBranch}
-use Rattle.row_grant.specs.Grant.{Facing, Faced}
+use Rattle.row_grant.specs.Grant.{Facing}
 use Rattle.row_grant.specs.Standing.{Standing, numberIn, asks-are, offers-there, number-low, placeAt, blocked-standing}
 
 -- THE FIRST k of a list of places, from the i-th on: whether one of them passes the test g.
@@ -96,10 +96,9 @@ module _ {bs row w : List ℕ} {a k : ℕ} (v : Facing bs row w a k) where
         unfolding its-place
         number-is = told its-place
 
-        pub its-barring : Barring row b a
+        pub its-barring : Barring bs row b a
         its-barring =
             record {
-              bytes = bs;
               by = offers (stands .action);
               of = offers (v .asked);
               long = v .mapped .long;
@@ -109,7 +108,7 @@ module _ {bs row w : List ℕ} {a k : ℕ} (v : Facing bs row w a k) where
               of-at = v .asked-at;
             }
 
-        pub bars-is : (x : Bool) → ((d : Barring row b a) → x ≡ bars (d .by) (d .of))
+        pub bars-is : (x : Bool) → ((d : Barring bs row b a) → x ≡ bars (d .by) (d .of))
             → x ≡ bars (asks m s (placeAt (s .blocked) i)) (offers (v .asked))
         unfolding its-barring
         bars-is x f =
@@ -127,13 +126,13 @@ module _ {bs row w : List ℕ} {a k : ℕ} (v : Facing bs row w a k) where
   BarredFrom i = is-barred ≡ anyFrom barring i k (s .blocked)
 
   module _ (i : ℕ) (h : i < k) (r : Bool)
-      (told : (d : Faced row w a (i + 1))
-      → r ≡ bars (asks (d .1 .run .model) (d .1 .run .is) (placeAt (d .1 .run .is .blocked) i)) (offers (d .1 .asked)))
+      (told : (d : Facing bs row w a (i + 1))
+      → r ≡ bars (asks (d .run .model) (d .run .is) (placeAt (d .run .is .blocked) i)) (offers (d .asked)))
       (f : BarredFrom i) where
     turn : is-barred ≡ r || anyFrom barring (i + 1) k (s .blocked)
     unfolding nearer
     turn =
-        let e : r ≡ barring (placeAt (s .blocked) i) = told (bs, nearer (i + 1) (omega arith)) in
+        let e : r ≡ barring (placeAt (s .blocked) i) = told (nearer (i + 1) (omega arith)) in
         f ∙ next barring i k (s .blocked) h (v .ahead) ∙ rw (e, add-one i)
 
     pub one-bars : r ≡ true → true ≡ is-barred

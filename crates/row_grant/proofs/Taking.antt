@@ -19,11 +19,11 @@ use Rattle.promises.specs.Moves.{hand-fine}
 use Rattle.promises.specs.Takes.{still-item, still-met, take-item, all-met}
 use Rattle.base_numbers.specs.Row as Row
 use Rattle.file_check_parts.proofs.Laws.{rest-of, parts-cons, parts-none}
+use Rattle.file_claim.specs.Laid.{itemsIn, claim-items}
 use Rattle.row_work.specs.Work.{workOf, FloorSized, Sized, Doing, Done}
 use Rattle.row_work.specs.Shown.{work-long, free-at, free-set, bins-at, bins-set}
 use Rattle.row_work.specs.Underway.{still-sized}
 use Rattle.row_process.specs.Process.{Lives, Claims, changed}
-use Rattle.row_claim.specs.Laid.{itemsIn, claim-items}
 use Rattle.row_slaves.specs.Slaves.{Waiting}
 use Rattle.row_grant.specs.Grant.{Known, Takes, InBin, Taking}
 use Rattle.row_process.specs.Alive.{hand-lives}
@@ -218,7 +218,7 @@ module _ {bs : List ℕ} {at : ℕ} {first : List ℕ} {p : ℕ} (v : Taking bs 
   pub all-left : {n : ℕ} → n ≡ u16 bs at → LeftOf n (take (length bs - (at + 2)) (drop (at + 2) bs)) first
   all-left {n} e =
       let c : itemsIn n (drop (at + 2) bs) ≡ v .claim =
-      ap (λ k. itemsIn k (drop (at + 2) bs)) e ∙ claim-items (v .claim-at) in
+      ap (λ k. itemsIn k (drop (at + 2) bs)) e ∙ claim-items bs at ∙ v .claim-at .claim-is in
       rw (rest-of (at + 2) bs)
       (record {
         is = v .run .is;

@@ -79,7 +79,3 @@ pub record Facing (bs map w : List ℕ) (a k : ℕ) : Type 0 where
   pub asked-at : OffersAt bs map a (offers asked)
   pub asked-low : a < Limit.ACTIONS
   pub asked-fit : ActFit (run .model) asked
-
--- .. in some file.
-abbrev pub Faced : List ℕ → List ℕ → ℕ → ℕ → Type 0
-Faced map w a k = (bs : List ℕ) × Facing bs map w a k

@@ -11,7 +11,7 @@ ghost use Rattle.base_numbers.specs.Map as Map;
 ghost use Rattle.row_work.specs.Work.{workOf, Doing, Done};
 ghost use Rattle.row_process.specs.Process.{Shown, Lives};
 ghost use Rattle.row_claim.specs.Choices.{choiceIn, branchIn};
-ghost use Rattle.row_grant.specs.Grant.{Takes, InBin, Taking, Granting, Facing, Faced};
+ghost use Rattle.row_grant.specs.Grant.{Takes, InBin, Taking, Granting, Facing};
 ghost use Rattle.row_grant.specs.Wants.{wantedBy};
 ghost use Rattle.row_grant.specs.Standing.{placeAt};
 use base_numbers::item;
@@ -124,9 +124,9 @@ pub fn action_at<'a>(map: &'a [u32], w: &'a [u64], p: usize) -> usize
 
 // Whether the i-th of the blocked bars action a.
 fn bars_at<'a>(s: &'a [u8], map: &'a [u32], w: &'a [u64], a: usize, i: usize) -> bool
-    requires { ⌜ Faced (now map) (now w) a (i + 1) ⌝ }
-    ensures { λ r. ⌜ ((v : Faced (now (map .entry)) (now (w .entry)) a (i + 1))
-        → r ≡ bars (asks (v .1 .run .model) (v .1 .run .is) (placeAt (v .1 .run .is .blocked) i)) (offers (v .1 .asked))) ⌝ }
+    requires { ⌜ Facing (now s) (now map) (now w) a (i + 1) ⌝ }
+    ensures { λ r. ⌜ ((v : Facing (now (s .entry)) (now (map .entry)) (now (w .entry)) a (i + 1))
+        → r ≡ bars (asks (v .run .model) (v .run .is) (placeAt (v .run .is .blocked) i)) (offers (v .asked))) ⌝ }
 {
     let place = row_lists::blocked_at(w, i);
     let by = action_at(map, w, place);
@@ -135,9 +135,9 @@ fn bars_at<'a>(s: &'a [u8], map: &'a [u32], w: &'a [u64], a: usize, i: usize) ->
 
 // Whether one of the first k of the blocked bars it.
 fn barred<'a>(s: &'a [u8], map: &'a [u32], w: &'a [u64], a: usize, k: usize) -> bool
-    requires { ⌜ Faced (now map) (now w) a k ⌝ }
-    ensures { λ r. ⌜ ((v : Faced (now (map .entry)) (now (w .entry)) a k)
-        → r ≡ barred (v .1 .run .model) (v .1 .run .is) (take k (v .1 .run .is .blocked)) (offers (v .1 .asked))) ⌝ }
+    requires { ⌜ Facing (now s) (now map) (now w) a k ⌝ }
+    ensures { λ r. ⌜ ((v : Facing (now (s .entry)) (now (map .entry)) (now (w .entry)) a k)
+        → r ≡ barred (v .run .model) (v .run .is) (take k (v .run .is .blocked)) (offers (v .asked))) ⌝ }
 {
     let mut i = 0;
     while i < k {

@@ -1,6 +1,6 @@
 -- The rows of the 64 places that are tested are those of the processes that they show, and the digits say who lives.
 -- Assumes nothing.
-use Prim.Native.Nat.{ℕ, zero, suc, _+_, _-_, _*_, _/_, _%_, _≤_, min}
+use Prim.Native.Nat.{ℕ, zero, suc, _*_, _/_, _%_, _≤_, min}
 use native.Mathlib.Omega.{arith}
 use mathlib.Core.Path.{_≡_, refl, sym, _∙_, ap, ap₂}
 use mathlib.Core.List.{List, [], _∷_, _++_}

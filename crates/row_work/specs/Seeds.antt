@@ -9,7 +9,7 @@ use Rattle.semantics.specs.State.{State, with-seeds}
 use Rattle.base_numbers.specs.Row as Row
 use Rattle.base_numbers.specs.Limit as Limit
 use Rattle.base_ordered.specs.Lines.{pad}
-use Rattle.row_work.specs.Laid.{laid, laid-part, laid-replaced}
+use Rattle.row_work.specs.Laid.{laid-part, laid-replaced}
 use Rattle.row_work.specs.Work.{workParts, workWidths, seedsPart, workOf, Sized}
 use Rattle.row_work.specs.Shown.{work-wide, work-long}
 

@@ -1,7 +1,7 @@
 -- One answer: a call on an open run by value is told in one way only, with the run and the journal that it leaves; and a run
 -- that is turned away comes back as it was. Assumes nothing.
 use Prim.Native.Nat.{ℕ}
-use mathlib.Core.Path.{_≡_, sym, _∙_, ap}
+use mathlib.Core.Path.{_≡_, _∙_, ap}
 use mathlib.Core.List.{List}
 use Rattle.run_limit.specs.declared.Ran.{Ran}
 use Rattle.row_struct.specs.declared.State.{State}

@@ -13,7 +13,6 @@ use Rattle.promises.specs.Sound.{Sound}
 use Rattle.promises.specs.Accepted.{accepted-fit, accepted-nested}
 use Rattle.promises.specs.Ends.{again, again-20}
 use Rattle.promises.specs.Calls.{call-is, run-sound, ended-stays}
-use Rattle.row_work.specs.Work.{workOf}
 use Rattle.row_work.specs.Sized.{IsByte, accepted-rounds, sound-sized}
 use Rattle.row_view.specs.View.{viewIn, soundRow}
 use Rattle.row_view.specs.Rows.{says-sound-row, sound-shaped}

@@ -9,7 +9,7 @@ use lib.IntN.{ℤ, pos}
 use lib.Signed.{ltZ}
 use Rattle.semantics.specs.Words.{firstAt, isEmpty, keep, insert}
 use Rattle.semantics.specs.Numbers as No
-use Rattle.semantics.specs.Model.{Model, Entity, Sampler, body}
+use Rattle.semantics.specs.Model.{Model, Entity, body}
 
 -- A block that a process is in: the index of the action where it stands, and the rounds left, this one included.
 pub record Frame : Type 0 where

@@ -1,6 +1,6 @@
 -- `file_index::loops` meets its contract. The loop's invariant: what is found so far or found in the rest is the whole answer.
 -- Assumes nothing.
-use Prim.Native.Nat.{_≤_, _+_, _-_}
+use Prim.Native.Nat.{_≤_, _-_}
 use borrow.Author.Needs.{needs}
 use lib.ListN.{length}
 use mathlib.Core.Bool.{_||_}

@@ -21,14 +21,14 @@ barred-requires : tie.Need-barred-requires
 barred-requires c κs = search needs
 
 returns-2 : tie.Need-returns-2
-returns-2 c = λ v. barred-stays v (sym (c .if1 .taken) ∙ c .before .barred .ensures (_, v))
+returns-2 c = λ v. barred-stays v (sym (c .if1 .taken) ∙ c .before .barred .ensures v)
 
 returns-3 : tie.Need-returns-3
 returns-3 c =
     let at-first = c .before .before .before in
     λ v.
     first-goes v (at-first .before .before .first-met .ensures) (at-first .first .given .1)
-    (sym (c .if1 .left) ∙ c .before .barred .ensures (_, v))
+    (sym (c .if1 .left) ∙ c .before .barred .ensures v)
 
 pub branch-spec : {M : Type 1} → statement M
 branch-spec =
