@@ -74,9 +74,16 @@ module _ (bs row : List ℕ) where
       → coversAt bs row m n ≡ covers (y .claim) (x .claim)
   covers-is m n y x g h =
       rw (
-        g .resources-are, g .bins-are, g .syncs-are, g .claim-is,
-        h .resources-are, h .bins-are, h .syncs-are, h .claim-is,
-        strict-named (x .claim) (y .claim), same-named (x .claim) (y .claim),
+        g .resources-are,
+        g .bins-are,
+        g .syncs-are,
+        g .claim-is,
+        h .resources-are,
+        h .bins-are,
+        h .syncs-are,
+        h .claim-is,
+        strict-named (x .claim) (y .claim),
+        same-named (x .claim) (y .claim),
       )
 
   covered-is : (m : ℕ) (os : List Offer) → Offered m os → (n : ℕ) (x : Offer) → OfferAt bs row n x

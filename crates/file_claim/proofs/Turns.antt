@@ -68,7 +68,8 @@ module _ (n : ℕ) (rest : List ℕ) (h : 0 < n) (kind number : ℕ) (l : kind �
   by-first : amountOf (itemsIn n rest) (thing kind number)
       ≡ (if namesThing (take 8 rest) kind number then u32 (take 8 rest) 4 else amountOf (itemsPast n rest) (thing kind number))
   by-first =
-      ap (λ is. amountOf is (thing kind number)) (next-item n rest h) ∙ first-amount (take 8 rest) (itemsPast n rest) kind number l
+      ap (λ is. amountOf is (thing kind number)) (next-item n rest h)
+      ∙ first-amount (take 8 rest) (itemsPast n rest) kind number l
 
   pub amount-here : namesThing (take 8 rest) kind number ≡ true
       → u32 (take 8 rest) 4 ≡ amountOf (itemsIn n rest) (thing kind number)

@@ -192,6 +192,10 @@ module _ {A : Type 0} where
   all-hold f [] e = tt
   all-hold f (x ∷ xs) e = let a = and-true (f x) _ e in (a .0, all-hold f xs (a .1))
 
+  pub all-told : (f : A → Bool) (xs : List A) → AllOf (λ x. f x ≡ true) xs → all f xs ≡ true
+  all-told f [] h = refl
+  all-told f (x ∷ xs) h = true-and (f x) (all f xs) (h .0) (all-told f xs (h .1))
+
   pub none-hold : (f : A → Bool) (xs : List A) → any f xs ≡ false → AllOf (λ x. f x ≡ false) xs
   none-hold f [] e = tt
   none-hold f (x ∷ xs) e = let a = or-false (f x) _ e in (a .0, none-hold f xs (a .1))
@@ -201,6 +205,11 @@ module _ {A : Type 0} where
       → any f xs ≡ true → AllOf P xs → Q
   any-has P Q f g [] e h = no-way e
   any-has P Q f g (x ∷ xs) e h = or-true (f x) (any f xs) e Q (λ k. g x k (h .0)) (λ k. any-has P Q f g xs k (h .1))
+
+  pub any-map : (f g : A → Bool) → ((x : A) → f x ≡ true → g x ≡ true) → (xs : List A) → any f xs ≡ true → any g xs ≡ true
+  any-map f g h [] e = e
+  any-map f g h (x ∷ xs) e =
+      or-true (f x) (any f xs) e _ (λ k. or-left (g x) _ (h x k)) (λ k. or-right (g x) _ (any-map f g h xs k))
 
   pub empty-is : (xs : List A) → isEmpty xs ≡ true → xs ≡ []
   empty-is [] e = refl

@@ -29,7 +29,7 @@ module _ (bs : List ℕ) (at : ℕ) (w : List ℕ) (v : Meeting bs at w) where
       → Left (v .model) (v .is) (v .claim) k n (take (length bs - (at + 2)) (drop (at + 2) bs))
   all-left k n d e =
       let c : itemsIn n (drop (at + 2) bs) ≡ v .claim =
-          ap (λ k. itemsIn k (drop (at + 2) bs)) e ∙ claim-items bs at ∙ v .claim-at .claim-is in
+      ap (λ k. itemsIn k (drop (at + 2) bs)) e ∙ claim-items bs at ∙ v .claim-at .claim-is in
       rw (rest-of (at + 2) bs, d)
       (record { same = ap (test (v .is)) c; fit = subst (AllOf (ItemFit (v .model))) (sym c) (v .items-fit) })
 

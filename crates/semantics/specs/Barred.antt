@@ -11,8 +11,8 @@ use Rattle.semantics.specs.Plan.{PrintedLine, refusedAt, ran, planFor}
 use Rattle.semantics.specs.Plans.{rec, RES, CLASS, BLOCK, ENTITY}
 use Rattle.semantics.specs.Waited.{getR, getB, getS, isNow, REQ, TRY}
 
--- Two resources of 1, an empty bin, a sync that nobody waits for, and global 0, which is 0. Two processes ask for what isn't there
--- and wait; then the third asks, as is said. Block 2 is empty; the second, which enters no block, stands behind it.
+-- Two resources of 1, an empty bin, a sync that nobody waits for, and global 0, which is 0. Two processes ask for what isn't
+-- there and wait; then the third asks, as is said. Block 2 is empty; the second, which enters no block, stands behind it.
 asking : List ℕ → List ℕ → List ℕ → List ℕ
 asking a b q =
     RES 1 ++ RES 1 ++ rec K.BIN (le32 0) ++ rec K.SYNC [] ++ rec K.VAR (le32 0)
@@ -46,8 +46,8 @@ ofOne =
     ∷ pair (REQ (getS 2 ∷ [])) (REQ (getS 3 ∷ [])) (pos 1)
     ∷ []
 
--- Of several: one smaller amount is enough, one larger is too many, whichever is first; and thing by thing, in whatever order they
--- are written. A strict part is barred whatever its amounts.
+-- Of several: one smaller amount is enough, one larger is too many, whichever is first; and thing by thing, in whatever order
+-- they are written. A strict part is barred whatever its amounts.
 abbrev ofSeveral : List Case
 ofSeveral =
     pair (REQ (getR 0 3 ∷ getR 1 3 ∷ [])) (REQ (getR 0 3 ∷ getR 1 2 ∷ [])) No.barred

@@ -148,8 +148,8 @@ abbrev pub smallerAmounts : Claim → Claim → Bool
 smallerAmounts c d =
     all (λ x. leb (amountOf c x) (amountOf d x)) (namesOf c) && any (λ x. ltb (amountOf c x) (amountOf d x)) (namesOf c)
 
--- The claim d covers c if c names a non-empty, strict part of what d names, whatever the amounts; or if both name the same things,
--- and c has smaller amounts of them (document 02, Three).
+-- The claim d covers c if c names a non-empty, strict part of what d names, whatever the amounts; or if both name the same
+-- things, and c has smaller amounts of them (document 02, Three).
 abbrev pub covers : Claim → Claim → Bool
 covers d c = strictPart (namesOf c) (namesOf d) || (sameNames (namesOf c) (namesOf d) && smallerAmounts c d)
 

@@ -29,9 +29,10 @@ smaller-amounts-requires c κs = let p = c .before .before .before .before .befo
 returns : tie.Need-returns
 returns c = let w = c .before .before .before .before in
     let a = w .before .before .before .before .before .before .args in
-    by-amounts (a .s .now) (a .map .now) (a .m) (a .n) _ _ _ _ (w .before .before .before .named-at .ensures) (w .before .before .named-at2 .ensures)
-    (w .before .within .ensures) (w .within2 .ensures) (c .before .before .before .if1 .taken) _ _
-    (c .before .before .claim-at .ensures) (c .before .claim-at2 .ensures) _ (c .smaller-amounts .ensures)
+    by-amounts (a .s .now) (a .map .now) (a .m) (a .n) _ _ _ _ (w .before .before .before .named-at .ensures)
+    (w .before .before .named-at2 .ensures) (w .before .within .ensures) (w .within2 .ensures)
+    (c .before .before .before .if1 .taken) _ _ (c .before .before .claim-at .ensures) (c .before .claim-at2 .ensures)
+    _ (c .smaller-amounts .ensures)
 
 names-nothing-requires : tie.Need-names-nothing-requires
 names-nothing-requires c κs = search needs
@@ -39,8 +40,9 @@ names-nothing-requires c κs = search needs
 returns-2 : tie.Need-returns-2
 returns-2 c = let w = c .before .before in
     let a = w .before .before .before .before .before .before .args in
-    by-bits (a .s .now) (a .map .now) (a .m) (a .n) _ _ _ _ (w .before .before .before .named-at .ensures) (w .before .before .named-at2 .ensures)
-    (w .before .within .ensures) (w .within2 .ensures) (c .before .if1 .left) _ (c .names-nothing .ensures)
+    by-bits (a .s .now) (a .map .now) (a .m) (a .n) _ _ _ _ (w .before .before .before .named-at .ensures)
+    (w .before .before .named-at2 .ensures) (w .before .within .ensures) (w .within2 .ensures)
+    (c .before .if1 .left) _ (c .names-nothing .ensures)
 
 pub covers-spec : {M : Type 1} → statement M
 covers-spec =

@@ -87,7 +87,7 @@ loop-again c = let l = c .before .before .before .before .before .loop in
     let k = c .before .before .before .before .before .before .before .before .before .pre .1 in (
       fits-turn 8 (l .left) (l .rest .now) t (l .inv .0),
       amount-later (l .left) (l .rest .now) t _ _ k (sym (c .before .before .names .ensures) ∙ c .before .if1 .left)
-      ∙ l .inv .1,
+          ∙ l .inv .1,
     )
 
 returns-2 : tie.Need-returns-2 Inv-loop μ-loop

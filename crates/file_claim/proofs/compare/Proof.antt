@@ -1,6 +1,5 @@
 -- `file_claim::compare` meets its contract: by the thing that the item names, or by none. Assumes nothing.
 use native.Mathlib.Omega.{arith}
-use mathlib.Core.Path.{_≡_}
 use borrow.Author.Needs.{needs}
 use Rattle.file_claim.proofs.Turns.{of-thing, of-nothing}
 use Rattle.file_claim.proofs.compare.Statement.{statement}

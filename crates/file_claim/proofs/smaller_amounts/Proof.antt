@@ -23,9 +23,9 @@ abbrev μ-loop : tie.MeasureT-loop
 μ-loop s q b left₀ rest₀ smaller₀ left rest smaller = left
 
 returns : tie.Need-returns Inv-loop μ-loop
-returns c = let o = c .before .before in
-    sym (never-smaller (claimIn (drop (o .args .q) (o .args .s .now))))
-    ∙ ap (λ b. smallerAmounts (claimIn (drop (o .args .q) (o .args .s .now))) (claimIn (drop b (o .args .s .now)))) (c .if1 .taken)
+returns c = let a = c .before .before .args in
+    let x = claimIn (drop (a .q) (a .s .now)) in
+    sym (never-smaller x) ∙ ap (λ b. smallerAmounts x (claimIn (drop b (a .s .now)))) (c .if1 .taken)
 
 u16-at-requires : tie.Need-u16-at-requires Inv-loop μ-loop
 u16-at-requires c κs = omega (arith, c .before .before .pre .0)
@@ -62,9 +62,8 @@ compare-requires c κs = let l = c .before .before .loop in
 
 returns-2 : tie.Need-returns-2 Inv-loop μ-loop
 returns-2 c = let l = c .before .before .before .before .loop in
-    turn-ends _ _ (l .smaller) (l .left) (l .rest .now) (c .before .before .before .loop-test .taken) _ (c .before .compare .ensures)
-    (c .if2 .taken)
-    ∙ l .inv .1
+    let t = c .before .before .before .loop-test .taken in
+    turn-ends _ _ (l .smaller) (l .left) (l .rest .now) t _ (c .before .compare .ensures) (c .if2 .taken) ∙ l .inv .1
 
 sub-rest-2 : tie.Need-sub-rest-2 Inv-loop μ-loop
 sub-rest-2 c = let l = c .before .before .before .before .before .loop in
@@ -85,10 +84,10 @@ loop-less c = omega (arith, c .before .before .before .before .before .loop-test
 
 loop-again : tie.Need-loop-again Inv-loop μ-loop
 loop-again c = let l = c .before .before .before .before .before .before .loop in
-    let t = c .before .before .before .before .before .loop-test .taken in (
+    let t = c .before .before .before .before .before .loop-test .taken in
+    let told = c .before .before .before .compare .ensures in (
       fits-turn 8 (l .left) (l .rest .now) t (l .inv .0),
-      turn-on _ _ (l .smaller) (l .left) (l .rest .now) t _ (c .before .before .before .compare .ensures) (c .before .before .if2 .left)
-      ∙ l .inv .1,
+      turn-on _ _ (l .smaller) (l .left) (l .rest .now) t _ told (c .before .before .if2 .left) ∙ l .inv .1,
     )
 
 returns-3 : tie.Need-returns-3 Inv-loop μ-loop
