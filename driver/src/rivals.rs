@@ -41,7 +41,7 @@ impl Maker<'_> {
     /// One to three different things.
     fn whole(&mut self) -> Vec<Thing> {
         let mut whole = Vec::new();
-        for _ in 0..self.random.from_to(1, 3) {
+        for _ in 0..self.random.pick(&[1, 2, 2, 3, 3]) {
             let thing = self.thing();
             if !whole.contains(&thing) {
                 whole.push(thing);
