@@ -17,6 +17,8 @@ struct Maker<'a> {
     syncs: usize,
     /// What most of the claims name, each some of it, all of it or more.
     wholes: Vec<Vec<Thing>>,
+    /// The amount that the rival being made mostly claims, so that all branches of one may be smaller than those of another.
+    own: i32,
     blocks: Vec<Vec<Record>>,
 }
 
@@ -26,6 +28,7 @@ pub fn model(random: &mut Random) -> Made {
         bins: random.from_to(1, 2),
         syncs: random.from_to(1, 2),
         wholes: Vec::new(),
+        own: 1,
         blocks: Vec::new(),
         random,
     };
@@ -94,6 +97,7 @@ impl Maker<'_> {
 
     /// Asks once or some times.
     fn rival(&mut self) -> u16 {
+        self.own = self.random.pick(&[1, 1, 2, 3]);
         self.block(|maker, out| {
             if maker.random.one_in(4) {
                 out.push(valued(PRIO, &literal(maker.random.pick(&[-1, 1, 1]))));
@@ -170,8 +174,11 @@ impl Maker<'_> {
     }
 
     fn item(&mut self, (kind, number): Thing) -> Item {
-        let over = kind == GET_R && self.random.one_in(10);
-        let amount = if over { self.totals[usize::from(number)] as i32 + 1 } else { self.random.pick(&[1, 1, 1, 2, 2, 3]) };
+        let amount = match self.random.below(10) {
+            0 if kind == GET_R => self.totals[usize::from(number)] as i32 + 1,
+            0..=4 => self.random.pick(&[1, 1, 2, 3]),
+            _ => self.own,
+        };
         item(kind, number, amount)
     }
 
