@@ -47,6 +47,18 @@ def syncs():
             + BLOCK() + REQ(getS(0)) + HOLD(literal(1)) + PUTS(0, 1))
 
 
+def amounts():
+    """60 wait for the same four things: 30 want most of one of them, one wants more than the 29 behind it, who could be met but
+    for that. One puts into a bin again and again, and at each return every one of the 29 is held against those ahead."""
+    wanted = [(5, 1, 1, 1), (1, 5, 1, 1), (1, 1, 5, 1), (2, 2, 2, 5), (2, 2, 2, 2), (2, 2, 2, 3)]
+    jobs = [n % 3 for n in range(30)] + [3] + [4 + n % 2 for n in range(29)]
+    return (RES(4) * 4 + BIN(0) + b''.join(CLASS(n) for n in range(len(wanted) + 1))
+            + b''.join(ENTITY(n) for n in jobs) + ENTITY(len(wanted), 1)
+            + b''.join(BLOCK() + REQ(*(getR(i, n) for i, n in enumerate(claim))) for claim in wanted)
+            + BLOCK() + DO(20000, len(wanted) + 1)
+            + BLOCK() + PUTB(0) + HOLD(literal(1)))
+
+
 def nested(action):
     return CLASS(0) + ENTITY(0) + BLOCK() + DO(65535, 1) + BLOCK() + DO(10, 2) + BLOCK() + action
 
@@ -57,6 +69,7 @@ MODELS = [
     ('DO loops with TRACE, a line each', nested(TRACE(literal(1)))),
     ('30 jobs over 8 resources', jobs()),
     ('63 waiting TRYs', tries()),
+    ('60 waiting for the same, 20,000 returns', amounts()),
     ('syncs', syncs()),
 ]
 

@@ -4,13 +4,17 @@
 
 use crate::chance::Chance;
 use crate::head::{Head, CALLS};
-use crate::input::{kind_of, record, Input};
+use crate::input::{i32_bytes, kind_of, record, Input, REQ};
 use crate::rows::{change_word, forget_unsound, turn_state};
 use crate::write::{write_all, write_new};
 use handed::row::WORDS;
 
 /// Inputs are made no longer than this: among the seeds there is one that is, for the file that is too long.
 const MOST_BYTES: usize = 8192;
+
+/// Where the items of a REQ begin, and how many bytes each has.
+const CLAIM: usize = 6;
+const ITEM: usize = 8;
 
 extern "C" {
     fn LLVMFuzzerMutate(data: *mut u8, size: usize, most: usize) -> usize;
@@ -50,6 +54,24 @@ fn cut_body(cut: &mut Vec<u8>, chance: &mut Chance) {
     *cut = record(kind_of(cut), &cut[4..4 + size]);
 }
 
+/// A REQ once more, somewhere else and with another amount: who makes the one may be barred by who waits at the other.
+fn add_rival(input: &mut Input, chance: &mut Chance) {
+    let first = input.first_block();
+    let is_asked = |record: &&Vec<u8>| kind_of(record) == REQ && record.len() > CLAIM;
+    let asked: Vec<_> = input.records[first..].iter().filter(is_asked).collect();
+    if asked.is_empty() {
+        return;
+    }
+    let mut rival = asked[chance.below(asked.len())].clone();
+    let item = chance.below((rival.len() - CLAIM).div_ceil(ITEM));
+    let amount = i32_bytes(1 + chance.below(4) as i64);
+    for (to, from) in rival[CLAIM + ITEM * item..].iter_mut().skip(4).zip(amount) {
+        *to = from;
+    }
+    let at = first + 1 + chance.below(input.records.len() - first);
+    input.records.insert(at, rival);
+}
+
 /// Another limit or room, of a whole run or of four calls; other calls; a row of another length.
 fn change_head(head: &mut Head, chance: &mut Chance) {
     let number = chance.number() as u16;
@@ -79,7 +101,7 @@ fn change_row(input: &mut Input, chance: &mut Chance) {
 fn change(input: &mut Input, chance: &mut Chance) {
     let many = input.records.len();
     let (one, other) = (chance.below(many), chance.below(many));
-    match chance.below(if many == 0 { 4 } else { 16 }) {
+    match chance.below(if many == 0 { 4 } else { 17 }) {
         0..=2 => write_new(input, chance),
         3 => change_head(&mut input.head, chance),
         4 => input.head = Head::most(),
@@ -93,6 +115,7 @@ fn change(input: &mut Input, chance: &mut Chance) {
         }
         10 | 11 => change_body(input, chance, one),
         12 => cut_body(&mut input.records[one], chance),
+        13 => add_rival(input, chance),
         _ => change_field(&mut input.records[one][4..], chance),
     }
 }

@@ -22,7 +22,19 @@ DRIVER = FOLDER / 'driver'
 MODELS = 200000
 SECONDS = 900
 
-# A change: its name, its crate, the text that it takes away and the text that it puts there.
+# What several changes of barring take away, and what they put there: the amounts of a claim as they are written.
+SMALLER = 'file_claim::smaller_amounts(s, of, by);'
+SAME_THINGS = 'if part & whole {'
+LEFT_OF_Q = 'let mut left = file_fields::u16_at(s, q);'
+IS_CONDITION = 'if item::GET_S < kind {'
+COMPARED = 'let compared = compare(s, q, b, &rest[..item::BYTES]);'
+NAMED_AMOUNTS = (
+    'let named = |at: usize| {\n'
+    '            let items = (0..file_fields::u16_at(s, at) as usize).map(move |i| &s[at + 2 + item::BYTES * i..]);\n'
+    '            items.filter(|i| file_fields::u8_at(i, 0) <= item::GET_S).map(|i| file_fields::u32_at(i, 4))\n        };\n'
+    '        ')
+
+# A change: its name, its crates, the text that it takes away and the text that it puts there.
 CHANGES = [
     # ---- the lists
     ('a notice before equals', 'row_lists', 'n, key + 1)', 'n, key)'),
@@ -52,26 +64,86 @@ CHANGES = [
      'let ahead = row_lists::place_in_front(w, p);',
      'let own = 4294967295 - row_work::word(w, p, 1);\n'
      '    let ahead = (0..w[6] as usize).filter(|k| w[136 + k] / 64 < own).count();'),
-    ('an equal claim bars', 'file_bars', '(within(x, y) & !within(y, x))', 'within(x, y)'),
     ('an overlap bars', 'file_bars',
-     '(within(x, y) & !within(y, x))',
-     '(((x.resources & y.resources) | (x.bins & y.bins) | (x.syncs & y.syncs)) != 0) & !within(y, x)'),
-    ('a claim of nothing is barred', 'file_bars', '!names_nothing(x) & (within', '(within'),
+     '!names_nothing(x) & part\n',
+     '!whole & (((x.resources & y.resources) | (x.bins & y.bins) | (x.syncs & y.syncs)) != 0)\n'),
+    ('a claim of nothing is barred', 'file_bars', '!names_nothing(x) & part\n', 'part\n'),
     ('one branch that is covered bars', 'file_bars',
-     'if !covered(map, from, to, x) {\n            return false;\n        }',
-     'if covered(map, from, to, x) {\n            return true;\n        }'),
+     'if !covered(s, map, from, to, n) {\n            return false;\n        }',
+     'if covered(s, map, from, to, n) {\n            return true;\n        }',
+     '    true\n}', '    false\n}'),
     ('a barred TRY takes its second branch', 'row_grant',
-     'if barred(map, w, a, k) {\n        return Choice::Waits(Reason::Barred);',
-     'if barred(map, w, a, k) {\n'
+     'if barred(s, map, w, a, k) {\n        return Choice::Waits(Reason::Barred);',
+     'if barred(s, map, w, a, k) {\n'
      '        let some_met = matches!(row_claim::first_met(s, map, w, a), Choice::Goes(_));\n'
      '        if some_met & (file_map::branches_from(map, a + 1) - file_map::branches_from(map, a) > 1) {\n'
      '            return Choice::Goes(1);\n        }\n'
      '        return Choice::Waits(Reason::Barred);',
-     'if barred(map, w, a, k) {\n        return Branch::Stays;',
-     'if barred(map, w, a, k) {\n'
+     'if barred(s, map, w, a, k) {\n        return Branch::Stays;',
+     'if barred(s, map, w, a, k) {\n'
      '        if file_map::branches_from(map, a + 1) - file_map::branches_from(map, a) > 1 {\n'
      '            return Branch::Goes(1);\n        }\n'
      '        return Branch::Stays;'),
+    # ---- which amounts bar
+    ('amounts are not looked at', 'file_bars', SMALLER, 'false;'),
+    ('the same things bar, whatever the amounts', 'file_bars', SMALLER, '!names_nothing(x);'),
+    ('equal amounts bar', 'file_claim', 'smaller: of < by,', 'smaller: of <= by,'),
+    ('the larger amounts are barred', 'file_bars', SMALLER, 'file_claim::smaller_amounts(s, by, of);'),
+    ('one larger amount still bars', 'file_claim', 'if compared.larger {', 'if false {'),
+    ('one equal amount doesn\'t bar', 'file_claim', 'larger: by < of,', 'larger: by <= of,'),
+    ('only the first item is compared', 'file_claim', LEFT_OF_Q, 'let mut left = file_fields::u16_at(s, q).min(1);'),
+    ('the last item isn\'t compared', 'file_claim',
+     LEFT_OF_Q, 'let mut left = file_fields::u16_at(s, q).max(1) - (1 < file_fields::u16_at(s, q)) as u32;'),
+    ('items compared by position', 'file_claim',
+     COMPARED, NAMED_AMOUNTS +
+     'let pairs = || named(q).zip(named(b));\n'
+     '        let compared = Compared {\n'
+     '            larger: pairs().any(|(of, by)| by < of),\n'
+     '            smaller: pairs().any(|(of, by)| of < by),\n        };'),
+    ('the sums of amounts compared', 'file_claim',
+     COMPARED, NAMED_AMOUNTS +
+     'let (of, by) = (named(q).sum::<u32>(), named(b).sum::<u32>());\n'
+     '        let compared = Compared { larger: by < of, smaller: of < by };'),
+    ('amounts of resources don\'t count', 'file_claim', IS_CONDITION, 'if (item::GET_S < kind) | (kind == 0) {'),
+    ('amounts of bins don\'t count', 'file_claim', IS_CONDITION, 'if (item::GET_S < kind) | (kind == 1) {'),
+    ('amounts of syncs don\'t count', 'file_claim', IS_CONDITION, 'if (item::GET_S < kind) | (kind == 2) {'),
+    ('the number of a condition is an amount', 'file_claim', IS_CONDITION, 'if item::GET_S + 1 < kind {'),
+    ('a strict part needs smaller amounts', 'file_bars', SAME_THINGS, 'if part {'),
+    ('a strict part of a larger amount doesn\'t bar', 'file_bars file_claim',
+     'fn amount_of(', 'pub fn amount_of(',
+     '!names_nothing(x) & part\n',
+     'let (of, by) = (file_map::claim_at(map, n), file_map::claim_at(map, m));\n'
+     '    let items = (0..file_fields::u16_at(s, of) as usize).map(|i| &s[of + 2 + 8 * i..]);\n'
+     '    let larger = items.filter(|i| i[0] < 3).any(|i| {\n'
+     '        let (kind, number) = (file_fields::u8_at(i, 0), file_fields::u16_at(i, 2));\n'
+     '        file_claim::amount_of(s, by, kind, number) < file_claim::amount_of(s, of, kind, number)\n    });\n'
+     '    !names_nothing(x) & part & !larger\n'),
+    ('several ahead together bar a TRY', 'file_bars row_grant',
+     'fn covered<', 'pub fn covered<',
+     'let mut i = 0;\n    while i < k {\n        if bars_at(s, map, w, a, i) {\n            return true;\n        }\n'
+     '        i += 1;\n    }\n    false',
+     '(file_map::branches_from(map, a)..file_map::branches_from(map, a + 1)).all(|n| {\n'
+     '        (0..k).any(|i| {\n'
+     '            let by = action_at(map, w, row_lists::blocked_at(w, i));\n'
+     '            let (from, to) = (file_map::branches_from(map, by), file_map::branches_from(map, by + 1));\n'
+     '            file_bars::covered(s, map, from, to, n)\n        })\n    })'),
+    ('one branch of who is ahead covers all', 'file_bars',
+     'let mut n = file_map::branches_from(map, q);',
+     'return (from..to).any(|m| (file_map::branches_from(map, q)..end).all(|n| covers(s, map, m, n)));\n'
+     '    let mut n = file_map::branches_from(map, q);'),
+    ('a TRY is covered by one rule', 'file_bars',
+     'let mut n = file_map::branches_from(map, q);',
+     'let same = |x: Named, y: Named| within(x, y) & within(y, x);\n'
+     '    let by = |rule: bool| (file_map::branches_from(map, q)..end).all(|n| {\n'
+     '        (from..to).any(|m| covers(s, map, m, n) & (same(named_at(map, m), named_at(map, n)) == rule))\n    });\n'
+     '    return by(true) | by(false);\n'
+     '    let mut n = file_map::branches_from(map, q);'),
+    ('in a walk amounts don\'t count', 'file_bars row_grant',
+     SAME_THINGS, 'if part & whole & s.is_empty() {\n        return false;\n    }\n    if part & whole {',
+     'if barred(s, map, w, a, k) {\n        return Branch::', 'if barred(&[], map, w, a, k) {\n        return Branch::'),
+    ('on the floor amounts don\'t count', 'file_bars row_grant',
+     SAME_THINGS, 'if part & whole & s.is_empty() {\n        return false;\n    }\n    if part & whole {',
+     'if barred(s, map, w, a, k) {\n        return Choice::', 'if barred(&[], map, w, a, k) {\n        return Choice::'),
     # ---- why a process waits
     ('the last lacking item', 'row_claim',
      'return Test::Lacks(many - left + 1);', 'last = many - left + 1;',
@@ -83,9 +155,9 @@ CHANGES = [
      'Test::Lacks(many - left + 1)', 'Test::Lacks(many - left + 1 - conditions)',
      'rest = &rest[item::BYTES..];', 'conditions += (rest[0] == 3) as u32;\n        rest = &rest[item::BYTES..];'),
     ('lacking before barred', 'row_grant',
-     'if barred(map, w, a, k) {\n        return Choice::Waits(Reason::Barred);\n    }\n    row_claim::first_met(s, map, w, a)',
+     'if barred(s, map, w, a, k) {\n        return Choice::Waits(Reason::Barred);\n    }\n    row_claim::first_met(s, map, w, a)',
      'let first = row_claim::first_met(s, map, w, a);\n'
-     '    if matches!(first, Choice::Goes(_)) & barred(map, w, a, k) {\n'
+     '    if matches!(first, Choice::Goes(_)) & barred(s, map, w, a, k) {\n'
      '        return Choice::Waits(Reason::Barred);\n    }\n    first'),
     ('the lacking item of the last branch', 'row_claim', 'if k == 0 {', 'if k + 1 == many {'),
     ('a WHILE that passes on says why', 'act_req_try_while',
@@ -207,13 +279,15 @@ def edits():
                 yield ['%s/%s' % (crate, edit.name), crate] + edit.pairs
 
 
-def changed(texts, crate, *pairs):
-    """The sources with the change, or nothing where it touches no code."""
-    after = texts[crate]
+def changed(texts, crates, *pairs):
+    """The sources with the change, each text taken from the one crate that has it; nothing where it touches no code."""
+    after = {crate: texts[crate] for crate in crates.split()}
     for old, new in zip(pairs[::2], pairs[1::2]):
-        assert after.count(old) == 1, '%d times in %s: %s' % (after.count(old), crate, old)
-        after = after.replace(old, new)
-    return None if native.module(after) == native.module(texts[crate]) else {**texts, crate: after}
+        found = [crate for crate, text in after.items() for _ in range(text.count(old))]
+        assert len(found) == 1, '%d times in %s: %s' % (len(found), crates, old)
+        after[found[0]] = after[found[0]].replace(old, new)
+    same = all(native.module(text) == native.module(texts[crate]) for crate, text in after.items())
+    return None if same else {**texts, **after}
 
 
 def built(texts):
@@ -265,8 +339,8 @@ def main(words):
         said = driven(folder)
         told('unchanged', said)
         wrong += bool(said)
-    for name, crate, *pairs in chosen(words):
-        after = changed(texts, crate, *pairs)
+    for name, crates, *pairs in chosen(words):
+        after = changed(texts, crates, *pairs)
         if after is None:
             continue
         if name in UNSEEN:

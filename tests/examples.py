@@ -92,7 +92,35 @@ def sampled_day():
             + BLOCK() + REQ(getR(0)) + LSET(0, ADD, draw(0), draw(1)) + TRACE(local(0)) + HOLD(local(0)) + PUTR(0, 1))
 
 
-EXAMPLES = [two_jobs, grade, crowded_day, runners, night_render, one_deck_too_many, sampled_day]
+# A render farm: each hour the desk starts a trailer, which takes a licence for two hours; after twelve hours the house closes.
+FARM = (BLOCK() + DO(12, 1) + CLOSE()
+        + BLOCK() + START(1, 0) + HOLD(literal(1))
+        + BLOCK() + REQ(getR(0, 1)) + HOLD(literal(2)) + PUTR(0, 1))
+
+
+def trailers_all_day():
+    """Trailers all day. The render farm has three licences (resource 0). Each hour from 0 to 11 the desk (process 1) starts a
+    trailer, which takes one licence for two hours. So two of the three are taken all day: every trailer gets one at once
+    and nobody waits. At 12 the house closes. Next to this read feature-among-trailers: the same day with one job more."""
+    return RES(3) + CLASS(0) + CLASS(2) + ENTITY(0) + FARM
+
+
+def feature_among_trailers():
+    """A feature among the trailers. It is the day of trailers-all-day: three render licences (resource 0), and each hour a
+    trailer that takes one for two hours. At 3 a feature (process 2) comes and needs all three at once, for three hours.
+    Only one is free, so it waits: its line ends in 1, the licences, item 1 of its claim, are lacking. From then on no
+    trailer takes a licence before it. The trailers that come at 3 and at 4 (processes 6 and 7) are barred, and their lines
+    end in -1, though at 3 one licence is free and at 4 two are: the feature waits ahead of them for more of the same. So
+    the licences come together, and at 4 the feature has its three. The trailers from 5 on lack a licence (1), since all
+    are taken; those that wait want one each as they do, and equal claims don't bar one another. At 7 the feature gives
+    back all three, and the trailers go on in the order in which they came. If amounts didn't count in barring, each of
+    these trailers would get a licence when it comes, and the feature would still wait at 12, when the house closes."""
+    return (RES(3) + CLASS(0) + CLASS(2) + CLASS(3) + ENTITY(0) + ENTITY(2, 3)
+            + FARM + BLOCK() + REQ(getR(0, 3)) + HOLD(literal(3)) + PUTR(0, 3))
+
+
+EXAMPLES = [two_jobs, grade, crowded_day, runners, night_render, one_deck_too_many, sampled_day, trailers_all_day,
+            feature_among_trailers]
 
 
 def files(example):

@@ -355,8 +355,8 @@ def compare_files():
     for line, name in quoted:
         if line not in (ROOT / 'examples' / (name + '.plan')).read_text().splitlines():
             yield '%s is no line of %s' % (line, name)
-    if [line.split()[2:] for line, _ in quoted] != [['3', '1'], ['3', '-1']]:
-        yield 'of an example one that lacks its first item and one that is barred: %s' % quoted
+    if [line.split()[2:] for line, _ in quoted] != [['3', '1'], ['3', '-1'], ['3', '-1']]:
+        yield 'of examples one that lacks its first item and two that are barred: %s' % quoted
     told = {int(row[1].split()[1]) for row in table('File', 'Prints')}
     if told != set(range(1, 10)):
         yield 'one refused file for each number from 1 to 9: %s' % sorted(told)

@@ -91,6 +91,33 @@ PLANS = [
              (3, TRY(branch(6, getR(0), getB(0)), branch(6, getB(0)))), (4, WHILE(6, getR(1)) + WHILE(6, getB(0))),
              (5, SET(0, literal(5)))) + BLOCK(),
      ['0 1 3 1', '1 2 3 -1', '2 3 3 -1', '3 4 3 2', '4 5 2 0', '5 6 2 0', 'idle 9 bound none']),
+    # Two licences are free when the third comes, but the second waits for three. The fourth waits for as much as the second and
+    # isn't barred by it. The fifth has a higher priority and is barred by nobody.
+    ('a smaller amount waits, and the larger one goes first',
+     several(RES(3),
+             (0, REQ(getR(0)) + HOLD(literal(5)) + PUTR(0)), (1, REQ(getR(0, 3)) + HOLD(literal(1)) + PUTR(0, 3)),
+             (2, REQ(getR(0)) + HOLD(literal(1)) + PUTR(0)), (3, REQ(getR(0, 3)) + HOLD(literal(1)) + PUTR(0, 3)),
+             (4, PRIO(literal(1)) + REQ(getR(0)) + HOLD(literal(1)) + PUTR(0))),
+     ['0 1 4 0', '1 2 3 1', '2 3 3 -1', '3 4 3 1', '4 5 4 0', '5 5 2 0', '5 1 2 0', '5 5 5 0', '5 1 5 0', '5 2 4 0',
+      '6 2 2 0', '6 2 5 0', '6 3 4 0', '7 3 2 0', '7 3 5 0', '7 4 4 0', '8 4 2 0', '8 4 5 0', 'idle 26 bound 26']),
+    # Behind the first: less of one thing, in another order; less of one and more of the other; the same, twice with a condition;
+    # a part, of which it wants more; and one thing more.
+    ('amounts held against one another, thing by thing',
+     several(RES(2) + RES(2) + BIN(0) + VAR(5),
+             (0, REQ(getR(0, 2), getB(0, 3))), (1, REQ(getB(0, 2), getR(0, 2))), (2, REQ(getR(0, 1), getB(0, 4))),
+             (3, REQ(getR(0, 2), getB(0, 3))), (4, REQ(IS_5, getR(0, 2), getB(0, 3))),
+             (5, REQ(getB(0, 3), condition(0, 6, 4), getR(0, 2))), (6, REQ(getB(0, 9))), (7, REQ(getR(0), getB(0), getR(1)))),
+     ['0 1 3 2', '1 2 3 -1', '2 3 3 2', '3 4 3 2', '4 5 3 3', '5 6 3 1', '6 7 3 -1', '7 8 3 2', 'idle 8 bound 16']),
+    # The first wants two where there is one, and waits for ever. It covers both branches of the second: one is a part, one has a
+    # smaller amount. Of the fourth it covers one branch, and the third the other: so it goes. The first WHILE is barred by
+    # amounts of a bin, the second of a resource, though it could be met; the sixth is barred by amounts of a sync.
+    ('branches covered by a part and by amounts',
+     several(RES(1) + RES(1) + BIN(0) + SYNC(),
+             (0, REQ(getR(0, 2), getR(1))), (1, TRY(branch(7, getR(1)), branch(7, getR(1), getR(0)))), (2, REQ(getB(0, 2))),
+             (3, TRY(branch(7, getR(0)), branch(7, getB(0)))), (4, WHILE(7, getB(0)) + REQ(getS(0, 2))), (5, REQ(getS(0))),
+             (6, WHILE(7, getR(0), getR(1)))) + BLOCK() + PUTR(0),
+     ['0 1 3 1', '1 2 3 -1', '2 3 3 1', '3 4 4 0', '3 4 2 0', '3 4 5 0', '4 5 3 1', '5 6 3 -1', '6 7 2 0',
+      'idle 13 bound none']),
     ('a refusal', EXAMPLE + BLOCK()[:3], ['refused 1 at 72']),
     ('65,536 bytes', bytes(65536), ['refused 4 at 0']),
     ('more than a model may have', bytes(70000), ['refused 4 at 0']),

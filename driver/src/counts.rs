@@ -1,5 +1,6 @@
 //! How often each number that the desk sees came up: the table at the end.
 
+use crate::barred::asked;
 use crate::drawn::Drawers;
 use crate::waited::tests;
 use reference::journal::{lines, BLOCKED};
@@ -20,6 +21,8 @@ pub const SEEDS: usize = 10;
 pub const PACES: usize = 11;
 pub const WAITS: usize = 12;
 pub const WAITED: usize = 13;
+pub const AMOUNTS: usize = 14;
+pub const BARRED: usize = 15;
 
 struct Group {
     title: &'static str,
@@ -28,7 +31,7 @@ struct Group {
     names: &'static [&'static str],
 }
 
-const GROUPS: [Group; 14] = [
+const GROUPS: [Group; 16] = [
     Group {
         title: "refusals",
         first: 1,
@@ -135,6 +138,41 @@ const GROUPS: [Group; 14] = [
             "a WHILE passes on, lacking",
         ],
     },
+    Group {
+        title: "branches of one ahead and of who asks, by their amounts, of the first 200 steps",
+        first: 0,
+        names: &[
+            "smaller, of resources alone",
+            "smaller, of bins alone",
+            "smaller, of syncs alone",
+            "some smaller, some equal",
+            "smaller, in another order",
+            "smaller, a condition beside",
+            "equal",
+            "equal, a condition beside",
+            "larger",
+            "some smaller, some larger",
+            "a strict part, more of it",
+        ],
+    },
+    Group {
+        title: "who is barred by amounts alone, and who isn't, of the first 200 steps",
+        first: 0,
+        names: &[
+            "blocked, a branch could be met",
+            "blocked, no branch could be met",
+            "its branches by one rule each",
+            "by two branches of one ahead",
+            "by more than there ever is",
+            "goes: its branches by two ahead",
+            "lacks: its branches by two ahead",
+            "a WHILE that could be met",
+            "goes past an equal claim",
+            "goes past smaller and larger",
+            "goes past more of lower priority",
+            "left by a walk, could be met",
+        ],
+    },
 ];
 
 /// What a run of the driver did besides.
@@ -164,8 +202,8 @@ impl Counts {
             Answer::Limit => 2,
             Answer::Fault(number) => {
                 self.add(FAULTS, usize::from(number));
-                if let Some((_, action)) = next(model, state) {
-                    self.undone(number, action);
+                if let Some(doing) = next(model, state) {
+                    self.undone(number, doing.action);
                 }
                 3
             }
@@ -194,16 +232,19 @@ impl Counts {
         let mut drawers = Drawers::default();
         for _ in 0..most {
             let doing = next(model, &state);
-            let tested = doing.map_or(Vec::new(), |(_, action)| tests(&state, action));
+            let asked = doing.map(|doing| asked(model, &state, doing.place, doing.action));
+            let tested = doing.map_or(Vec::new(), |doing| tests(&state, doing.action));
             let one = state.run(model, 1, usize::MAX);
             if one.steps == 0 {
                 return;
             }
-            if let Some((process, action)) = doing {
-                self.add(ACTIONS, kind_of(action));
-                self.drew(action, process, &mut drawers);
-                self.waited(action, &tested, &one.journal);
+            if let (Some(doing), Some(asked)) = (doing, asked) {
+                self.add(ACTIONS, kind_of(doing.action));
+                self.drew(doing.action, doing.number, &mut drawers);
+                self.waited(doing.action, &tested, &one.journal);
+                self.asked(model, &asked, doing.action, &one.journal);
             }
+            self.walked(model, &state, doing.map(|doing| doing.action), &one.journal);
         }
     }
 
@@ -235,8 +276,16 @@ impl Counts {
     }
 }
 
-/// The number of the process that makes the next step, and its action, unless that is a return or the end of a block.
-fn next<'a>(model: &'a Model, state: &State) -> Option<(u32, &'a Action)> {
+/// Who makes the next step: its place and number, and its action.
+#[derive(Clone, Copy)]
+struct Doing<'a> {
+    place: usize,
+    number: u32,
+    action: &'a Action,
+}
+
+/// Who makes the next step, unless that is a return or the end of a block.
+fn next<'a>(model: &'a Model, state: &State) -> Option<Doing<'a>> {
     let place = match state.floor {
         Some(place) => place,
         None => match state.event_list.first()?.entered {
@@ -246,7 +295,8 @@ fn next<'a>(model: &'a Model, state: &State) -> Option<(u32, &'a Action)> {
     };
     let process = state.places[place].as_ref()?;
     let standing = process.blocks.last()?;
-    Some((process.number, model.blocks[usize::from(standing.block)].get(standing.place)?))
+    let action = model.blocks[usize::from(standing.block)].get(standing.place)?;
+    Some(Doing { place, number: process.number, action })
 }
 
 fn kind_of(action: &Action) -> usize {

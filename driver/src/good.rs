@@ -2,6 +2,7 @@
 
 use crate::random::Random;
 use crate::records::*;
+use crate::rivals;
 
 /// A model as its records, and the limit of its longest run.
 pub struct Made {
@@ -39,13 +40,19 @@ pub fn model(random: &mut Random) -> Made {
     if random.one_in(1_500) {
         return full_bin(random);
     }
+    let made = if random.one_in(5) { rivals::model(random) } else { any_model(random) };
+    if random.one_in(8) {
+        return Made { records: numbered_high(random, made.records), ..made };
+    }
+    made
+}
+
+fn any_model(random: &mut Random) -> Made {
     let mut maker = Maker::new(random);
     let bodies: Vec<u16> =
         if maker.random.one_in(10) { maker.crew() } else { (0..maker.classes).map(|own| maker.body(own)).collect() };
     let limit = if maker.random.one_in(20) { 3_000 } else { 400 };
-    let records = maker.records(&bodies);
-    let records = if random.one_in(8) { numbered_high(random, records) } else { records };
-    Made { records, limit }
+    Made { records: maker.records(&bodies), limit }
 }
 
 /// The same model with its things numbered up to the last number that there can be.

@@ -4,6 +4,7 @@
 //!
 //! Model number k, from 0, has the seed SEED + k, so `driver 1 S` tries the one of seed S again. README.md says more.
 
+mod barred;
 mod compare;
 mod counts;
 mod crash;
@@ -15,6 +16,7 @@ mod moves;
 mod odd;
 mod random;
 mod records;
+mod rivals;
 mod row;
 mod show;
 mod shrink;
