@@ -121,6 +121,16 @@ pub enum Tested {
     Lacking(usize),
 }
 
+/// How a branch of a blocked process B covers a branch of Q. Conditions are dropped.
+#[derive(Debug, Clone, Copy, PartialEq, Eq)]
+pub enum Covered {
+    No,
+    /// Q's names a non-empty, strict part of what B's names, with any amounts.
+    StrictPart,
+    /// Both name the same things, no amount of Q's is larger and at least one is smaller.
+    SmallerAmounts,
+}
+
 /// Why no branch is taken.
 enum Why {
     Barred,
@@ -749,16 +759,49 @@ impl State {
     }
 }
 
-/// Whether a blocked process with the claims `blocked` bars one with the claims `wanted`.
-fn bars(blocked: &[Claim], wanted: &[Claim]) -> bool {
-    wanted.iter().all(|claim| {
-        let part = names(claim);
-        part != 0
-            && blocked.iter().any(|other| {
-                let whole = names(other);
-                part != whole && part & !whole == 0
-            })
-    })
+/// Whether a blocked process B with the branches `b` bars a process Q with the branches `q`.
+fn bars(b: &[Claim], q: &[Claim]) -> bool {
+    let is_covered = |branch| b.iter().any(|other| covers(other, branch) != Covered::No);
+    q.iter().all(is_covered)
+}
+
+/// How the branch `b` of a blocked process covers the branch `q`; both are of a model that passes the checks.
+pub fn covers(b: &Claim, q: &Claim) -> Covered {
+    // Those of one class often stand at one claim, and equal claims don't bar one another.
+    if std::ptr::eq(b, q) {
+        return Covered::No;
+    }
+    let part = names(q);
+    if part == 0 {
+        return Covered::No;
+    }
+    let whole = names(b);
+    if part & !whole != 0 {
+        Covered::No
+    } else if part != whole {
+        Covered::StrictPart
+    } else if has_smaller_amounts(b, q) {
+        Covered::SmallerAmounts
+    } else {
+        Covered::No
+    }
+}
+
+/// Of branches that name the same things: whether no amount of `q` is larger and at least one is smaller. Things are
+/// looked up by name, as their items may be written in another order.
+fn has_smaller_amounts(b: &Claim, q: &Claim) -> bool {
+    let mut one_is_smaller = false;
+    for item in q.iter().filter(|item| item.kind != model::CONDITION) {
+        let other = b
+            .iter()
+            .find(|other| (other.kind, other.number) == (item.kind, item.number))
+            .expect("both name the same things");
+        if item.amount > other.amount {
+            return false;
+        }
+        one_is_smaller |= item.amount < other.amount;
+    }
+    one_is_smaller
 }
 
 /// What a claim names, conditions dropped, as one bit for each kind with its number.

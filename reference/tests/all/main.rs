@@ -1,5 +1,6 @@
 //! All tests of the second program, through its library and through the program `plan`.
 
+mod amounts;
 mod bounds;
 mod build;
 mod faults;

@@ -6,7 +6,7 @@ use reference::journal::{Line, LINE_BYTES};
 use reference::model::{self, decode, Action, Claim, Model};
 use reference::run::{Answer, Entered, Returned, State, JOURNAL, PLACES};
 use reference::sampler::MOST_SEED;
-use std::collections::BTreeSet;
+use std::collections::BTreeMap;
 
 /// A plain xorshift generator, so that every test run sees the same models.
 struct Random(u64);
@@ -137,7 +137,7 @@ impl Random {
         for _ in 0..self.below(4) {
             let item = match self.below(3) {
                 0 => condition(1 + self.below(6) as u8, self.word(2), self.below(2) as i32),
-                _ => get_b(self.word(4), 1),
+                _ => get_b(self.word(4), 1 + self.below(2) as i32),
             };
             if item.0 == 3
                 || items
@@ -260,7 +260,7 @@ fn is_sound(model: &Model, state: &State) {
 }
 
 /// What the line of the one who joined the blocked list at `at` must say, from the state after its step. Written with
-/// sets, so that the program is not its own witness.
+/// maps, so that the program is not its own witness.
 fn why_blocked(model: &Model, state: &State, at: usize) -> i32 {
     let claims = |at: usize| -> &[Claim] {
         let process = state.places[state.blocked_list[at]].as_ref();
@@ -268,19 +268,23 @@ fn why_blocked(model: &Model, state: &State, at: usize) -> i32 {
         let innermost = innermost.expect("a blocked process lives, in a block");
         model.blocks[usize::from(innermost.block)][innermost.place].claims()
     };
-    let names = |claim: &Claim| -> BTreeSet<(u8, u16)> {
+    let amounts = |claim: &Claim| -> BTreeMap<(u8, u16), i32> {
         let named = claim.iter().filter(|item| item.kind != model::CONDITION);
-        named.map(|item| (item.kind, item.number)).collect()
+        named
+            .map(|item| ((item.kind, item.number), item.amount))
+            .collect()
     };
-    let is_part = |part: BTreeSet<_>, whole: BTreeSet<_>| {
-        !part.is_empty() && part.is_subset(&whole) && part.len() < whole.len()
+    let is_covered = |claim: &Claim, other: &Claim| {
+        let (part, whole) = (amounts(claim), amounts(other));
+        let is_part = part.keys().all(|name| whole.contains_key(name));
+        let has_larger = || part.iter().any(|(name, amount)| *amount > whole[name]);
+        let is_smaller = || part != whole && !has_larger();
+        !part.is_empty() && is_part && (part.len() < whole.len() || is_smaller())
     };
     let own = claims(at);
     let bars = |ahead: usize| {
-        own.iter().all(|claim| {
-            let mut others = claims(ahead).iter();
-            others.any(|other| is_part(names(claim), names(other)))
-        })
+        own.iter()
+            .all(|claim| claims(ahead).iter().any(|other| is_covered(claim, other)))
     };
     if (0..at).any(bars) {
         return -1;

@@ -352,13 +352,13 @@ fn a_return_waits_for_all_others_at_that_instant() {
 
 #[test]
 fn a_walk_goes_on_past_one_that_cannot_go() {
-    // The first waits for 5, the second for 1 of the same bin: the same names, so no one is barred.
+    // The first waits for one bin, the second for another: other names, so no one is barred.
     let bytes = processes(
-        &[bin(0)],
+        &[bin(0), bin(0)],
         &[
-            (0, &[req(&[get_b(0, 5)])]),
             (0, &[req(&[get_b(0, 1)])]),
-            (1, &[putb(0, 1)]),
+            (0, &[req(&[get_b(1, 1)])]),
+            (1, &[putb(1, 1)]),
         ],
     );
     assert_eq!(claims(&bytes), [(0, 1, 3), (0, 2, 3), (1, 2, 4)]);
@@ -403,10 +403,11 @@ fn what_bars_on_the_floor() {
     // The first waits for bins 0 and 1, of which 0 is there; the second comes at 1 with these claims.
     let blocked_first = |branches: &[(u16, &[Item])]| {
         let whole: &[Item] = &[get_b(0, 1), get_b(1, 1)];
+        let other: &[Item] = &[get_b(2, 1), condition(3, 0, 1)];
         let bytes = processes(
             &[bin(9), bin(0), var(0), bin(9)],
             &[
-                (0, &[try_branches(&[(2, whole), (2, &[get_b(2, 99)])])]),
+                (0, &[try_branches(&[(2, whole), (2, other)])]),
                 (1, &[try_branches(branches)]),
             ],
         );
@@ -415,7 +416,7 @@ fn what_bars_on_the_floor() {
     // A strict part is barred, with any amount and with conditions beside it.
     assert!(blocked_first(&[(2, &[get_b(0, 1)])]));
     assert!(blocked_first(&[(2, &[get_b(0, 9), condition(3, 0, 0)])]));
-    // The same names are not a strict part of the first branch, and bin 2 alone is the whole of the second.
+    // Bin 2 is no part of the first branch, and the whole of the second, with the same amount.
     assert!(!blocked_first(&[(2, &[get_b(2, 1)])]));
     // Something else beside it is no part.
     assert!(!blocked_first(&[(2, &[get_b(0, 1), get_b(2, 1)])]));
