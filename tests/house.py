@@ -67,7 +67,7 @@ def contracts(text):
 def spec(text):
     """A file of specs without comments, texts and constants."""
     text = re.sub(r'"[^"]*"', '', re.sub(r'--.*', '', text))
-    return re.sub(r'(?m)^abbrev (pub )?(\w+) : ℕ\n\2 = .*$', '', text)
+    return re.sub(r'(?m)^abbrev (pub )?([\w-]+) : ℕ\n\2 = .*$', '', text)
 
 
 def above_nine(text):

@@ -1,0 +1,11 @@
+pub mod Numbers
+pub mod Token
+pub mod Lexing
+pub mod Grammar
+pub mod Names
+pub mod Meaning
+pub mod Written
+pub mod Table
+pub mod Reading
+pub mod Answer
+pub mod Vectors
