@@ -1,10 +1,11 @@
-//! The library of the second program: check a model, get its bound, or run it whole, from its bytes.
+//! The library of the second program: check a model, get its bound, or run it whole, from its bytes; or read it as text.
 
 pub mod bound;
 pub mod journal;
 pub mod model;
 pub mod run;
 pub mod sampler;
+pub mod text;
 
 use bound::Bound;
 use model::Refusal;

@@ -14,29 +14,29 @@ pub const NAME: u16 = 8;
 pub const ORDER: u16 = 9;
 pub const DEEP: u16 = 10;
 
-const RES: u16 = 1;
-const BIN: u16 = 2;
-const SYNC: u16 = 3;
-const VAR: u16 = 4;
-const CLASS: u16 = 5;
-const BLOCK: u16 = 6;
-const ENTITY: u16 = 7;
-const SAMPLER: u16 = 8;
-const HOLD: u16 = 16;
-const PRIO: u16 = 17;
-const SET: u16 = 18;
-const LSET: u16 = 19;
-const DO: u16 = 20;
-const PUTR: u16 = 21;
-const PUTB: u16 = 22;
-const PUTS: u16 = 23;
-const BECOME: u16 = 24;
-const REQ: u16 = 25;
-const TRY: u16 = 26;
-const WHILE: u16 = 27;
-const START: u16 = 28;
-const TRACE: u16 = 29;
-const CLOSE: u16 = 30;
+pub(crate) const RES: u16 = 1;
+pub(crate) const BIN: u16 = 2;
+pub(crate) const SYNC: u16 = 3;
+pub(crate) const VAR: u16 = 4;
+pub(crate) const CLASS: u16 = 5;
+pub(crate) const BLOCK: u16 = 6;
+pub(crate) const ENTITY: u16 = 7;
+pub(crate) const SAMPLER: u16 = 8;
+pub(crate) const HOLD: u16 = 16;
+pub(crate) const PRIO: u16 = 17;
+pub(crate) const SET: u16 = 18;
+pub(crate) const LSET: u16 = 19;
+pub(crate) const DO: u16 = 20;
+pub(crate) const PUTR: u16 = 21;
+pub(crate) const PUTB: u16 = 22;
+pub(crate) const PUTS: u16 = 23;
+pub(crate) const BECOME: u16 = 24;
+pub(crate) const REQ: u16 = 25;
+pub(crate) const TRY: u16 = 26;
+pub(crate) const WHILE: u16 = 27;
+pub(crate) const START: u16 = 28;
+pub(crate) const TRACE: u16 = 29;
+pub(crate) const CLOSE: u16 = 30;
 
 pub const GET_R: u8 = 0;
 pub const GET_B: u8 = 1;
@@ -163,7 +163,7 @@ pub struct Model {
     pub samplers: Vec<Sampler>,
 }
 
-enum Record {
+pub(crate) enum Record {
     Res(u32),
     Bin(u32),
     Sync,
@@ -566,30 +566,28 @@ impl Record {
 
 /// The model, or the first of checks 1 to 10 that it fails.
 pub fn decode(bytes: &[u8]) -> Result<Model, Refusal> {
+    check_length(bytes)?;
+    let (records, declared) = read(bytes)?;
+    check_names(&records, &declared)?;
+    check_depths(records)
+}
+
+/// What a text's records are put to while it is being read: the length, 4 to 7 and 10. Checks 1 to 3, which `read`
+/// makes too, hold for all that a text writes.
+pub(crate) fn check_so_far(bytes: &[u8]) -> Result<(), Refusal> {
+    check_length(bytes)?;
+    let (records, _) = read(bytes)?;
+    check_depths(records).map(|_| ())
+}
+
+fn check_length(bytes: &[u8]) -> Result<(), Refusal> {
     if bytes.len() > MOST_BYTES {
         return Err(Refusal {
             number: MANY,
             place: 0,
         });
     }
-    let (records, declared) = read(bytes)?;
-    check_names(&records, &declared)?;
-    let class_places: Vec<usize> = records
-        .iter()
-        .filter(|(_, record)| matches!(record, Record::Class(_)))
-        .map(|(place, _)| *place)
-        .collect();
-    let model = build(records);
-    let depths = depths(&model);
-    for (body, place) in model.classes.iter().zip(class_places) {
-        if depths[usize::from(*body)] > MOST_NESTED {
-            return Err(Refusal {
-                number: DEEP,
-                place,
-            });
-        }
-    }
-    Ok(model)
+    Ok(())
 }
 
 /// Record by record 1 to 7; gives each record with its byte place.
@@ -646,6 +644,27 @@ fn check_names(records: &[(usize, Record)], declared: &Counts) -> Result<(), Ref
         }
     }
     Ok(())
+}
+
+/// Class by class 10; gives the model. A class whose body is still to come (NAME, of a whole file) nests nothing.
+fn check_depths(records: Vec<(usize, Record)>) -> Result<Model, Refusal> {
+    let class_places: Vec<usize> = records
+        .iter()
+        .filter(|(_, record)| matches!(record, Record::Class(_)))
+        .map(|(place, _)| *place)
+        .collect();
+    let model = build(records);
+    let depths = depths(&model);
+    for (body, place) in model.classes.iter().zip(class_places) {
+        let depth = depths.get(usize::from(*body));
+        if depth.is_some_and(|depth| *depth > MOST_NESTED) {
+            return Err(Refusal {
+                number: DEEP,
+                place,
+            });
+        }
+    }
+    Ok(model)
 }
 
 fn build(records: Vec<(usize, Record)>) -> Model {

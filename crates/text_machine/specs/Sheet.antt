@@ -82,7 +82,7 @@ outer (l ∷ ls) = ls
 
 -- The draft with which an etry goes on.
 abbrev pub resumed : Option Kept → Draft
-resumed none = begin 0 0 0
+resumed none = begin 0 K.TRY 0
 resumed (some x) = withBody (begin (x .line) K.TRY 0) (x .body) false (length (x .body))
 
 -- A record's bytes, and how many they are.

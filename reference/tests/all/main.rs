@@ -1,4 +1,4 @@
-//! All tests of the second program, through its library and through the program `plan`.
+//! All tests of the second program, through its library and through the programs `plan` and `records`.
 
 mod amounts;
 mod bounds;
@@ -9,4 +9,5 @@ mod random;
 mod refusals;
 mod samplers;
 mod steps;
+mod text;
 mod waits;

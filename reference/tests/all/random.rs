@@ -9,10 +9,10 @@ use reference::sampler::MOST_SEED;
 use std::collections::BTreeMap;
 
 /// A plain xorshift generator, so that every test run sees the same models.
-struct Random(u64);
+pub struct Random(pub u64);
 
 impl Random {
-    fn below(&mut self, end: u32) -> u32 {
+    pub fn below(&mut self, end: u32) -> u32 {
         self.0 ^= self.0 << 13;
         self.0 ^= self.0 >> 7;
         self.0 ^= self.0 << 17;

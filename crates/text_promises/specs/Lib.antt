@@ -1,0 +1,14 @@
+pub mod Cuts
+pub mod Owners
+pub mod Judged
+pub mod Says
+pub mod Truncated
+pub mod Fitting
+pub mod Flow
+pub mod Height
+pub mod Drafts
+pub mod Expressions
+pub mod Claims
+pub mod Starts
+pub mod Sheets
+pub mod Actions

@@ -1,0 +1,6 @@
+pub mod Next
+pub mod Parts
+pub mod Tests
+pub mod Found
+pub mod Steps
+pub mod One
