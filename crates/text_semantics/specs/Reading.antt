@@ -164,7 +164,7 @@ upto b = one (aNumber b)
 abbrev pub whole : {d : ℕ} → Ex (factor d) → Ex (factors d) × Ex (terms d) → Ex (expression d)
 whole f m = sum (product f (m .0)) (m .1)
 
--- ( n ) and ( x , n ), and an expression up to what closes it.
+-- ( x , n ), an expression up to what closes it, and two of them in brackets.
 abbrev pub pairS : ℕ → List Symbol → List Symbol
 pairS b ns = sign K.LP ∷ nameS ∷ sign K.COMMA ∷ upto b ∷ sign K.RP ∷ ns
 

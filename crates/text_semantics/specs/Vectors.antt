@@ -3,14 +3,16 @@
 use Prim.Native.Nat.{ℕ}
 use Prim.Native.String.{String}
 use mathlib.Core.Path.{_≡_, refl, sym, ap, _∙_}
-use mathlib.Core.List.{List, [], _∷_, map}
+use mathlib.Core.List.{List, [], _∷_, _++_, map}
 use mathlib.Core.Bool.{not}
 use lib.Dec.{eqb}
 use lib.ListN.{length}
-use lib.IntN.{pos}
+use lib.IntN.{pos, negsuc}
 use Rattle.semantics.specs.Words.{keep, firstAt, collect}
 use Rattle.semantics.specs.Model as M
 use Rattle.semantics.specs.Record as R
+use Rattle.semantics.specs.Decode as D
+use Rattle.semantics.specs.Decode.{decode}
 use Rattle.semantics.specs.Plans as P
 use Rattle.text_semantics.specs.Numbers as No
 use Rattle.text_semantics.specs.Lexing.{ascii}
@@ -147,3 +149,58 @@ nestedRecords =
 the-nested : to nested ≡ written (collect W.bytesOf nestedRecords)
 unfolding answer W.bytesOf
 the-nested = refl
+
+-- One of nearly everything: a comment, what binds how, a minus before a bare number, each kind of item, what is handed over.
+abbrev words : String
+words =
+    "bin(b, 2); sync(s); # a note\nsampler(d, 1, 6, 7); var(v, -1); res(r, 3); class c { local x; x := greater(d, clock) + lesser(x, v) * 2; req [getB(b, 1), getS(s, 2), v <> -5]; start(c, 4, [(r, 1)]); putB(b, 1); priority(--5); become(s); putS(s, 2); while [v >= 0] { hold(-(3)); } } entity(c, 9);"
+
+abbrev inClass : List M.Action
+inClass =
+    M.LSET 0 (M.add (M.greater (M.draw 0) M.theClock) (M.multiply (M.lesser (M.local 0) (M.global 0)) (M.literal (pos 2))))
+    ∷ M.REQ (M.get M.bin 0 1 ∷ M.get M.sync 0 2 ∷ M.condition 0 M.differs (negsuc 4) ∷ [])
+    ∷ M.START 0 4 (record { of = 0; amount = 1 } ∷ [])
+    ∷ M.PUTB 0 1 ∷ M.PRIO (M.negate (M.literal (negsuc 4))) ∷ M.BECOME 0 ∷ M.PUTS 0 2
+    ∷ M.WHILE 1 (M.condition 0 M.atLeast (pos 0) ∷ [])
+    ∷ []
+
+abbrev inWhile : List M.Action
+inWhile = M.HOLD (M.negate (M.literal (pos 3))) ∷ []
+
+abbrev wordsBytes : List ℕ
+wordsBytes =
+    collect W.bytesOf
+    (R.BIN 2 ∷ R.SYNC ∷ R.SAMPLER (record { lowest = pos 1; highest = pos 6; seed = 7 }) ∷ R.VAR (negsuc 0) ∷ R.RES 3 ∷ R.CLASS 0
+    ∷ R.ENTITY (record { class = 0; offset = 9 })
+    ∷ R.BLOCK ∷ map R.ACTION inClass ++ (R.BLOCK ∷ map R.ACTION inWhile))
+
+the-words : to words ≡ written wordsBytes
+unfolding answer W.bytesOf
+the-words = refl
+
+-- .. and what is written is read as what was said.
+the-words-read : decode wordsBytes
+    ≡ D.accepted (record {
+      totals = 3 ∷ [];
+      amounts = 2 ∷ [];
+      syncs = 1;
+      vars = negsuc 0 ∷ [];
+      classes = 0 ∷ [];
+      entities = record { class = 0; offset = 9 } ∷ [];
+      samplers = record { lowest = pos 1; highest = pos 6; seed = 7 } ∷ [];
+      blocks = inClass ∷ inWhile ∷ [];
+    })
+unfolding decode W.bytesOf
+the-words-read = refl
+
+-- Just enough room; and the checks come before the room.
+abbrev enough : ℕ
+enough = 72
+
+the-last-byte : answer (ascii twoJobs) enough ≡ written P.example
+unfolding answer
+the-last-byte = refl ∙ ap written (sym P.the-72-bytes)
+
+the-54-first : answer (ascii "class c; entity(c, 0);") 0 ≡ refused No.CHECKS 0
+unfolding answer
+the-54-first = refl

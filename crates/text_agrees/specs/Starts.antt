@@ -21,11 +21,11 @@ use Rattle.text_semantics.specs.Reading.{Symbol, one, the, aName, aNumber, give
 use Rattle.text_machine.specs.Entry.{Draft, KEPT, asking, put, oneMore, putCount, withRole, atSign, atNumber, drafted}
 use Rattle.text_machine.specs.Sheet.{blocksOf}
 use Rattle.text_machine.specs.Machine.{Reader, draftAfter, sheetAfter, knownAfter, after}
-use Rattle.text_promises.specs.Flow.{effect, flow}
-use Rattle.text_promises.specs.Drafts.{Whole, put-put}
-use Rattle.text_promises.specs.Expressions.{redrafted}
-use Rattle.text_promises.specs.Claims.{shaped, shaped-put, tooLong, counts-more, still-short, length-map, collect-map, Goes, known}
-use Rattle.text_promises.specs.Claims.{name-goes, number-goes}
+use Rattle.text_agrees.specs.Flow.{effect, flow}
+use Rattle.text_agrees.specs.Drafts.{Whole, put-put}
+use Rattle.text_agrees.specs.Expressions.{redrafted}
+use Rattle.text_agrees.specs.Claims.{shaped, shaped-put, tooLong, counts-more, still-short, length-map, collect-map, Goes, known}
+use Rattle.text_agrees.specs.Claims.{name-goes, number-goes}
 
 abbrev pub pastGiven : List G.Give → ℕ → ℕ
 pastGiven [] at = at

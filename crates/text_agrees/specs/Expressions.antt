@@ -27,8 +27,8 @@ use Rattle.text_semantics.specs.Reading.{round, comma, semi, sign}
 use Rattle.text_machine.specs.Entry.{Draft, DEPTH, Start, put, putAt, withStarts, opens, isExpression, opOf, atSign, atFactor, atMinus}
 use Rattle.text_machine.specs.Entry.{atMore, drafted, newTerm, asking, oneMore}
 use Rattle.text_machine.specs.Machine.{Reader, draftAfter, sheetAfter, knownAfter, after}
-use Rattle.text_promises.specs.Flow.{nextIn, effect, flow, fits-true}
-use Rattle.text_promises.specs.Drafts.{Whole, put-put, whole-put, put-before}
+use Rattle.text_agrees.specs.Flow.{nextIn, effect, flow, fits-true}
+use Rattle.text_agrees.specs.Drafts.{Whole, put-put, whole-put, put-before}
 
 -- The reader with another draft.
 abbrev pub redrafted : Reader → Draft → Reader

@@ -27,14 +27,14 @@ use Rattle.text_machine.specs.Entry.{atMore, isExpression}
 use Rattle.text_machine.specs.Sheet as S
 use Rattle.text_machine.specs.Sheet.{Sheet, blocksOf, keptIn, resumed, settled, closed, acts, tries, braces}
 use Rattle.text_machine.specs.Machine.{Reader, draftAfter, sheetAfter, knownAfter, after}
-use Rattle.text_promises.specs.Flow.{effect, flow}
-use Rattle.text_promises.specs.Drafts.{Whole, put-put, whole-put}
-use Rattle.text_promises.specs.Sheets.{deepness, acts-deep, settled-deep, tries-deep, braces-deep, closed-deep}
-use Rattle.text_promises.specs.Expressions as E
-use Rattle.text_promises.specs.Expressions.{redrafted, past, Ready, kind-put}
-use Rattle.text_promises.specs.Claims as C
-use Rattle.text_promises.specs.Claims.{shaped, pastClaim, Claiming}
-use Rattle.text_promises.specs.Starts.{pastGives, gives-go}
+use Rattle.text_agrees.specs.Flow.{effect, flow}
+use Rattle.text_agrees.specs.Drafts.{Whole, put-put, whole-put}
+use Rattle.text_agrees.specs.Sheets.{deepness, acts-deep, settled-deep, tries-deep, braces-deep, closed-deep}
+use Rattle.text_agrees.specs.Expressions as E
+use Rattle.text_agrees.specs.Expressions.{redrafted, past, Ready, kind-put}
+use Rattle.text_agrees.specs.Claims as C
+use Rattle.text_agrees.specs.Claims.{shaped, pastClaim, Claiming}
+use Rattle.text_agrees.specs.Starts.{pastGives, gives-go}
 
 -- How many tokens stand before what follows.
 abbrev pub pastAct : {k : Kind} → Act k → ℕ → ℕ
@@ -108,7 +108,7 @@ symbol some-actions = actionsS
 symbol after-try = tryS
 symbol first-lines = linesS
 
-by-block : (P : Symbol → Type 0) (b : Block) → P actionsS → P tryS → P linesS → P (symbol b)
+pub by-block : (P : Symbol → Type 0) (b : Block) → P actionsS → P tryS → P linesS → P (symbol b)
 by-block P some-actions x y z = x
 by-block P after-try x y z = y
 by-block P first-lines x y z = z
@@ -366,7 +366,7 @@ module _ (place : ℕ → ℕ) (r : Reader) where
       ≡ flow place (suc at) ts us (resheeted r e (closed s))) b go go go)
 
   -- What is made of actions leaves as many blocks open as there were.
-  made-deep : {k : Kind} (a : Act k) (at : ℕ) (s : Sheet) → deepness (made a at s) ≡ deepness s
+  pub made-deep : {k : Kind} (a : Act k) (at : ℕ) (s : Sheet) → deepness (made a at s) ≡ deepness s
   unfolding sheeted
   made-deep (G.hold e) at s = acts-deep _ (settled s) ∙ settled-deep s
   made-deep (G.priority e) at s = acts-deep _ (settled s) ∙ settled-deep s

@@ -8,18 +8,20 @@ use mathlib.Core.Bool.{Bool, true, false, _||_}
 use mathlib.Core.Option.{Option, none, some}
 use lib.Dec.{leb, ltb}
 use lib.ListN.{length}
-use Rattle.semantics.specs.Words.{if_then_else_}
+use Rattle.semantics.specs.Words.{if_then_else_, more}
 use Rattle.semantics.specs.Numbers as F
 use Rattle.semantics.specs.Kinds as K
+use Rattle.text_semantics.specs.Written.{two}
 use Rattle.text_machine.specs.Entry.{Draft}
 use Rattle.text_machine.specs.Sheet.{Sheet, Level, Kept, keeping, outer, headed, keptIn, letGo, branches, stands, settled, closed, counts, acts}
-use Rattle.text_machine.specs.Sheet.{tries, braces, filled, withPieces, withLast}
+use Rattle.text_machine.specs.Sheet.{tries, braces, filled, withPieces, withLast, withTotal, DECLARED, classBytes, long, declaring, declares}
+use Rattle.text_machine.specs.Sheet.{classed, classes, bodied}
 
 abbrev pub deepness : Sheet → ℕ
 deepness s = length (s .levels)
 
 -- A choice between two sheets with the same blocks.
-either : (b : Bool) (x y : Sheet) (n : ℕ) → deepness x ≡ n → deepness y ≡ n → deepness (if b then x else y) ≡ n
+pub either : (b : Bool) (x y : Sheet) (n : ℕ) → deepness x ≡ n → deepness y ≡ n → deepness (if b then x else y) ≡ n
 either true x y n e f = e
 either false x y n e f = f
 
@@ -68,3 +70,26 @@ outer-deep (l ∷ ls) n e = omega arith
 pub closed-deep : (s : Sheet) (n : ℕ) → deepness s ≡ suc n → deepness (closed s) ≡ n
 unfolding closed
 closed-deep s n e = outer-deep (settled s .levels) n (settled-deep s ∙ e)
+
+-- Declarations open no block.
+declaring-deep : (bs : List ℕ) (s : Sheet) → deepness (declaring bs s) ≡ deepness s
+unfolding declaring
+declaring-deep bs s = either (ltb DECLARED (length (s .declared) + length bs)) (filled s) _ (deepness s) refl refl
+
+classed-deep : (p : ℕ) (s : Sheet) → deepness (classed p s) ≡ deepness s
+unfolding classed
+classed-deep p s = either (leb F.mostClasses (length (s .classAt))) (filled s) _ (deepness s) refl refl
+
+pub classes-deep : (p b : ℕ) (s : Sheet) → deepness (classes p b s) ≡ deepness s
+unfolding classes
+classes-deep p b s =
+    let t : Sheet = withTotal s (more (s .seen) K.CLASS 1) classBytes in
+    declaring-deep (headed K.CLASS (two b)) (classed p t) ∙ classed-deep p t
+
+pub bodied-deep : (c b : ℕ) (s : Sheet) → deepness (bodied c b s) ≡ deepness s
+unfolding bodied
+bodied-deep c b s = refl
+
+pub declares-deep : (d : Draft) (s : Sheet) → deepness (declares d s) ≡ deepness s
+unfolding declares
+declares-deep d s = declaring-deep (headed (d .kind) (d .body)) (withTotal s (more (s .seen) (d .kind) 1) (long d))

@@ -19,7 +19,7 @@ use Rattle.text_semantics.specs.Reading.{choose, rows, step, sign, nameS, upto,
 use Rattle.text_semantics.specs.Reading.{minusS, more, signedS, relationS, itemS, claimS, itemsS, givesS, givenS, actionsS, tryS}
 use Rattle.text_semantics.specs.Reading.{fewS, linesS, bodyS, textS, Closer, round, comma, semi}
 use Rattle.text_machine.specs.Machine.{highestPile}
-use Rattle.text_promises.specs.Flow.{nextIn}
+use Rattle.text_agrees.specs.Flow.{nextIn}
 
 -- THE PILES that tokens which fit make of a pile.
 abbrev pub onto : {s : Symbol} {t : Token} → List Symbol → Option (Rule Of say s t) → (List Symbol → Option (List Symbol))

@@ -24,9 +24,9 @@ use Rattle.text_machine.specs.Entry.{Draft, Start, KEPT, FULL, ASK, asking, put
 use Rattle.text_machine.specs.Entry.{atSign, atName, atNumber, atItem, getting, withRole, withAside, drafted}
 use Rattle.text_machine.specs.Sheet.{blocksOf}
 use Rattle.text_machine.specs.Machine.{Reader, draftAfter, sheetAfter, knownAfter, after}
-use Rattle.text_promises.specs.Flow.{nextIn, effect, flow}
-use Rattle.text_promises.specs.Drafts.{Whole, put-put, whole-put}
-use Rattle.text_promises.specs.Expressions.{redrafted, next-number, fits-number}
+use Rattle.text_agrees.specs.Flow.{nextIn, effect, flow}
+use Rattle.text_agrees.specs.Drafts.{Whole, put-put, whole-put}
+use Rattle.text_agrees.specs.Expressions.{redrafted, next-number, fits-number}
 
 -- A draft with what the next name is for, its count and where that stands, and the number that waits.
 abbrev pub shaped : Draft → ℕ → ℕ → ℕ → ℕ → Draft

@@ -1,0 +1,9 @@
+pub mod Flow
+pub mod Height
+pub mod Drafts
+pub mod Expressions
+pub mod Claims
+pub mod Starts
+pub mod Sheets
+pub mod Actions
+pub mod Declared

@@ -1,0 +1,1 @@
+// That the machine answers what the definitions say is in specs/; this crate has no code.
