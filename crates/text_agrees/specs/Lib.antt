@@ -7,3 +7,7 @@ pub mod Starts
 pub mod Sheets
 pub mod Actions
 pub mod Declared
+pub mod Events
+pub mod Clues
+pub mod Tales
+pub mod Counts

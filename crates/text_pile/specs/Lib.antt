@@ -1,0 +1,3 @@
+pub mod Pile
+pub mod Table
+pub mod Laws
