@@ -1,33 +1,33 @@
 -- What the actions of a text make of the machine's sheet: the record of each, put where it stands; blocks opened and closed.
 -- Assumes nothing.
-use Prim.Native.Nat.{ℕ, zero, suc, _+_, _≤_, _<_}
+use Prim.Native.Nat.{ℕ, suc, _+_, _≤_}
 use native.Mathlib.Omega.{arith}
-use mathlib.Core.Path.{_≡_, refl, sym, _∙_, ap, subst}
+use mathlib.Core.Path.{_≡_, refl, sym, _∙_, ap}
 use mathlib.Core.List.{List, [], _∷_, _++_, append-nil}
 use mathlib.Core.Bool.{Bool, true, false}
 use mathlib.Core.Option.{Option, none, some}
 use lib.Dec.{eqb, ltb}
 use lib.ListN.{length, length-set}
 use borrow.Author.Tests.{ne-eqb, eq-eqb}
-use Rattle.semantics.specs.Words.{if_then_else_, collect}
+use Rattle.semantics.specs.Words.{if_then_else_}
 use Rattle.semantics.specs.Kinds as K
 use Rattle.semantics.specs.Model as M
 use Rattle.semantics.specs.Model.{Action}
 use Rattle.text_semantics.specs.Numbers as No
 use Rattle.text_semantics.specs.Token as Tk
-use Rattle.text_semantics.specs.Token.{Token, number, mark, name}
+use Rattle.text_semantics.specs.Token.{Token, number, mark}
 use Rattle.text_semantics.specs.Grammar as G
 use Rattle.text_semantics.specs.Grammar.{Name, Kind, Act, spell, spellAct, spellClaim, spellGives}
 use Rattle.text_semantics.specs.Names.{Known, knows, leaves}
 use Rattle.text_semantics.specs.Meaning.{kindOf, numberOf, means, storeIn, claimOf, sharesOf, branch}
-use Rattle.text_semantics.specs.Written.{two, four, counted, claimBytes, shareBytes, itemBytes, nodesOf, actionBody}
+use Rattle.text_semantics.specs.Written.{two, four, counted, claimBytes, shareBytes, nodesOf, actionBody}
 use Rattle.text_semantics.specs.Reading.{Symbol, claimS, givesS, actionsS, tryS, linesS, sign, upto, wholeS, semi}
-use Rattle.text_machine.specs.Entry.{Draft, begin, put, branching, asking, putCount, withRole, opens, drafted, atSign, atNumber, atAction}
-use Rattle.text_machine.specs.Entry.{atMore, isExpression}
+use Rattle.text_machine.specs.Entry.{Draft, begin, put, branching, asking}
+use Rattle.text_machine.specs.Entry.{isExpression}
 use Rattle.text_machine.specs.Sheet as S
 use Rattle.text_machine.specs.Sheet.{Sheet, blocksOf, keptIn, resumed, settled, closed, acts, tries, braces}
-use Rattle.text_machine.specs.Machine.{Reader, draftAfter, sheetAfter, knownAfter, after}
-use Rattle.text_agrees.specs.Flow.{effect, flow}
+use Rattle.text_machine.specs.Machine.{Reader}
+use Rattle.text_agrees.specs.Flow.{flow}
 use Rattle.text_agrees.specs.Drafts.{Whole, put-put, whole-put}
 use Rattle.text_agrees.specs.Sheets.{deepness, acts-deep, settled-deep, tries-deep, braces-deep, closed-deep}
 use Rattle.text_agrees.specs.Expressions as E
@@ -72,7 +72,8 @@ module _ (place : ℕ → ℕ) (ks : List Known) where
   sheeted (G.trace e) at s = acts (wrote (place at) (M.TRACE (means ks e))) (settled s)
   sheeted (G.set x e) at s = acts (wrote (place at) (storeIn ks x (means ks e))) (settled s)
   sheeted (G.repeat n b) at s =
-      closed (sheeted b (suc (suc (suc at))) (braces (acts (wrote (place at) (M.DO (n .value) (blocksOf (settled s)))) (settled s))))
+      closed (sheeted b (suc (suc (suc at))) (braces
+      (acts (wrote (place at) (M.DO (n .value) (blocksOf (settled s)))) (settled s))))
   sheeted (G.putR x n) at s = acts (wrote (place at) (M.PUTR (numberOf ks x) (n .value))) (settled s)
   sheeted (G.putB x n) at s = acts (wrote (place at) (M.PUTB (numberOf ks x) (n .value))) (settled s)
   sheeted (G.putS x n) at s = acts (wrote (place at) (M.PUTS (numberOf ks x) (n .value))) (settled s)
@@ -152,28 +153,37 @@ module _ (place : ℕ → ℕ) (r : Reader) where
       ≡ flow place (pastAct a at) ts (actionsS ∷ us) (resheeted r (wrote (place at) m) (acts (wrote (place at) m) (settled s)))
 
   hold-goes : (x : G.Expression) → Acts (G.hold x)
-  unfolding flow effect draftAfter sheetAfter knownAfter after drafted atSign atAction put actionBody sheeted
+  unfolding flow actionBody sheeted
   hold-goes x d s b at ts us l =
       let q : Reader = resheeted r d (settled s) in
       let go = E.bracket-goes place q x (E.does place q x) (begin (place at) K.HOLD 0) (ready (place at) K.HOLD refl)
-          (suc (suc at)) (mark Tk.SEMI ∷ ts) (sign Tk.SEMI ∷ actionsS ∷ us) in
-      (wrote (place at) (M.HOLD (means (r .known) x)), by-block (Goes-on (G.hold x) d s at ts us (M.HOLD (means (r .known) x))) b go go go)
+      (suc (suc at)) (mark Tk.SEMI ∷ ts) (sign Tk.SEMI ∷ actionsS ∷ us) in (
+        wrote (place at) (M.HOLD (means (r .known) x)),
+        by-block
+            (Goes-on (G.hold x) d s at ts us (M.HOLD (means (r .known) x))) b go go go,
+      )
 
   priority-goes : (x : G.Expression) → Acts (G.priority x)
-  unfolding flow effect draftAfter sheetAfter knownAfter after drafted atSign atAction put actionBody sheeted
+  unfolding flow actionBody sheeted
   priority-goes x d s b at ts us l =
       let q : Reader = resheeted r d (settled s) in
       let go = E.bracket-goes place q x (E.does place q x) (begin (place at) K.PRIO 0) (ready (place at) K.PRIO refl)
-          (suc (suc at)) (mark Tk.SEMI ∷ ts) (sign Tk.SEMI ∷ actionsS ∷ us) in
-      (wrote (place at) (M.PRIO (means (r .known) x)), by-block (Goes-on (G.priority x) d s at ts us (M.PRIO (means (r .known) x))) b go go go)
+      (suc (suc at)) (mark Tk.SEMI ∷ ts) (sign Tk.SEMI ∷ actionsS ∷ us) in (
+        wrote (place at) (M.PRIO (means (r .known) x)),
+        by-block
+            (Goes-on (G.priority x) d s at ts us (M.PRIO (means (r .known) x))) b go go go,
+      )
 
   trace-goes : (x : G.Expression) → Acts (G.trace x)
-  unfolding flow effect draftAfter sheetAfter knownAfter after drafted atSign atAction put actionBody sheeted
+  unfolding flow actionBody sheeted
   trace-goes x d s b at ts us l =
       let q : Reader = resheeted r d (settled s) in
       let go = E.bracket-goes place q x (E.does place q x) (begin (place at) K.TRACE 0) (ready (place at) K.TRACE refl)
-          (suc (suc at)) (mark Tk.SEMI ∷ ts) (sign Tk.SEMI ∷ actionsS ∷ us) in
-      (wrote (place at) (M.TRACE (means (r .known) x)), by-block (Goes-on (G.trace x) d s at ts us (M.TRACE (means (r .known) x))) b go go go)
+      (suc (suc at)) (mark Tk.SEMI ∷ ts) (sign Tk.SEMI ∷ actionsS ∷ us) in (
+        wrote (place at) (M.TRACE (means (r .known) x)),
+        by-block
+            (Goes-on (G.trace x) d s at ts us (M.TRACE (means (r .known) x))) b go go go,
+      )
 
   -- x := e, of a variable or a local.
   module _ (kind : ℕ) (expression : isExpression kind ≡ true) (action : ltb kind K.ACTION ≡ false) (p i : ℕ) (e : G.Expression)
@@ -185,20 +195,22 @@ module _ (place : ℕ → ℕ) (r : Reader) where
         flow place at (mark Tk.BECOMES ∷ spell e (mark Tk.SEMI ∷ ts)) (sign Tk.BECOMES ∷ wholeS No.brackets semi (actionsS ∷ us))
         (redrafted q (put (begin p kind 0) (two i)))
         ≡ flow place (suc (past e (suc at))) ts (actionsS ∷ us) (resheeted q stored (acts stored (q .sheet)))
-    unfolding flow effect draftAfter sheetAfter knownAfter after drafted atSign atMore put
+    unfolding flow
     store-goes at ts us =
         let d : Draft = put (begin p kind 0) (two i) in
-        let h : Ready (suc No.brackets) d = record { whole = record { sized = λ z. refl }; expression = expression; deep = refl } in
+        let h : Ready (suc No.brackets) d = record
+        { whole = record { sized = λ z. refl }; expression = expression; deep = refl } in
         E.does place q e d h semi .1 (suc at) (mark Tk.SEMI ∷ ts) (actionsS ∷ us)
         ∙ ap (λ (b : Bool). flow place (suc (past e (suc at))) ts (actionsS ∷ us)
         (resheeted q (put d (nodesOf (means (q .known) e)))
-        (if b then S.declares (put d (nodesOf (means (q .known) e))) (q .sheet) else acts (put d (nodesOf (means (q .known) e))) (q .sheet))))
+        (if b then S.declares (put d (nodesOf (means (q .known) e))) (q .sheet) else acts (put d (nodesOf (means (q .known) e)))
+        (q .sheet))))
         action
         ∙ ap (λ (y : Draft). flow place (suc (past e (suc at))) ts (actionsS ∷ us) (resheeted q y (acts y (q .sheet))))
         (put-put (begin p kind 0) (two i) (nodesOf (means (q .known) e)))
 
   set-goes : (x : Name) (e : G.Expression) → Acts (G.set x e)
-  unfolding flow effect draftAfter sheetAfter knownAfter after drafted atSign atAction put actionBody sheeted
+  unfolding flow actionBody sheeted
   set-goes x e d s b at ts us l = go (eqb (kindOf (r .known) x) K.VAR) refl
     where
       q : Reader
@@ -208,16 +220,19 @@ module _ (place : ℕ → ℕ) (r : Reader) where
       from v = redrafted q (put (begin (place at) (if v then K.SET else K.LSET) 0) (two (numberOf (r .known) x)))
 
       begun : flow place at (spellAct (G.set x e) ts) (symbol b ∷ us) (resheeted r d s)
-          ≡ flow place (suc at) (mark Tk.BECOMES ∷ spell e (mark Tk.SEMI ∷ ts)) (sign Tk.BECOMES ∷ wholeS No.brackets semi (actionsS ∷ us))
+          ≡ flow place (suc at) (mark Tk.BECOMES ∷ spell e (mark Tk.SEMI ∷ ts))
+          (sign Tk.BECOMES ∷ wholeS No.brackets semi (actionsS ∷ us))
           (from (eqb (kindOf (r .known) x) K.VAR))
       begun =
           by-block (λ (z : Symbol). flow place at (spellAct (G.set x e) ts) (z ∷ us) (resheeted r d s)
-          ≡ flow place (suc at) (mark Tk.BECOMES ∷ spell e (mark Tk.SEMI ∷ ts)) (sign Tk.BECOMES ∷ wholeS No.brackets semi (actionsS ∷ us))
+          ≡ flow place (suc at) (mark Tk.BECOMES ∷ spell e (mark Tk.SEMI ∷ ts))
+          (sign Tk.BECOMES ∷ wholeS No.brackets semi (actionsS ∷ us))
           (from (eqb (kindOf (r .known) x) K.VAR))) b refl refl refl
 
       first : (v : Bool) → eqb (kindOf (r .known) x) K.VAR ≡ v →
           flow place at (spellAct (G.set x e) ts) (symbol b ∷ us) (resheeted r d s)
-          ≡ flow place (suc at) (mark Tk.BECOMES ∷ spell e (mark Tk.SEMI ∷ ts)) (sign Tk.BECOMES ∷ wholeS No.brackets semi (actionsS ∷ us))
+          ≡ flow place (suc at) (mark Tk.BECOMES ∷ spell e (mark Tk.SEMI ∷ ts))
+          (sign Tk.BECOMES ∷ wholeS No.brackets semi (actionsS ∷ us))
           (from v)
       first v h =
           begun
@@ -226,24 +241,30 @@ module _ (place : ℕ → ℕ) (r : Reader) where
 
       last : (f : Draft) (v : Bool) → eqb (kindOf (r .known) x) K.VAR ≡ v →
           flow place (suc (past e (suc (suc at)))) ts (actionsS ∷ us) (resheeted r f (acts (wrote (place at)
-          (if v then M.SET (numberOf (r .known) x) (means (r .known) e) else M.LSET (numberOf (r .known) x) (means (r .known) e))) (settled s)))
+          (if v then M.SET (numberOf (r .known) x) (means (r .known) e) else M.LSET (numberOf (r .known) x)
+          (means (r .known) e))) (settled s)))
           ≡ flow place (suc (past e (suc (suc at)))) ts (actionsS ∷ us) (resheeted r f (made (G.set x e) at s))
       last f v h =
           ap (λ (u : Bool). flow place (suc (past e (suc (suc at)))) ts (actionsS ∷ us) (resheeted r f (acts (wrote (place at)
-          (if u then M.SET (numberOf (r .known) x) (means (r .known) e) else M.LSET (numberOf (r .known) x) (means (r .known) e))) (settled s))))
+          (if u then M.SET (numberOf (r .known) x) (means (r .known) e) else M.LSET (numberOf (r .known) x)
+          (means (r .known) e))) (settled s))))
           (sym h)
 
       go : (v : Bool) → eqb (kindOf (r .known) x) K.VAR ≡ v → (f : Draft)
           × (flow place at (spellAct (G.set x e) ts) (symbol b ∷ us) (resheeted r d s)
           ≡ flow place (pastAct (G.set x e) at) ts (actionsS ∷ us) (resheeted r f (made (G.set x e) at s)))
       go true h =
-          let i : ℕ = numberOf (r .known) x in
-          (stored K.SET refl refl (place at) i e q,
-          first true h ∙ store-goes K.SET refl refl (place at) i e q (suc at) ts us ∙ last (stored K.SET refl refl (place at) i e q) true h)
+          let i : ℕ = numberOf (r .known) x in (
+            stored K.SET refl refl (place at) i e q,
+            first true h ∙ store-goes K.SET refl refl (place at) i e q (suc at) ts us
+                ∙ last (stored K.SET refl refl (place at) i e q) true h,
+          )
       go false h =
-          let i : ℕ = numberOf (r .known) x in
-          (stored K.LSET refl refl (place at) i e q,
-          first false h ∙ store-goes K.LSET refl refl (place at) i e q (suc at) ts us ∙ last (stored K.LSET refl refl (place at) i e q) false h)
+          let i : ℕ = numberOf (r .known) x in (
+            stored K.LSET refl refl (place at) i e q,
+            first false h ∙ store-goes K.LSET refl refl (place at) i e q (suc at) ts us
+                ∙ last (stored K.LSET refl refl (place at) i e q) false h,
+          )
 
   -- From any block symbol: something is left in the draft.
   abbrev From : Act G.action → Draft → Sheet → ℕ → List Token → List Symbol → Draft → Sheet → Symbol → Type 0
@@ -255,25 +276,25 @@ module _ (place : ℕ → ℕ) (r : Reader) where
   plain kind e f = record { noExpression = e; noStart = f }
 
   putR-goes : (x : Name) (n : G.Number) → Acts (G.putR x n)
-  unfolding flow effect draftAfter sheetAfter knownAfter after drafted atSign atAction put actionBody sheeted
+  unfolding flow actionBody sheeted
   putR-goes x n d s b at ts us l =
       let m : Action = M.PUTR (numberOf (r .known) x) (n .value) in
       let f : Draft = shaped (wrote (place at) m) (asking K.RES) 0 0 0 in
       let go = C.pair-goes place (resheeted r d (settled s)) (begin (place at) K.PUTR 0) K.RES 0 0 0 x n (plain K.PUTR refl refl)
-          (suc at) (mark Tk.SEMI ∷ ts) (sign Tk.SEMI ∷ actionsS ∷ us) in
+      (suc at) (mark Tk.SEMI ∷ ts) (sign Tk.SEMI ∷ actionsS ∷ us) in
       (f, by-block (From (G.putR x n) d s at ts us f (acts (wrote (place at) m) (settled s))) b go go go)
 
   putB-goes : (x : Name) (n : G.Number) → Acts (G.putB x n)
-  unfolding flow effect draftAfter sheetAfter knownAfter after drafted atSign atAction put actionBody sheeted
+  unfolding flow actionBody sheeted
   putB-goes x n d s b at ts us l =
       let m : Action = M.PUTB (numberOf (r .known) x) (n .value) in
       let f : Draft = shaped (wrote (place at) m) (asking K.BIN) 0 0 0 in
       let go = C.pair-goes place (resheeted r d (settled s)) (begin (place at) K.PUTB 0) K.BIN 0 0 0 x n (plain K.PUTB refl refl)
-          (suc at) (mark Tk.SEMI ∷ ts) (sign Tk.SEMI ∷ actionsS ∷ us) in
+      (suc at) (mark Tk.SEMI ∷ ts) (sign Tk.SEMI ∷ actionsS ∷ us) in
       (f, by-block (From (G.putB x n) d s at ts us f (acts (wrote (place at) m) (settled s))) b go go go)
 
   putS-goes : (x : Name) (n : G.Count) → Acts (G.putS x n)
-  unfolding flow effect draftAfter sheetAfter knownAfter after drafted atSign atNumber atAction put actionBody sheeted
+  unfolding flow actionBody sheeted
   putS-goes x n d s b at ts us l =
       let m : Action = M.PUTS (numberOf (r .known) x) (n .value) in
       let f : Draft = shaped (wrote (place at) m) (asking K.SYNC) 0 0 0 in
@@ -281,45 +302,47 @@ module _ (place : ℕ → ℕ) (r : Reader) where
       let i : ℕ = numberOf (r .known) x in
       let g : Draft = put (begin (place at) K.PUTS 0) (two i) in
       let go =
-          C.name-goes place q (begin (place at) K.PUTS 0) K.SYNC 0 0 0 x (suc (suc at))
-          (mark Tk.COMMA ∷ number (n .value) ∷ mark Tk.RP ∷ mark Tk.SEMI ∷ ts)
-          (sign Tk.COMMA ∷ upto No.topCount ∷ sign Tk.RP ∷ sign Tk.SEMI ∷ actionsS ∷ us)
-          ∙ C.number-goes place q No.topCount n (shaped g (asking K.SYNC) 0 0 0) (suc (suc (suc (suc at))))
-          (mark Tk.RP ∷ mark Tk.SEMI ∷ ts) (sign Tk.RP ∷ sign Tk.SEMI ∷ actionsS ∷ us)
-          ∙ ap (λ (y : Draft). flow place (pastAct (G.putS x n) at) ts (actionsS ∷ us)
-          (resheeted r (shaped y (asking K.SYNC) 0 0 0) (acts y (settled s)))) (put-put (begin (place at) K.PUTS 0) (two i) (two (n .value))) in
+      C.name-goes place q (begin (place at) K.PUTS 0) K.SYNC 0 0 0 x (suc (suc at))
+      (mark Tk.COMMA ∷ number (n .value) ∷ mark Tk.RP ∷ mark Tk.SEMI ∷ ts)
+      (sign Tk.COMMA ∷ upto No.topCount ∷ sign Tk.RP ∷ sign Tk.SEMI ∷ actionsS ∷ us)
+      ∙ C.number-goes place q No.topCount n (shaped g (asking K.SYNC) 0 0 0) (suc (suc (suc (suc at))))
+      (mark Tk.RP ∷ mark Tk.SEMI ∷ ts) (sign Tk.RP ∷ sign Tk.SEMI ∷ actionsS ∷ us)
+      ∙ ap (λ (y : Draft). flow place (pastAct (G.putS x n) at) ts (actionsS ∷ us)
+      (resheeted r (shaped y (asking K.SYNC) 0 0 0) (acts y (settled s))))
+      (put-put (begin (place at) K.PUTS 0) (two i) (two (n .value))) in
       (f, by-block (From (G.putS x n) d s at ts us f (acts (wrote (place at) m) (settled s))) b go go go)
 
   become-goes : (x : Name) → Acts (G.become x)
-  unfolding flow effect draftAfter sheetAfter knownAfter after drafted atSign atAction put actionBody sheeted
+  unfolding flow actionBody sheeted
   become-goes x d s b at ts us l =
       let m : Action = M.BECOME (numberOf (r .known) x) in
       let f : Draft = shaped (wrote (place at) m) (asking K.SYNC) 0 0 0 in
       let go = C.name-goes place (resheeted r d (settled s)) (begin (place at) K.BECOME 0) K.SYNC 0 0 0 x (suc (suc at))
-          (mark Tk.RP ∷ mark Tk.SEMI ∷ ts) (sign Tk.RP ∷ sign Tk.SEMI ∷ actionsS ∷ us) in
+      (mark Tk.RP ∷ mark Tk.SEMI ∷ ts) (sign Tk.RP ∷ sign Tk.SEMI ∷ actionsS ∷ us) in
       (f, by-block (From (G.become x) d s at ts us f (acts (wrote (place at) m) (settled s))) b go go go)
 
   close-goes : Acts G.close
-  unfolding flow effect draftAfter sheetAfter knownAfter after drafted atSign atAction put actionBody sheeted
+  unfolding flow actionBody sheeted
   close-goes d s b at ts us l =
       let f : Draft = begin (place at) K.CLOSE 0 in
       (f, by-block (From G.close d s at ts us f (acts (wrote (place at) M.CLOSE) (settled s))) b refl refl refl)
 
   req-goes : (c : G.Claim) → Acts (G.req c)
-  unfolding flow effect draftAfter sheetAfter knownAfter after drafted atSign atAction put actionBody sheeted
+  unfolding flow actionBody sheeted
   req-goes c d s b at ts us l =
       let m : Action = M.REQ (claimOf (r .known) c) in
-      let g = C.claim-goes place (resheeted r d (settled s)) (begin (place at) K.REQ 0) (record { sized = λ z. refl }) (plain K.REQ refl refl) c in
+      let g = C.claim-goes place (resheeted r d (settled s)) (begin (place at) K.REQ 0) (record { sized = λ z. refl })
+      (plain K.REQ refl refl) c in
       let go =
-          g .1 (suc at) (mark Tk.SEMI ∷ ts) (sign Tk.SEMI ∷ actionsS ∷ us)
-          ∙ ap (λ (y : Draft). flow place (pastClaim c (suc (suc at))) (mark Tk.SEMI ∷ ts) (sign Tk.SEMI ∷ actionsS ∷ us)
-          (resheeted r y (settled s))) (g .2 .is) in
+      g .1 (suc at) (mark Tk.SEMI ∷ ts) (sign Tk.SEMI ∷ actionsS ∷ us)
+      ∙ ap (λ (y : Draft). flow place (pastClaim c (suc (suc at))) (mark Tk.SEMI ∷ ts) (sign Tk.SEMI ∷ actionsS ∷ us)
+      (resheeted r y (settled s))) (g .2 .is) in
       let f : Draft = shaped (wrote (place at) m) (g .2 .role) (g .2 .count) (g .2 .at) (g .2 .aside) in
       (f, by-block (From (G.req c) d s at ts us f (acts (wrote (place at) m) (settled s))) b go go go)
 
   -- A start.
   start-goes : (x : Name) (n : G.Number) (g : G.Gives) → Acts (G.start x n g)
-  unfolding flow effect draftAfter sheetAfter knownAfter after drafted atSign atNumber atAction put actionBody sheeted
+  unfolding flow actionBody sheeted
   start-goes x n g d s b at ts us l =
       let i : ℕ = numberOf (r .known) x in
       let m : Action = M.START i (n .value) (sharesOf (r .known) g) in
@@ -329,20 +352,25 @@ module _ (place : ℕ → ℕ) (r : Reader) where
       let h = gives-go place q f (record { sized = λ z. refl }) refl g in
       let k : ℕ = suc (suc (suc (suc (suc at)))) in
       let go =
-          C.name-goes place q base K.CLASS 0 0 0 x (suc (suc at))
-          (mark Tk.COMMA ∷ number (n .value) ∷ spellGives g (mark Tk.RP ∷ mark Tk.SEMI ∷ ts))
-          (sign Tk.COMMA ∷ upto No.topNumber ∷ givesS ∷ sign Tk.SEMI ∷ actionsS ∷ us)
-          ∙ C.number-goes place q No.topNumber n (shaped (put base (two i)) (asking K.CLASS) 0 0 0) (suc (suc (suc (suc at))))
-          (spellGives g (mark Tk.RP ∷ mark Tk.SEMI ∷ ts)) (givesS ∷ sign Tk.SEMI ∷ actionsS ∷ us)
-          ∙ h .1 k (mark Tk.SEMI ∷ ts) (sign Tk.SEMI ∷ actionsS ∷ us)
-          ∙ ap (λ (y : Draft). flow place (suc (pastGives g k)) (mark Tk.SEMI ∷ ts) (sign Tk.SEMI ∷ actionsS ∷ us) (resheeted r y (settled s)))
-          (h .2 .is) in
-      let e : Draft = shaped (put f (counted shareBytes (sharesOf (r .known) g))) (asking K.RES) (h .2 .count) (h .2 .at) (h .2 .aside) in
+      C.name-goes place q base K.CLASS 0 0 0 x (suc (suc at))
+      (mark Tk.COMMA ∷ number (n .value) ∷ spellGives g (mark Tk.RP ∷ mark Tk.SEMI ∷ ts))
+      (sign Tk.COMMA ∷ upto No.topNumber ∷ givesS ∷ sign Tk.SEMI ∷ actionsS ∷ us)
+      ∙ C.number-goes place q No.topNumber n (shaped (put base (two i)) (asking K.CLASS) 0 0 0) (suc (suc (suc (suc at))))
+      (spellGives g (mark Tk.RP ∷ mark Tk.SEMI ∷ ts)) (givesS ∷ sign Tk.SEMI ∷ actionsS ∷ us)
+      ∙ h .1 k (mark Tk.SEMI ∷ ts) (sign Tk.SEMI ∷ actionsS ∷ us)
+      ∙ ap (λ (y : Draft). flow place (suc (pastGives g k)) (mark Tk.SEMI ∷ ts) (sign Tk.SEMI ∷ actionsS ∷ us)
+      (resheeted r y (settled s)))
+      (h .2 .is) in
+      let e : Draft = shaped (put f (counted shareBytes (sharesOf (r .known) g))) (asking K.RES) (h .2 .count) (h .2 .at)
+      (h .2 .aside) in
       let same = ap (λ (y : Draft). acts y (settled s))
-          (put-put (put base (two i)) (four (n .value)) (counted shareBytes (sharesOf (r .known) g))
-          ∙ put-put base (two i) (four (n .value) ++ counted shareBytes (sharesOf (r .known) g))) in
-      let all = ap (λ (z : Sheet). flow place (pastAct (G.start x n g) at) ts (actionsS ∷ us) (resheeted r e z)) same in
-      (e, by-block (From (G.start x n g) d s at ts us e (acts (wrote (place at) m) (settled s))) b (go ∙ all) (go ∙ all) (go ∙ all))
+      (put-put (put base (two i)) (four (n .value)) (counted shareBytes (sharesOf (r .known) g))
+      ∙ put-put base (two i) (four (n .value) ++ counted shareBytes (sharesOf (r .known) g))) in
+      let all = ap (λ (z : Sheet). flow place (pastAct (G.start x n g) at) ts (actionsS ∷ us) (resheeted r e z)) same in (
+        e,
+        by-block (From (G.start x n g) d s at ts us e (acts (wrote (place at) m) (settled s))) b (go ∙ all) (go ∙ all)
+            (go ∙ all),
+      )
 
   -- The brace that closes an inner block.
   not-last : (s : Sheet) → 2 ≤ deepness s → eqb (length (s .levels)) 1 ≡ false
@@ -350,20 +378,22 @@ module _ (place : ℕ → ℕ) (r : Reader) where
 
   brace-goes : (d : Draft) (s : Sheet) (b : Block) (at : ℕ) (ts : List Token) (us : List Symbol) → 2 ≤ deepness s → (e : Draft)
       × (flow place at (mark Tk.RB ∷ ts) (symbol b ∷ us) (resheeted r d s) ≡ flow place (suc at) ts us (resheeted r e (closed s)))
-  unfolding flow effect draftAfter sheetAfter knownAfter after drafted atAction
+  unfolding flow
   brace-goes d s b at ts us h =
       let e : Draft = begin (place at) 0 0 in
       let go = ap (λ (x : Bool). flow place (suc at) ts us
-          (record {
-            pile = [];
-            known = if x then knows (r .known) leaves else r .known;
-            called = r .called;
-            calledAt = r .calledAt;
-            draft = e;
-            sheet = closed s;
-          })) (not-last s h) in
-      (e, by-block (λ (z : Symbol). flow place at (mark Tk.RB ∷ ts) (z ∷ us) (resheeted r d s)
-      ≡ flow place (suc at) ts us (resheeted r e (closed s))) b go go go)
+      (record {
+        pile = [];
+        known = if x then knows (r .known) leaves else r .known;
+        called = r .called;
+        calledAt = r .calledAt;
+        draft = e;
+        sheet = closed s;
+      })) (not-last s h) in (
+        e,
+        by-block (λ (z : Symbol). flow place at (mark Tk.RB ∷ ts) (z ∷ us) (resheeted r d s)
+            ≡ flow place (suc at) ts us (resheeted r e (closed s))) b go go go,
+      )
 
   -- What is made of actions leaves as many blocks open as there were.
   pub made-deep : {k : Kind} (a : Act k) (at : ℕ) (s : Sheet) → deepness (made a at s) ≡ deepness s
@@ -375,7 +405,8 @@ module _ (place : ℕ → ℕ) (r : Reader) where
   made-deep (G.repeat n b) at s =
       let d : Draft = wrote (place at) (M.DO (n .value) (blocksOf (settled s))) in
       closed-deep _ (deepness s)
-      (made-deep b (suc (suc (suc at))) (braces (acts d (settled s))) ∙ braces-deep (acts d (settled s)) ∙ ap suc (acts-deep d (settled s) ∙ settled-deep s))
+      (made-deep b (suc (suc (suc at))) (braces (acts d (settled s))) ∙ braces-deep (acts d (settled s))
+      ∙ ap suc (acts-deep d (settled s) ∙ settled-deep s))
   made-deep (G.putR x n) at s = acts-deep _ (settled s) ∙ settled-deep s
   made-deep (G.putB x n) at s = acts-deep _ (settled s) ∙ settled-deep s
   made-deep (G.putS x n) at s = acts-deep _ (settled s) ∙ settled-deep s
@@ -386,12 +417,14 @@ module _ (place : ℕ → ℕ) (r : Reader) where
       let d : Draft = wrote (place at) (M.TRY (branch (blocksOf s) (claimOf (r .known) c) ∷ [])) in
       made-deep bs (suc (pastAct b k)) _
       ∙ closed-deep (made b k (braces (tries d (settled s)))) (deepness s)
-      (made-deep b k (braces (tries d (settled s))) ∙ braces-deep (tries d (settled s)) ∙ ap suc (tries-deep d (settled s) ∙ settled-deep s))
+      (made-deep b k (braces (tries d (settled s))) ∙ braces-deep (tries d (settled s))
+      ∙ ap suc (tries-deep d (settled s) ∙ settled-deep s))
   made-deep (G.while c b) at s =
       let k : ℕ = suc (pastClaim c (suc (suc at))) in
       let d : Draft = wrote (place at) (M.WHILE (blocksOf s) (claimOf (r .known) c)) in
       closed-deep (made b k (braces (acts d (settled s)))) (deepness s)
-      (made-deep b k (braces (acts d (settled s))) ∙ braces-deep (acts d (settled s)) ∙ ap suc (acts-deep d (settled s) ∙ settled-deep s))
+      (made-deep b k (braces (acts d (settled s))) ∙ braces-deep (acts d (settled s))
+      ∙ ap suc (acts-deep d (settled s) ∙ settled-deep s))
   made-deep (G.start x n g) at s = acts-deep _ (settled s) ∙ settled-deep s
   made-deep G.close at s = acts-deep _ (settled s) ∙ settled-deep s
   made-deep G.noBranches at s = refl
@@ -415,7 +448,8 @@ module _ (place : ℕ → ℕ) (r : Reader) where
   abbrev Reads : (k : Kind) → Act k → Type 0
   Reads G.action a = Acts a
   Reads G.actions a =
-      (d : Draft) (s : Sheet) (b : Block) (at : ℕ) (ts : List Token) (us : List Symbol) → 1 ≤ deepness s → (e : Draft) × (c : Block)
+      (d : Draft) (s : Sheet) (b : Block) (at : ℕ) (ts : List Token) (us : List Symbol) → 1 ≤ deepness s →
+      (e : Draft) × (c : Block)
       × (flow place at (spellAct a ts) (symbol b ∷ us) (resheeted r d s)
       ≡ flow place (pastAct a at) ts (symbol c ∷ us) (resheeted r e (made a at s)))
   Reads G.branches a =
@@ -431,24 +465,26 @@ module _ (place : ℕ → ℕ) (r : Reader) where
       (y .0, x .2 ∙ y .1)
 
   repeat-goes : (n : G.Count) (b : Act G.actions) → Reads G.actions b → Acts (G.repeat n b)
-  unfolding flow effect draftAfter sheetAfter knownAfter after drafted atSign atNumber atAction put actionBody sheeted S.opens
+  unfolding flow actionBody sheeted
   repeat-goes n b reads d s c at ts us l =
       let q : Reader = resheeted r d (settled s) in
       let k : ℕ = blocksOf (settled s) in
       let m : Action = M.DO (n .value) k in
       let f : Draft = begin (place at) K.DO 0 in
       let z : Sheet = braces (acts (wrote (place at) m) (settled s)) in
-      let deep : deepness z ≡ suc (deepness s) = braces-deep (acts (wrote (place at) m) (settled s)) ∙ ap suc (acts-deep (wrote (place at) m) (settled s) ∙ settled-deep s) in
+      let deep : deepness z ≡ suc (deepness s) = braces-deep (acts (wrote (place at) m) (settled s))
+      ∙ ap suc (acts-deep (wrote (place at) m) (settled s) ∙ settled-deep s) in
       let y = inside-goes b reads (wrote (place at) m) z (suc (suc (suc at))) ts (actionsS ∷ us) (omega arith) in
       let go =
-          C.number-goes place q No.topCount n f (suc at) (mark Tk.LB ∷ spellAct b (mark Tk.RB ∷ ts)) (sign Tk.LB ∷ actionsS ∷ actionsS ∷ us)
-          ∙ ap (λ (x : Draft). flow place (suc (suc (suc at))) (spellAct b (mark Tk.RB ∷ ts)) (actionsS ∷ actionsS ∷ us)
-          (resheeted r x (braces (acts x (settled s))))) (put-put f (two (n .value)) (two k))
-          ∙ y .1 in
+      C.number-goes place q No.topCount n f (suc at) (mark Tk.LB ∷ spellAct b (mark Tk.RB ∷ ts))
+      (sign Tk.LB ∷ actionsS ∷ actionsS ∷ us)
+      ∙ ap (λ (x : Draft). flow place (suc (suc (suc at))) (spellAct b (mark Tk.RB ∷ ts)) (actionsS ∷ actionsS ∷ us)
+      (resheeted r x (braces (acts x (settled s))))) (put-put f (two (n .value)) (two k))
+      ∙ y .1 in
       (y .0, by-block (From (G.repeat n b) d s at ts us (y .0) (made (G.repeat n b) at s)) c go go go)
 
   while-goes : (c : G.Claim) (b : Act G.actions) → Reads G.actions b → Acts (G.while c b)
-  unfolding flow effect draftAfter sheetAfter knownAfter after drafted atSign atAction put actionBody sheeted S.opens
+  unfolding flow actionBody sheeted
   while-goes c b reads d s v at ts us l =
       let k : ℕ = blocksOf s in
       let m : Action = M.WHILE k (claimOf (r .known) c) in
@@ -456,22 +492,25 @@ module _ (place : ℕ → ℕ) (r : Reader) where
       let g = C.claim-goes place (resheeted r d (settled s)) f (record { sized = λ z. refl }) (plain K.WHILE refl refl) c in
       let h = g .2 in
       let z : Sheet = braces (acts (wrote (place at) m) (settled s)) in
-      let deep : deepness z ≡ suc (deepness s) = braces-deep (acts (wrote (place at) m) (settled s)) ∙ ap suc (acts-deep (wrote (place at) m) (settled s) ∙ settled-deep s) in
+      let deep : deepness z ≡ suc (deepness s) = braces-deep (acts (wrote (place at) m) (settled s))
+      ∙ ap suc (acts-deep (wrote (place at) m) (settled s) ∙ settled-deep s) in
       let e : Draft = shaped (wrote (place at) m) (h .role) (h .count) (h .at) (h .aside) in
       let y = inside-goes b reads e z (suc (pastClaim c (suc (suc at)))) ts (actionsS ∷ us) (omega arith) in
       let go =
-          g .1 (suc at) (mark Tk.LB ∷ spellAct b (mark Tk.RB ∷ ts)) (sign Tk.LB ∷ actionsS ∷ actionsS ∷ us)
-          ∙ ap (λ (x : Draft). flow place (pastClaim c (suc (suc at))) (mark Tk.LB ∷ spellAct b (mark Tk.RB ∷ ts)) (sign Tk.LB ∷ actionsS ∷ actionsS ∷ us)
-          (resheeted r x (settled s)))
-          (h .is ∙ ap (λ (x : Draft). shaped x (h .role) (h .count) (h .at) (h .aside))
-          (put-put (begin (place at) K.WHILE 0) (two k) (claimBytes (claimOf (r .known) c))))
-          ∙ y .1 in
+      g .1 (suc at) (mark Tk.LB ∷ spellAct b (mark Tk.RB ∷ ts)) (sign Tk.LB ∷ actionsS ∷ actionsS ∷ us)
+      ∙ ap (λ (x : Draft). flow place (pastClaim c (suc (suc at))) (mark Tk.LB ∷ spellAct b (mark Tk.RB ∷ ts))
+      (sign Tk.LB ∷ actionsS ∷ actionsS ∷ us)
+      (resheeted r x (settled s)))
+      (h .is ∙ ap (λ (x : Draft). shaped x (h .role) (h .count) (h .at) (h .aside))
+      (put-put (begin (place at) K.WHILE 0) (two k) (claimBytes (claimOf (r .known) c))))
+      ∙ y .1 in
       (y .0, by-block (From (G.while c b) d s at ts us (y .0) (made (G.while c b) at s)) v go go go)
 
   tries-shaped : (x : Draft) (p j a q : ℕ) (s : Sheet) → tries (shaped x p j a q) s ≡ tries x s
   unfolding tries S.counts
   tries-shaped x p j a q s =
-      ap (λ (t : Sheet). S.withLevels t (S.keeping (some (record { line = x .line; body = x .body })) (t .levels))) (go (keptIn (s .levels)))
+      ap (λ (t : Sheet). S.withLevels t (S.keeping (some (record { line = x .line; body = x .body })) (t .levels)))
+      (go (keptIn (s .levels)))
     where
       go : (o : Option S.Kept) → S.branches (shaped x p j a q) o s ≡ S.branches x o s
       go none = refl
@@ -486,7 +525,7 @@ module _ (place : ℕ → ℕ) (r : Reader) where
       ≡ flow place (pastAct bs (suc (pastAct b (suc (suc (pastClaim c (suc at))))))) ts (tryS ∷ us)
       (resheeted r e (made bs (suc (pastAct b (suc (suc (pastClaim c (suc at))))))
       (closed (made b (suc (suc (pastClaim c (suc at)))) (braces (tries (put f (claimBytes (claimOf (r .known) c))) s)))))))
-  unfolding flow effect draftAfter sheetAfter knownAfter after drafted atSign S.opens tries S.counts
+  unfolding flow tries S.counts
   branch-goes c b bs reads-b reads-bs d f s w k l at ts us =
       let n : ℕ = pastClaim c (suc at) in
       let g = C.claim-goes place (resheeted r d s) f w (rw k (plain K.TRY refl refl)) c in
@@ -497,14 +536,16 @@ module _ (place : ℕ → ℕ) (r : Reader) where
       let deep : deepness z ≡ suc (deepness s) = braces-deep (tries x s) ∙ ap suc (tries-deep x s) in
       let y = inside-goes b reads-b e z (suc (suc n)) (spellAct bs ts) (tryS ∷ us) (omega arith) in
       let deeper = closed-deep (made b (suc (suc n)) z) (deepness s) (made-deep b (suc (suc n)) z ∙ deep) in
-      let v = reads-bs (y .0) (closed (made b (suc (suc n)) z)) (suc (pastAct b (suc (suc n)))) ts us (omega arith) in
-      (v .0,
-      g .1 at (mark Tk.THEN ∷ mark Tk.LB ∷ spellAct b (mark Tk.RB ∷ spellAct bs ts)) (sign Tk.THEN ∷ sign Tk.LB ∷ actionsS ∷ tryS ∷ us)
-      ∙ ap (λ (u : Draft). flow place n (mark Tk.THEN ∷ mark Tk.LB ∷ spellAct b (mark Tk.RB ∷ spellAct bs ts))
-      (sign Tk.THEN ∷ sign Tk.LB ∷ actionsS ∷ tryS ∷ us) (resheeted r u s)) (h .is)
-      ∙ opened x (h .role) (h .count) (h .at) (h .aside) n (kind-put f (claimBytes (claimOf (r .known) c)) ∙ k)
-      ∙ y .1
-      ∙ v .1)
+      let v = reads-bs (y .0) (closed (made b (suc (suc n)) z)) (suc (pastAct b (suc (suc n)))) ts us (omega arith) in (
+        v .0,
+        g .1 at (mark Tk.THEN ∷ mark Tk.LB ∷ spellAct b (mark Tk.RB ∷ spellAct bs ts))
+            (sign Tk.THEN ∷ sign Tk.LB ∷ actionsS ∷ tryS ∷ us)
+            ∙ ap (λ (u : Draft). flow place n (mark Tk.THEN ∷ mark Tk.LB ∷ spellAct b (mark Tk.RB ∷ spellAct bs ts))
+            (sign Tk.THEN ∷ sign Tk.LB ∷ actionsS ∷ tryS ∷ us) (resheeted r u s)) (h .is)
+            ∙ opened x (h .role) (h .count) (h .at) (h .aside) n (kind-put f (claimBytes (claimOf (r .known) c)) ∙ k)
+            ∙ y .1
+            ∙ v .1,
+      )
     where
       opened : (x : Draft) (p j a q n : ℕ) → x .kind ≡ K.TRY →
           flow place n (mark Tk.THEN ∷ mark Tk.LB ∷ spellAct b (mark Tk.RB ∷ spellAct bs ts))
@@ -515,31 +556,35 @@ module _ (place : ℕ → ℕ) (r : Reader) where
           let y : Draft = shaped x p j a q in
           let no : eqb (x .kind) K.DO ≡ false = ne-eqb (x .kind) K.DO (λ z. omega arith) in
           let yes : eqb (x .kind) K.TRY ≡ true = eq-eqb (x .kind) K.TRY e in
-          let to : Draft → Sheet → Reader = λ u v. flow place (suc (suc n)) (spellAct b (mark Tk.RB ∷ spellAct bs ts)) (actionsS ∷ tryS ∷ us) (resheeted r u v) in
+          let to : Draft → Sheet → Reader = λ u v. flow place (suc (suc n)) (spellAct b (mark Tk.RB ∷ spellAct bs ts))
+          (actionsS ∷ tryS ∷ us) (resheeted r u v) in
           ap (λ (i : Bool). let u : Draft = if i then put y (two (blocksOf s)) else y in
           to u (braces (if eqb (u .kind) K.TRY then tries u s else acts u s))) no
           ∙ ap (λ (i : Bool). to y (braces (if i then tries y s else acts y s))) yes
           ∙ ap (λ (v : Sheet). to y (braces v)) (tries-shaped x p j a q s)
 
   -- The draft of a try with its first branch.
-  try-draft : (p k : ℕ) (c : M.Claim) → put (put (begin p K.TRY 0) (two 1 ++ two k)) (claimBytes c) ≡ wrote p (M.TRY (branch k c ∷ []))
+  try-draft : (p k : ℕ) (c : M.Claim) → put (put (begin p K.TRY 0) (two 1 ++ two k)) (claimBytes c) ≡ wrote p
+      (M.TRY (branch k c ∷ []))
   unfolding actionBody
   try-draft p k c =
       put-put (begin p K.TRY 0) (two 1 ++ two k) (claimBytes c)
       ∙ ap (λ (bs : List ℕ). put (begin p K.TRY 0) (two 1 ++ (two k ++ bs))) (sym (append-nil (claimBytes c)))
 
-  try-goes : (c : G.Claim) (b : Act G.actions) (bs : Act G.branches) → Reads G.actions b → Reads G.branches bs → Acts (G.try c b bs)
-  unfolding flow effect draftAfter sheetAfter knownAfter after drafted atAction put sheeted
+  try-goes : (c : G.Claim) (b : Act G.actions) (bs : Act G.branches) → Reads G.actions b → Reads G.branches bs →
+      Acts (G.try c b bs)
+  unfolding flow sheeted
   try-goes c b bs reads-b reads-bs d s v at ts us l =
       let k : ℕ = blocksOf s in
       let f : Draft = put (begin (place at) K.TRY 0) (two 1 ++ two k) in
       let deep = settled-deep s in
-      let y = branch-goes c b bs reads-b reads-bs d f (settled s) (record { sized = λ z. refl }) refl (omega arith) (suc at) ts us in
+      let y = branch-goes c b bs reads-b reads-bs d f (settled s) (record { sized = λ z. refl }) refl (omega arith)
+      (suc at) ts us in
       let n : ℕ = suc (suc (pastClaim c (suc (suc at)))) in
       let go = y .1
-          ∙ ap (λ (x : Draft). flow place (pastAct (G.try c b bs) at) ts (tryS ∷ us)
-          (resheeted r (y .0) (made bs (suc (pastAct b n)) (closed (made b n (braces (tries x (settled s))))))))
-          (try-draft (place at) k (claimOf (r .known) c)) in
+      ∙ ap (λ (x : Draft). flow place (pastAct (G.try c b bs) at) ts (tryS ∷ us)
+      (resheeted r (y .0) (made bs (suc (pastAct b n)) (closed (made b n (braces (tries x (settled s))))))))
+      (try-draft (place at) k (claimOf (r .known) c)) in
       (y .0, by-block (From (G.try c b bs) d s at ts us (y .0) (made (G.try c b bs) at s)) v go go go)
 
   whole-branching : (o : Option S.Kept) → Whole (branching (resumed o))
@@ -550,20 +595,22 @@ module _ (place : ℕ → ℕ) (r : Reader) where
   kind-branching none = refl
   kind-branching (some x) = refl
 
-  etry-goes : (c : G.Claim) (b : Act G.actions) (bs : Act G.branches) → Reads G.actions b → Reads G.branches bs → Reads G.branches (G.etry c b bs)
-  unfolding flow effect draftAfter sheetAfter knownAfter after drafted atAction sheeted
+  etry-goes : (c : G.Claim) (b : Act G.actions) (bs : Act G.branches) → Reads G.actions b → Reads G.branches bs →
+      Reads G.branches (G.etry c b bs)
+  unfolding flow sheeted
   etry-goes c b bs reads-b reads-bs d s at ts us l =
       let o : Option S.Kept = keptIn (s .levels) in
       let base : Draft = branching (resumed o) in
       let f : Draft = put base (two (blocksOf s)) in
       let y = branch-goes c b bs reads-b reads-bs d f s (whole-put base (two (blocksOf s)) (whole-branching o))
-          (kind-put base (two (blocksOf s)) ∙ kind-branching o) l (suc at) ts us in
-      let n : ℕ = suc (suc (pastClaim c (suc (suc at)))) in
-      (y .0,
-      y .1
-      ∙ ap (λ (x : Draft). flow place (pastAct (G.etry c b bs) at) ts (tryS ∷ us)
-      (resheeted r (y .0) (made bs (suc (pastAct b n)) (closed (made b n (braces (tries x s)))))))
-      (put-put base (two (blocksOf s)) (claimBytes (claimOf (r .known) c))))
+      (kind-put base (two (blocksOf s)) ∙ kind-branching o) l (suc at) ts us in
+      let n : ℕ = suc (suc (pastClaim c (suc (suc at)))) in (
+        y .0,
+        y .1
+            ∙ ap (λ (x : Draft). flow place (pastAct (G.etry c b bs) at) ts (tryS ∷ us)
+            (resheeted r (y .0) (made bs (suc (pastAct b n)) (closed (made b n (braces (tries x s)))))))
+            (put-put base (two (blocksOf s)) (claimBytes (claimOf (r .known) c))),
+      )
 
   -- ALL ACTIONS.
   pub acts-go : {k : Kind} (a : Act k) → Reads k a

@@ -1,13 +1,13 @@
 -- The machine writes a claim as its bytes, and so it does what a start hands over.
 -- Assumes nothing.
-use Prim.Native.Nat.{ℕ, zero, suc, _+_, _*_, _/_, _%_, _≤_, _<_, _-_, min}
+use Prim.Native.Nat.{ℕ, zero, suc, _+_, _/_, _%_, _≤_, _<_, _-_}
 use native.Mathlib.Omega.{arith}
 use mathlib.Core.Path.{_≡_, refl, sym, _∙_, ap, subst}
 use mathlib.Core.List.{List, [], _∷_, _++_, map, append-assoc, append-nil}
-use mathlib.Core.Bool.{Bool, true, false, _&&_, _||_}
+use mathlib.Core.Bool.{Bool, true, false, _||_}
 use lib.Dec.{leb, ltb, eqb}
 use lib.ListN.{length, set, length-append}
-use borrow.Author.Tests.{ltb-true, ltb-false, le-ltb, le-leb, ne-eqb}
+use borrow.Author.Tests.{ltb-false, le-ltb, le-leb, ne-eqb}
 use Rattle.semantics.specs.Words.{if_then_else_, collect}
 use Rattle.semantics.specs.Kinds as K
 use Rattle.semantics.specs.Model as M
@@ -15,25 +15,34 @@ use Rattle.text_semantics.specs.Numbers as No
 use Rattle.text_semantics.specs.Token as Tk
 use Rattle.text_semantics.specs.Token.{Token, number, mark, name}
 use Rattle.text_semantics.specs.Grammar as G
-use Rattle.text_semantics.specs.Grammar.{Name, Upto, pair, spellItem, spellItems, spellClaim, spellSigned, spellGiven, spellGives}
-use Rattle.text_semantics.specs.Meaning.{numberOf, minus, signedOf, itemOf, claimOf, shareOf, sharesOf}
-use Rattle.text_semantics.specs.Written.{two, four, code, relationNumber, itemBytes, claimBytes, shareBytes, counted}
-use Rattle.text_semantics.specs.Reading.{Symbol, one, the, aName, aNumber, signedS, relationS, itemS, claimS, itemsS, givesS, givenS}
+use Rattle.text_semantics.specs.Grammar.{Name, Upto, pair, spellItem, spellItems, spellClaim, spellSigned}
+use Rattle.text_semantics.specs.Meaning.{numberOf, signedOf, itemOf, claimOf}
+use Rattle.text_semantics.specs.Written.{two, four, code, relationNumber, itemBytes}
+use Rattle.text_semantics.specs.Reading.{Symbol, one, aNumber, signedS, relationS, itemS, claimS, itemsS}
 use Rattle.text_semantics.specs.Reading.{sign, upto, nameS, pairS}
-use Rattle.text_machine.specs.Entry.{Draft, Start, KEPT, FULL, ASK, asking, put, oneMore, putCount, dropped, withBody, isExpression}
-use Rattle.text_machine.specs.Entry.{atSign, atName, atNumber, atItem, getting, withRole, withAside, drafted}
+use Rattle.text_machine.specs.Entry.{Draft, KEPT, ASK, asking, put, oneMore, putCount}
+use Rattle.text_machine.specs.Entry.{isExpression}
+use Rattle.text_machine.specs.Entry.{atSign, atName, atNumber, atItem, getting, withRole, withAside}
 use Rattle.text_machine.specs.Sheet.{blocksOf}
-use Rattle.text_machine.specs.Machine.{Reader, draftAfter, sheetAfter, knownAfter, after}
-use Rattle.text_agrees.specs.Flow.{nextIn, effect, flow}
-use Rattle.text_agrees.specs.Drafts.{Whole, put-put, whole-put}
+use Rattle.text_machine.specs.Machine.{Reader}
+use Rattle.text_agrees.specs.Flow.{flow}
+use Rattle.text_agrees.specs.Drafts.{Whole, put-put}
 use Rattle.text_agrees.specs.Expressions.{redrafted, next-number, fits-number}
 
 -- A draft with what the next name is for, its count and where that stands, and the number that waits.
 abbrev pub shaped : Draft → ℕ → ℕ → ℕ → ℕ → Draft
 shaped d role count at aside =
     record {
-      line = d .line; kind = d .kind; role = role; body = d .body; over = d .over; size = d .size; count = count; at = at;
-      aside = aside; starts = d .starts;
+      line = d .line;
+      kind = d .kind;
+      role = role;
+      body = d .body;
+      over = d .over;
+      size = d .size;
+      count = count;
+      at = at;
+      aside = aside;
+      starts = d .starts;
     }
 
 pub shaped-put : (d : Draft) (p j a q : ℕ) (bs : List ℕ) → put (shaped d p j a q) bs ≡ shaped (put d bs) p j a q
@@ -107,9 +116,9 @@ module _ (d : Draft) (w : Whole d) (n : ℕ) (xs : List ℕ) (few : n ≤ length
           let r = s .1 in
           let fit : leb KEPT n ≡ false = le-ltb (KEPT - 1) n (omega arith) in
           let b : set (d .body ++ (two n ++ xs)) (d .size) (suc n) ≡ d .body ++ (two (suc n) ++ xs) =
-              ap (λ (x : List ℕ). set (d .body ++ (x ++ xs)) (d .size) (suc n)) (small n (omega arith))
-              ∙ set-at (d .body) n (suc n) (0 ∷ xs) (d .size) l
-              ∙ ap (λ (x : List ℕ). d .body ++ (x ++ xs)) (sym (small (suc n) (omega arith))) in
+          ap (λ (x : List ℕ). set (d .body ++ (x ++ xs)) (d .size) (suc n)) (small n (omega arith))
+          ∙ set-at (d .body) n (suc n) (0 ∷ xs) (d .size) l
+          ∙ ap (λ (x : List ℕ). d .body ++ (x ++ xs)) (sym (small (suc n) (omega arith))) in
           (suc n, rw (e, is, fit, at, b), λ f. (refl, at))
 
 -- A record that has a claim is neither one with an expression nor a start.
@@ -166,7 +175,7 @@ module _ (place : ℕ → ℕ) (r : Reader) where
   -- A number that had to come.
   pub number-goes : (b : ℕ) (n : Upto b) (d : Draft) →
       Goes (λ ts. number (n .value) ∷ ts) suc (upto b ∷ []) [] d (atNumber b (n .value) d)
-  unfolding flow effect draftAfter sheetAfter knownAfter after drafted
+  unfolding flow
   number-goes b n d at ts us =
       ap (λ (ns : List Symbol). flow place (suc at) ts (ns ++ us) (redrafted r (atNumber b (n .value) d)))
       (next-number {s = one (aNumber b)} b (n .value) [] (λ v vs. v) (λ v vs z. refl) _ (leb (n .value) b) refl (fits-number n))
@@ -175,7 +184,7 @@ module _ (place : ℕ → ℕ) (r : Reader) where
   pub name-goes : (d : Draft) (w j a q : ℕ) (x : Name) →
       Goes (λ ts. name x ∷ ts) suc (nameS ∷ []) []
       (shaped d (asking w) j a q) (shaped (put d (two (known x))) (asking w) j a q)
-  unfolding flow effect draftAfter sheetAfter knownAfter after drafted atName
+  unfolding flow
   name-goes d w j a q x at ts us =
       let e : leb ASK (ASK + w) ≡ true = le-leb ASK (ASK + w) (omega arith) in
       let f : eqb (ASK + w) K.CLASS ≡ false = ne-eqb (ASK + w) K.CLASS (λ z. omega arith) in
@@ -189,7 +198,7 @@ module _ (place : ℕ → ℕ) (r : Reader) where
   pub pair-goes : (d : Draft) (w j a q : ℕ) (x : Name) (n : G.Number) → Claiming (d .kind) →
       Goes (pair x n) (λ at. suc (suc (suc (suc (suc at))))) (pairS No.topNumber []) []
       (shaped d (asking w) j a q) (shaped (put d (two (known x) ++ four (n .value))) (asking w) j a q)
-  unfolding flow effect draftAfter sheetAfter knownAfter after drafted
+  unfolding flow
   pair-goes d w j a q x n c at ts us =
       let e : Draft = put d (two (known x)) in
       ap (λ (y : Draft). flow place (suc at) (name x ∷ mark Tk.COMMA ∷ number (n .value) ∷ mark Tk.RP ∷ ts)
@@ -207,13 +216,13 @@ module _ (place : ℕ → ℕ) (r : Reader) where
   -- A signed number.
   pub signed-goes : (d : Draft) (n : G.Signed) → Claiming (d .kind) →
       Goes (spellSigned n) (pastSigned n) (signedS ∷ []) [] d (put d (four (code (signedOf n))))
-  unfolding flow effect draftAfter sheetAfter knownAfter after drafted atNumber
+  unfolding flow
   signed-goes d (G.upward n) c at ts us =
       ap (λ (ns : List Symbol). flow place (suc at) ts (ns ++ us) (redrafted r (put d (four (n .value)))))
-      (next-number {s = signedS} No.topNumber (n .value) [] (λ v vs. G.upward v) (λ v vs z. refl) _ (leb (n .value) No.topNumber) refl
+      (next-number {s = signedS} No.topNumber (n .value) [] (λ v vs. G.upward v) (λ v vs z. refl) _
+      (leb (n .value) No.topNumber) refl
       (fits-number n))
   signed-goes d (G.downward n) c at ts us = number-goes No.topMagnitude n d (suc at) ts us
-
 
   -- How far a list has been read that begins with its count, behind what d has: n parts, which are these bytes.
   pub record Reached (d : Draft) (n : ℕ) (xs : List ℕ) (e : Draft) : Type 0 where
@@ -249,7 +258,8 @@ module _ (place : ℕ → ℕ) (r : Reader) where
         put-put d (two (suc n) ++ (xs ++ bs)) cs
         ∙ ap (λ (l : List ℕ). put d (two (suc n) ++ l)) (append-assoc xs bs cs)
 
-    reached : (bs : List ℕ) (p q : ℕ) → 1 ≤ length bs → Reached d (suc n) (xs ++ bs) (shaped (grown bs) p (counted-one .0) (h .at) q)
+    reached : (bs : List ℕ) (p q : ℕ) → 1 ≤ length bs →
+        Reached d (suc n) (xs ++ bs) (shaped (grown bs) p (counted-one .0) (h .at) q)
     reached bs p q l =
         record {
           role = p;
@@ -271,14 +281,17 @@ module _ (place : ℕ → ℕ) (r : Reader) where
     gets kind what x k =
         let head : List ℕ = kind ∷ 0 ∷ [] in
         let rest : List ℕ = two (known x) ++ four (k .value) in
-        let i : ℕ = counted-one .0 in
-        (shaped (grown (head ++ rest)) (asking what) i (h .at) (h .aside),
-        λ at ts us.
-        ap (λ (y : Draft). flow place at (pair x k ts) (pairS No.topNumber [] ++ us) (redrafted r (withRole y (asking what)))) (one-more head)
-        ∙ pair-goes (grown head) what i (h .at) (h .aside) x k (claiming head) at ts us
-        ∙ ap (λ (y : Draft). flow place (suc (suc (suc (suc (suc at))))) ts us (redrafted r (shaped y (asking what) i (h .at) (h .aside))))
-        (grown-put head rest),
-        reached (head ++ rest) (asking what) (h .aside) (omega arith))
+        let i : ℕ = counted-one .0 in (
+          shaped (grown (head ++ rest)) (asking what) i (h .at) (h .aside),
+          λ at ts us.
+              ap (λ (y : Draft). flow place at (pair x k ts) (pairS No.topNumber [] ++ us)
+              (redrafted r (withRole y (asking what)))) (one-more head)
+              ∙ pair-goes (grown head) what i (h .at) (h .aside) x k (claiming head) at ts us
+              ∙ ap (λ (y : Draft). flow place (suc (suc (suc (suc (suc at))))) ts us
+              (redrafted r (shaped y (asking what) i (h .at) (h .aside))))
+              (grown-put head rest),
+          reached (head ++ rest) (asking what) (h .aside) (omega arith),
+        )
 
     -- A condition.
     abbrev atCondition : Name → Draft
@@ -286,7 +299,7 @@ module _ (place : ℕ → ℕ) (r : Reader) where
 
     relation-goes : (k : M.Relation) (y : Draft) →
         Goes (λ ts. mark (G.relation k) ∷ ts) suc (relationS ∷ []) [] y (put y (relationNumber k ∷ two (y .aside)))
-    unfolding flow effect draftAfter sheetAfter knownAfter after drafted
+    unfolding flow
     relation-goes M.below y at ts us = refl
     relation-goes M.atMost y at ts us = refl
     relation-goes M.equals y at ts us = refl
@@ -295,7 +308,8 @@ module _ (place : ℕ → ℕ) (r : Reader) where
     relation-goes M.above y at ts us = refl
 
     conditions : (x : Name) (k : M.Relation) (v : G.Signed) → (f : Draft)
-        × Goes (λ ts. mark (G.relation k) ∷ spellSigned v ts) (λ at. pastSigned v (suc at)) (relationS ∷ signedS ∷ []) [] (atCondition x) f
+        × Goes (λ ts. mark (G.relation k) ∷ spellSigned v ts) (λ at. pastSigned v (suc at)) (relationS ∷ signedS ∷ []) []
+        (atCondition x) f
         × Reached d (suc n) (xs ++ (3 ∷ relationNumber k ∷ (two (known x) ++ four (code (signedOf v))))) f
     conditions x k v =
         let i : ℕ = counted-one .0 in
@@ -303,20 +317,21 @@ module _ (place : ℕ → ℕ) (r : Reader) where
         let middle : List ℕ = relationNumber k ∷ two (known x) in
         let rest : List ℕ = four (code (signedOf v)) in
         let y : Draft = shaped (grown head) (h .role) i (h .at) (known x) in
-        let z : Draft = shaped (grown (head ++ middle)) (h .role) i (h .at) (known x) in
-        (shaped (grown (head ++ middle ++ rest)) (h .role) i (h .at) (known x),
-        λ at ts us.
-        ap (λ (u : Draft). flow place at (mark (G.relation k) ∷ spellSigned v ts) (relationS ∷ signedS ∷ us)
-        (redrafted r (withAside u (known x)))) (one-more head)
-        ∙ relation-goes k y at (spellSigned v ts) (signedS ∷ us)
-        ∙ ap (λ (u : Draft). flow place (suc at) (spellSigned v ts) (signedS ∷ us) (redrafted r u))
-        (shaped-put (grown head) (h .role) i (h .at) (known x) middle
-        ∙ ap (λ (u : Draft). shaped u (h .role) i (h .at) (known x)) (grown-put head middle))
-        ∙ signed-goes z v (claiming (head ++ middle)) (suc at) ts us
-        ∙ ap (λ (u : Draft). flow place (pastSigned v (suc at)) ts us (redrafted r u))
-        (shaped-put (grown (head ++ middle)) (h .role) i (h .at) (known x) rest
-        ∙ ap (λ (u : Draft). shaped u (h .role) i (h .at) (known x)) (grown-put (head ++ middle) rest)),
-        reached (head ++ middle ++ rest) (h .role) (known x) (omega arith))
+        let z : Draft = shaped (grown (head ++ middle)) (h .role) i (h .at) (known x) in (
+          shaped (grown (head ++ middle ++ rest)) (h .role) i (h .at) (known x),
+          λ at ts us.
+              ap (λ (u : Draft). flow place at (mark (G.relation k) ∷ spellSigned v ts) (relationS ∷ signedS ∷ us)
+              (redrafted r (withAside u (known x)))) (one-more head)
+              ∙ relation-goes k y at (spellSigned v ts) (signedS ∷ us)
+              ∙ ap (λ (u : Draft). flow place (suc at) (spellSigned v ts) (signedS ∷ us) (redrafted r u))
+              (shaped-put (grown head) (h .role) i (h .at) (known x) middle
+              ∙ ap (λ (u : Draft). shaped u (h .role) i (h .at) (known x)) (grown-put head middle))
+              ∙ signed-goes z v (claiming (head ++ middle)) (suc at) ts us
+              ∙ ap (λ (u : Draft). flow place (pastSigned v (suc at)) ts us (redrafted r u))
+              (shaped-put (grown (head ++ middle)) (h .role) i (h .at) (known x) rest
+              ∙ ap (λ (u : Draft). shaped u (h .role) i (h .at) (known x)) (grown-put (head ++ middle) rest)),
+          reached (head ++ middle ++ rest) (h .role) (known x) (omega arith),
+        )
 
     abbrev bytesIn : G.Item → List ℕ
     bytesIn i = itemBytes (itemOf (r .known) i)
@@ -326,7 +341,7 @@ module _ (place : ℕ → ℕ) (r : Reader) where
         × Goes (spellItem i) (pastItem i) (itemS ∷ []) [] e f
         × Goes (spellItem i) (pastItem i) (claimS ∷ []) (itemsS ∷ []) e f
         × Reached d (suc n) (xs ++ bytesIn i) f
-    unfolding flow effect draftAfter sheetAfter knownAfter after drafted atItem
+    unfolding flow
     item-goes (G.getR x k) =
         let g = gets 0 K.RES x k in
         (g .0, λ at ts us. g .1 (suc at) ts us, λ at ts us. g .1 (suc at) ts (itemsS ∷ us), g .2)
@@ -344,9 +359,10 @@ module _ (place : ℕ → ℕ) (r : Reader) where
     abbrev each : List G.Item → List ℕ
     each is = collect (λ i. itemBytes (itemOf (r .known) i)) is
 
-    items-go : (is : List G.Item) (n m : ℕ) (xs ys : List ℕ) (e : Draft) → Reached d n xs e → m ≡ length is + n → ys ≡ xs ++ each is →
+    items-go : (is : List G.Item) (n m : ℕ) (xs ys : List ℕ) (e : Draft) → Reached d n xs e → m ≡ length is + n →
+        ys ≡ xs ++ each is →
         (f : Draft) × Goes (spellItems is) (pastItems is) (itemsS ∷ []) (itemsS ∷ []) e f × Reached d m ys f
-    unfolding flow effect draftAfter sheetAfter knownAfter after drafted
+    unfolding flow
     items-go [] n m xs ys e h p q =
         let a : n ≡ m = omega arith in
         let b : xs ≡ ys = sym (q ∙ append-nil xs) in
@@ -354,7 +370,7 @@ module _ (place : ℕ → ℕ) (r : Reader) where
     items-go (i ∷ is) n m xs ys e h p q =
         let g = item-goes d w c n xs e h i in
         let k = items-go is (suc n) m (xs ++ itemBytes (itemOf (r .known) i)) ys (g .0) (g .3) (omega arith)
-            (q ∙ sym (append-assoc xs (itemBytes (itemOf (r .known) i)) (each is))) in
+        (q ∙ sym (append-assoc xs (itemBytes (itemOf (r .known) i)) (each is))) in
         (k .0, λ at ts us. g .1 (suc at) (spellItems is ts) (itemsS ∷ us) ∙ k .1 (pastItem i (suc at)) ts us, k .2)
 
     abbrev asked : G.Claim → M.Claim
@@ -377,21 +393,24 @@ module _ (place : ℕ → ℕ) (r : Reader) where
     pub claim-goes : (cl : G.Claim) → (f : Draft)
         × Goes (λ ts. mark Tk.LS ∷ spellClaim cl ts) (λ at. pastClaim cl (suc at)) (sign Tk.LS ∷ claimS ∷ []) [] d f
         × Reached d (length (asked cl)) (collect itemBytes (asked cl)) f
-    unfolding flow effect draftAfter sheetAfter knownAfter after drafted
-    claim-goes G.nothing =
-        (putCount d,
-        λ at ts us. ap (λ (y : Draft). flow place (suc (suc at)) ts us (redrafted r (atItem 0 (mark Tk.RS) y)))
-        (count-at-bracket (blocksOf (r .sheet)) d c), begun)
+    unfolding flow
+    claim-goes G.nothing = (
+      putCount d,
+      λ at ts us. ap (λ (y : Draft). flow place (suc (suc at)) ts us (redrafted r (atItem 0 (mark Tk.RS) y)))
+          (count-at-bracket (blocksOf (r .sheet)) d c),
+      begun,
+    )
     claim-goes (G.claim i is) =
         let g = item-goes d w c 0 [] (putCount d) begun i in
         let l = length-map (itemOf (r .known)) is in
         let k = items-go is 1 (suc (length (map (itemOf (r .known)) is))) (itemBytes (itemOf (r .known) i))
-            (collect itemBytes (asked (G.claim i is))) (g .0) (g .3) (omega arith)
-            (ap (λ (l : List ℕ). itemBytes (itemOf (r .known) i) ++ l) (collect-map itemBytes (itemOf (r .known)) is)) in
-        (k .0,
-        λ at ts us.
-        ap (λ (y : Draft). flow place (suc at) (spellClaim (G.claim i is) ts) (claimS ∷ us) (redrafted r y))
-        (count-at-bracket (blocksOf (r .sheet)) d c)
-        ∙ g .2 (suc at) (spellItems is (mark Tk.RS ∷ ts)) us
-        ∙ k .1 (pastItem i (suc at)) (mark Tk.RS ∷ ts) us,
-        k .2)
+        (collect itemBytes (asked (G.claim i is))) (g .0) (g .3) (omega arith)
+        (ap (λ (l : List ℕ). itemBytes (itemOf (r .known) i) ++ l) (collect-map itemBytes (itemOf (r .known)) is)) in (
+          k .0,
+          λ at ts us.
+              ap (λ (y : Draft). flow place (suc at) (spellClaim (G.claim i is) ts) (claimS ∷ us) (redrafted r y))
+              (count-at-bracket (blocksOf (r .sheet)) d c)
+              ∙ g .2 (suc at) (spellItems is (mark Tk.RS ∷ ts)) us
+              ∙ k .1 (pastItem i (suc at)) (mark Tk.RS ∷ ts) us,
+          k .2,
+        )

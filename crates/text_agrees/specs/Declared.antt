@@ -1,36 +1,39 @@
 -- What the declarations of a text make of the machine's reader: names known, records written, blocks opened and closed.
 -- Assumes nothing.
-use Prim.Native.Nat.{ℕ, zero, suc, _+_, _≤_, _<_}
+use Prim.Native.Nat.{ℕ, zero, suc, _+_}
 use native.Mathlib.Omega.{arith}
-use mathlib.Core.Path.{_≡_, refl, sym, _∙_, ap, subst}
+use mathlib.Core.Path.{_≡_, refl, sym, _∙_, ap}
 use mathlib.Core.List.{List, [], _∷_, _++_}
-use mathlib.Core.Bool.{Bool, true, false}
-use mathlib.Core.Option.{Option, none, some}
-use lib.Dec.{eqb, ltb}
+use mathlib.Core.Bool.{Bool}
+use lib.Dec.{eqb}
 use lib.ListN.{length}
-use borrow.Author.Tests.{ne-eqb, eq-eqb}
+use borrow.Author.Tests.{eq-eqb}
 use Rattle.semantics.specs.Words.{if_then_else_, any, collect}
 use Rattle.semantics.specs.Kinds as K
 use Rattle.text_semantics.specs.Numbers as No
 use Rattle.text_semantics.specs.Token as Tk
 use Rattle.text_semantics.specs.Token.{Token, number, mark, name}
 use Rattle.text_semantics.specs.Grammar as G
-use Rattle.text_semantics.specs.Grammar.{Name, Text, Declaration, Locals, Few, spellSigned, spellFew, spellLocals, spellAct, declare, spellText}
-use Rattle.text_semantics.specs.Names.{Known, Event, declares, announces, embodies, leaves, asks, knows, named, LOCAL, inDeclaration}
-use Rattle.text_semantics.specs.Names.{inLocals, inFew, inEx, inItem, inClaim, inGive, inGives, inAct, events, resource, bin, sync, class, variable, store, value}
+use Rattle.text_semantics.specs.Grammar.{Name, Text, Declaration, Locals, Few, spellSigned, spellFew, spellLocals, spellAct}
+use Rattle.text_semantics.specs.Grammar.{declare, spellText}
+use Rattle.text_semantics.specs.Names.{Known, Event, declares, announces, embodies, leaves, asks, knows, named, LOCAL}
+use Rattle.text_semantics.specs.Names.{inDeclaration}
+use Rattle.text_semantics.specs.Names.{inLocals, inFew, inEx, inItem, inClaim, inGive, inGives, inAct, events, resource, bin}
+use Rattle.text_semantics.specs.Names.{sync, class, variable, store, value}
 use Rattle.text_semantics.specs.Meaning.{numberOf, signedOf}
 use Rattle.text_semantics.specs.Written.{two, four, code}
-use Rattle.text_semantics.specs.Reading.{Symbol, signedS, textS, bodyS, linesS, fewS, actionsS, nameS, sign, upto}
-use Rattle.text_machine.specs.Entry.{Draft, begin, put, asking, atSign, atName, atNumber, atText, atAction, drafted}
+use Rattle.text_semantics.specs.Reading.{Symbol, signedS, textS, linesS, fewS, actionsS, nameS, sign, upto}
+use Rattle.text_machine.specs.Entry.{Draft, begin, put, asking}
 use Rattle.text_machine.specs.Sheet as S
 use Rattle.text_machine.specs.Sheet.{Sheet, blocksOf, withFirst, classes, bodied, braces, closed}
-use Rattle.text_machine.specs.Machine.{Reader, keeps, draftAfter, sheetAfter, knownAfter, after}
-use Rattle.text_agrees.specs.Flow.{effect, flow}
+use Rattle.text_machine.specs.Machine.{Reader, keeps}
+use Rattle.text_agrees.specs.Flow.{flow}
 use Rattle.text_agrees.specs.Drafts.{put-put}
 use Rattle.text_agrees.specs.Sheets.{deepness, either, braces-deep, classes-deep, bodied-deep, declares-deep, closed-deep}
 use Rattle.text_agrees.specs.Claims as C
 use Rattle.text_agrees.specs.Claims.{shaped, pastSigned, Claiming}
-use Rattle.text_agrees.specs.Actions.{pastAct, sheeted, acts-go, made-deep, Block, symbol, by-block, some-actions, first-lines}
+use Rattle.text_agrees.specs.Actions.{pastAct, sheeted, acts-go, made-deep, Block, symbol, by-block, some-actions}
+use Rattle.text_agrees.specs.Actions.{first-lines}
 
 -- What the machine remembers of an event.
 unfoldable pub remembers : List Known → Event → List Known
@@ -86,7 +89,8 @@ module _ (place : ℕ → ℕ) where
   declared ks (G.class x G.announced) at s = classes (place at) No.noBody (firstAt (place at) s)
   declared ks (G.class x (G.body l b)) at s =
       let inBody : List Known = remembered ks (embodies x ∷ inLocals l) in
-      closed (sheeted place inBody b (pastLocals l (suc (suc (suc at)))) (braces (bodiedIn ks x (place at) (firstAt (place at) s))))
+      closed (sheeted place inBody b (pastLocals l (suc (suc (suc at))))
+      (braces (bodiedIn ks x (place at) (firstAt (place at) s))))
   declared ks (G.entity x n) at s =
       S.declares (put (begin (place at) K.ENTITY 0) (two (numberOf ks x) ++ four (n .value))) (firstAt (place at) s)
 
@@ -100,7 +104,6 @@ remembered-append : (ks : List Known) (es fs : List Event) → remembered ks (es
 unfolding remembered
 remembered-append ks [] fs = refl
 remembered-append ks (e ∷ es) fs = remembered-append (remembers ks e) es fs
-
 
 -- Names that are only asked for change nothing that is known.
 abbrev Quiet : List Event → Type 0
@@ -157,7 +160,8 @@ quiet-give (G.give x n) = quiet-asks resource x
 
 quiet-gives : (g : G.Gives) → Quiet (inGives g)
 quiet-gives G.noGives = quiet-none
-quiet-gives (G.gives x n gs) = quiet-append (asks resource x ∷ []) (collect inGive gs) (quiet-asks resource x) (quiet-collect inGive quiet-give gs)
+quiet-gives (G.gives x n gs) = quiet-append (asks resource x ∷ []) (collect inGive gs) (quiet-asks resource x)
+    (quiet-collect inGive quiet-give gs)
 
 quiet-act : {k : G.Kind} (a : G.Act k) → Quiet (inAct a)
 quiet-act (G.hold e) = quiet-ex e
@@ -171,13 +175,15 @@ quiet-act (G.putS x n) = quiet-asks sync x
 quiet-act (G.become x) = quiet-asks sync x
 quiet-act (G.req c) = quiet-claim c
 quiet-act (G.try c b bs) =
-    quiet-append (inClaim c ++ inAct b) (inAct bs) (quiet-append (inClaim c) (inAct b) (quiet-claim c) (quiet-act b)) (quiet-act bs)
+    quiet-append (inClaim c ++ inAct b) (inAct bs) (quiet-append (inClaim c) (inAct b) (quiet-claim c) (quiet-act b))
+    (quiet-act bs)
 quiet-act (G.while c b) = quiet-append (inClaim c) (inAct b) (quiet-claim c) (quiet-act b)
 quiet-act (G.start x n g) = quiet-append (asks class x ∷ []) (inGives g) (quiet-asks class x) (quiet-gives g)
 quiet-act G.close = quiet-none
 quiet-act G.noBranches = quiet-none
 quiet-act (G.etry c b bs) =
-    quiet-append (inClaim c ++ inAct b) (inAct bs) (quiet-append (inClaim c) (inAct b) (quiet-claim c) (quiet-act b)) (quiet-act bs)
+    quiet-append (inClaim c ++ inAct b) (inAct bs) (quiet-append (inClaim c) (inAct b) (quiet-claim c) (quiet-act b))
+    (quiet-act bs)
 quiet-act G.noActions = quiet-none
 quiet-act (G.follow a b) = quiet-append (inAct a) (inAct b) (quiet-act a) (quiet-act b)
 
@@ -192,47 +198,64 @@ module _ (place : ℕ → ℕ) where
       (ks : List Known) (x : Name) (p : ℕ) (d : Draft) (s : Sheet) (at : ℕ) (ts : List Token) → s .levels ≡ [] →
       (y : Name) × (q : ℕ) × (f : Draft)
       × (flow place at (declare e ts) (textS ∷ []) (reader ks x p d s)
-      ≡ flow place (pastDeclaration e at) ts (textS ∷ []) (reader (remembered ks (inDeclaration e)) y q f (declared place ks e at s)))
+      ≡ flow place (pastDeclaration e at) ts (textS ∷ [])
+      (reader (remembered ks (inDeclaration e)) y q f (declared place ks e at s)))
 
   res-reads : (z : Name) (n : G.Number) → Reads (G.res z n)
-  unfolding flow effect draftAfter sheetAfter knownAfter after drafted atSign atName atText atNumber put declared remembered remembers
+  unfolding flow declared remembered
   res-reads z n ks x p d s at ts l =
       let f : Draft = begin (place at) K.RES K.RES in
-      let q : Reader = reader (keeps ks (declares K.RES z)) x p f (firstAt (place at) s) in
-      (x, p, put f (four (n .value)),
-      C.number-goes place q No.topNumber n f (suc (suc (suc (suc at)))) (mark Tk.RP ∷ mark Tk.SEMI ∷ ts) (sign Tk.RP ∷ sign Tk.SEMI ∷ textS ∷ []))
+      let q : Reader = reader (keeps ks (declares K.RES z)) x p f (firstAt (place at) s) in (
+        x,
+        p,
+        put f (four (n .value)),
+        C.number-goes place q No.topNumber n f (suc (suc (suc (suc at)))) (mark Tk.RP ∷ mark Tk.SEMI ∷ ts)
+            (sign Tk.RP ∷ sign Tk.SEMI ∷ textS ∷ []),
+      )
 
   bin-reads : (z : Name) (n : G.Number) → Reads (G.bin z n)
-  unfolding flow effect draftAfter sheetAfter knownAfter after drafted atSign atName atText atNumber put declared remembered remembers
+  unfolding flow declared remembered
   bin-reads z n ks x p d s at ts l =
       let f : Draft = begin (place at) K.BIN K.BIN in
-      let q : Reader = reader (keeps ks (declares K.BIN z)) x p f (firstAt (place at) s) in
-      (x, p, put f (four (n .value)),
-      C.number-goes place q No.topNumber n f (suc (suc (suc (suc at)))) (mark Tk.RP ∷ mark Tk.SEMI ∷ ts) (sign Tk.RP ∷ sign Tk.SEMI ∷ textS ∷ []))
+      let q : Reader = reader (keeps ks (declares K.BIN z)) x p f (firstAt (place at) s) in (
+        x,
+        p,
+        put f (four (n .value)),
+        C.number-goes place q No.topNumber n f (suc (suc (suc (suc at)))) (mark Tk.RP ∷ mark Tk.SEMI ∷ ts)
+            (sign Tk.RP ∷ sign Tk.SEMI ∷ textS ∷ []),
+      )
 
   sync-reads : (z : Name) → Reads (G.sync z)
-  unfolding flow effect draftAfter sheetAfter knownAfter after drafted atSign atName atText declared remembered remembers
+  unfolding flow declared remembered
   sync-reads z ks x p d s at ts l = (x, p, begin (place at) K.SYNC K.SYNC, refl)
 
   entity-reads : (z : Name) (n : G.Number) → Reads (G.entity z n)
-  unfolding flow effect draftAfter sheetAfter knownAfter after drafted atSign atText put declared remembered remembers
+  unfolding flow declared remembered
   entity-reads z n ks x p d s at ts l =
       let f : Draft = begin (place at) K.ENTITY 0 in
-      let q : Reader = reader ks x p f (firstAt (place at) s) in
-      (x, p, shaped (put f (two (numberOf ks z) ++ four (n .value))) (asking K.CLASS) 0 0 0,
-      C.pair-goes place q f K.CLASS 0 0 0 z n (record { noExpression = refl; noStart = refl }) (suc at) (mark Tk.SEMI ∷ ts) (sign Tk.SEMI ∷ textS ∷ []))
+      let q : Reader = reader ks x p f (firstAt (place at) s) in (
+        x,
+        p,
+        shaped (put f (two (numberOf ks z) ++ four (n .value))) (asking K.CLASS) 0 0 0,
+        C.pair-goes place q f K.CLASS 0 0 0 z n (record { noExpression = refl; noStart = refl }) (suc at) (mark Tk.SEMI ∷ ts)
+            (sign Tk.SEMI ∷ textS ∷ []),
+      )
 
   var-reads : (z : Name) (n : G.Signed) → Reads (G.var z n)
-  unfolding flow effect draftAfter sheetAfter knownAfter after drafted atSign atName atText put declared remembered remembers
+  unfolding flow declared remembered
   var-reads z n ks x p d s at ts l =
       let f : Draft = begin (place at) K.VAR K.VAR in
-      let q : Reader = reader (keeps ks (declares K.VAR z)) x p f (firstAt (place at) s) in
-      (x, p, put f (four (code (signedOf n))),
-      C.signed-goes place q f n (record { noExpression = refl; noStart = refl }) (suc (suc (suc (suc at)))) (mark Tk.RP ∷ mark Tk.SEMI ∷ ts)
-      (sign Tk.RP ∷ sign Tk.SEMI ∷ textS ∷ []))
+      let q : Reader = reader (keeps ks (declares K.VAR z)) x p f (firstAt (place at) s) in (
+        x,
+        p,
+        put f (four (code (signedOf n))),
+        C.signed-goes place q f n (record { noExpression = refl; noStart = refl }) (suc (suc (suc (suc at))))
+            (mark Tk.RP ∷ mark Tk.SEMI ∷ ts)
+            (sign Tk.RP ∷ sign Tk.SEMI ∷ textS ∷ []),
+      )
 
   sampler-reads : (z : Name) (a b : G.Signed) (n : G.Number) → Reads (G.sampler z a b n)
-  unfolding flow effect draftAfter sheetAfter knownAfter after drafted atSign atName atNumber atText put declared remembered remembers
+  unfolding flow declared remembered
   sampler-reads z a b n ks x p d s at ts l =
       let f : Draft = begin (place at) K.SAMPLER K.SAMPLER in
       let q : Reader = reader (keeps ks (declares K.SAMPLER z)) x p f (firstAt (place at) s) in
@@ -240,36 +263,42 @@ module _ (place : ℕ → ℕ) where
       let low : List ℕ = four (code (signedOf a)) in
       let high : List ℕ = four (code (signedOf b)) in
       let k : ℕ = pastSigned a (suc (suc (suc (suc at)))) in
-      let j : ℕ = pastSigned b (suc k) in
-      (x, p, put f (low ++ high ++ four (n .value)),
-      C.signed-goes place q f a plain (suc (suc (suc (suc at))))
-      (mark Tk.COMMA ∷ spellSigned b (mark Tk.COMMA ∷ number (n .value) ∷ mark Tk.RP ∷ mark Tk.SEMI ∷ ts))
-      (sign Tk.COMMA ∷ signedS ∷ sign Tk.COMMA ∷ upto No.topNumber ∷ sign Tk.RP ∷ sign Tk.SEMI ∷ textS ∷ [])
-      ∙ C.signed-goes place q (put f low) b plain (suc k) (mark Tk.COMMA ∷ number (n .value) ∷ mark Tk.RP ∷ mark Tk.SEMI ∷ ts)
-      (sign Tk.COMMA ∷ upto No.topNumber ∷ sign Tk.RP ∷ sign Tk.SEMI ∷ textS ∷ [])
-      ∙ C.number-goes place q No.topNumber n (put (put f low) high) (suc j) (mark Tk.RP ∷ mark Tk.SEMI ∷ ts)
-      (sign Tk.RP ∷ sign Tk.SEMI ∷ textS ∷ [])
-      ∙ ap (λ (y : Draft). flow place (suc (suc (suc (suc j)))) ts (textS ∷ [])
-      (reader (keeps ks (declares K.SAMPLER z)) x p y (S.declares y (firstAt (place at) s))))
-      (ap (λ (y : Draft). put y (four (n .value))) (put-put f low high) ∙ put-put f (low ++ high) (four (n .value))))
+      let j : ℕ = pastSigned b (suc k) in (
+        x,
+        p,
+        put f (low ++ high ++ four (n .value)),
+        C.signed-goes place q f a plain (suc (suc (suc (suc at))))
+            (mark Tk.COMMA ∷ spellSigned b (mark Tk.COMMA ∷ number (n .value) ∷ mark Tk.RP ∷ mark Tk.SEMI ∷ ts))
+            (sign Tk.COMMA ∷ signedS ∷ sign Tk.COMMA ∷ upto No.topNumber ∷ sign Tk.RP ∷ sign Tk.SEMI ∷ textS ∷ [])
+            ∙ C.signed-goes place q (put f low) b plain (suc k)
+            (mark Tk.COMMA ∷ number (n .value) ∷ mark Tk.RP ∷ mark Tk.SEMI ∷ ts)
+            (sign Tk.COMMA ∷ upto No.topNumber ∷ sign Tk.RP ∷ sign Tk.SEMI ∷ textS ∷ [])
+            ∙ C.number-goes place q No.topNumber n (put (put f low) high) (suc j) (mark Tk.RP ∷ mark Tk.SEMI ∷ ts)
+            (sign Tk.RP ∷ sign Tk.SEMI ∷ textS ∷ [])
+            ∙ ap (λ (y : Draft). flow place (suc (suc (suc (suc j)))) ts (textS ∷ [])
+            (reader (keeps ks (declares K.SAMPLER z)) x p y (S.declares y (firstAt (place at) s))))
+            (ap (λ (y : Draft). put y (four (n .value))) (put-put f low high) ∙ put-put f (low ++ high) (four (n .value))),
+      )
 
   announced-reads : (z : Name) → Reads (G.class z G.announced)
-  unfolding flow effect draftAfter sheetAfter knownAfter after drafted atName atText declared remembered remembers
+  unfolding flow declared remembered
   announced-reads z ks x p d s at ts l = (z, place (suc at), begin (place at) K.CLASS K.CLASS, refl)
 
-  local-name : (y : Name) (ks : List Known) (x : Name) (p : ℕ) (d : Draft) (s : Sheet) (at : ℕ) (ts : List Token) (us : List Symbol) →
+  local-name : (y : Name) (ks : List Known) (x : Name) (p : ℕ) (d : Draft) (s : Sheet) (at : ℕ) (ts : List Token)
+      (us : List Symbol) →
       d .role ≡ LOCAL →
       flow place at (name y ∷ ts) (nameS ∷ us) (reader ks x p d s)
       ≡ flow place (suc at) ts us (reader (keeps ks (declares LOCAL y)) x p d s)
-  unfolding flow effect draftAfter sheetAfter knownAfter after drafted atName
+  unfolding flow
   local-name y ks x p d s at ts us e = rw e
 
   -- The locals of a class body.
-  few-read : {k : ℕ} (xs : Few k) (ks : List Known) (x : Name) (p : ℕ) (d : Draft) (s : Sheet) (at : ℕ) (ts : List Token) (us : List Symbol) →
+  few-read : {k : ℕ} (xs : Few k) (ks : List Known) (x : Name) (p : ℕ) (d : Draft) (s : Sheet) (at : ℕ) (ts : List Token)
+      (us : List Symbol) →
       d .role ≡ LOCAL →
       flow place at (spellFew xs (mark Tk.SEMI ∷ ts)) (fewS k ∷ us) (reader ks x p d s)
       ≡ flow place (suc (pastFew xs at)) ts us (reader (remembered ks (inFew xs)) x p d s)
-  unfolding flow effect draftAfter sheetAfter knownAfter after drafted atName remembered remembers
+  unfolding flow remembered
   few-read {k = zero} G.noNames ks x p d s at ts us e = refl
   few-read {k = suc k} G.noNames ks x p d s at ts us e = refl
   few-read {k = suc k} (G.also y ys) ks x p d s at ts us e =
@@ -280,33 +309,39 @@ module _ (place : ℕ → ℕ) where
   abbrev fresh : Sheet → Sheet
   fresh t = braces t
 
-  locals-read : (ls : Locals) (ks : List Known) (x : Name) (p : ℕ) (d : Draft) (t : Sheet) (at : ℕ) (ts : List Token) (us : List Symbol) →
+  locals-read : (ls : Locals) (ks : List Known) (x : Name) (p : ℕ) (d : Draft) (t : Sheet) (at : ℕ) (ts : List Token)
+      (us : List Symbol) →
       (f : Draft) × (b : Block)
       × (flow place at (spellLocals ls ts) (linesS ∷ us) (reader ks x p d (fresh t))
       ≡ flow place (pastLocals ls at) ts (symbol b ∷ us) (reader (remembered ks (inLocals ls)) x p f (fresh t)))
-  unfolding flow effect draftAfter sheetAfter knownAfter after drafted atAction remembered remembers S.settled braces
+  unfolding flow remembered S.settled braces
   locals-read G.noLocals ks x p d t at ts us = (d, first-lines, refl)
   locals-read (G.locals y ys) ks x p d t at ts us =
-      let f : Draft = begin (place at) 0 LOCAL in
-      (f, some-actions,
-      local-name y ks x p f (fresh t) (suc at) (spellFew ys (mark Tk.SEMI ∷ ts)) (fewS No.moreLocals ∷ actionsS ∷ us) refl
-      ∙ few-read ys (keeps ks (declares LOCAL y)) x p f (fresh t) (suc (suc at)) ts (actionsS ∷ us) refl)
+      let f : Draft = begin (place at) 0 LOCAL in (
+        f,
+        some-actions,
+        local-name y ks x p f (fresh t) (suc at) (spellFew ys (mark Tk.SEMI ∷ ts)) (fewS No.moreLocals ∷ actionsS ∷ us) refl
+            ∙ few-read ys (keeps ks (declares LOCAL y)) x p f (fresh t) (suc (suc at)) ts (actionsS ∷ us) refl,
+      )
 
   -- The brace that closes a class body: its locals go.
-  last-brace : (ks : List Known) (x : Name) (p : ℕ) (d : Draft) (s : Sheet) (b : Block) (at : ℕ) (ts : List Token) (us : List Symbol) →
+  last-brace : (ks : List Known) (x : Name) (p : ℕ) (d : Draft) (s : Sheet) (b : Block) (at : ℕ) (ts : List Token)
+      (us : List Symbol) →
       deepness s ≡ 1 → (f : Draft)
       × (flow place at (mark Tk.RB ∷ ts) (symbol b ∷ us) (reader ks x p d s)
       ≡ flow place (suc at) ts us (reader (knows ks leaves) x p f (closed s)))
-  unfolding flow effect draftAfter sheetAfter knownAfter after drafted atAction
+  unfolding flow
   last-brace ks x p d s b at ts us h =
       let f : Draft = begin (place at) 0 0 in
       let go = ap (λ (v : Bool). flow place (suc at) ts us (reader (if v then knows ks leaves else ks) x p f (closed s)))
-          (eq-eqb (length (s .levels)) 1 h) in
-      (f, by-block (λ (z : Symbol). flow place at (mark Tk.RB ∷ ts) (z ∷ us) (reader ks x p d s)
-      ≡ flow place (suc at) ts us (reader (knows ks leaves) x p f (closed s))) b go go go)
+      (eq-eqb (length (s .levels)) 1 h) in (
+        f,
+        by-block (λ (z : Symbol). flow place at (mark Tk.RB ∷ ts) (z ∷ us) (reader ks x p d s)
+            ≡ flow place (suc at) ts us (reader (knows ks leaves) x p f (closed s))) b go go go,
+      )
 
   body-reads : (z : Name) (ls : Locals) (b : G.Act G.actions) → Reads (G.class z (G.body ls b))
-  unfolding flow effect draftAfter sheetAfter knownAfter after drafted atName atText declared remembered remembers
+  unfolding flow declared remembered
   body-reads z ls b ks x p d s at ts l =
       let f : Draft = begin (place at) K.CLASS K.CLASS in
       let t : Sheet = bodiedIn ks z (place at) (firstAt (place at) s) in
@@ -318,12 +353,18 @@ module _ (place : ℕ → ℕ) where
       let two' = acts-go place q b (one .0) (fresh t) (one .1) (pastLocals ls k) (mark Tk.RB ∷ ts) (textS ∷ []) (omega arith) in
       let y : Sheet = sheeted place inBody b (pastLocals ls k) (fresh t) in
       let three = last-brace inBody z (place (suc at)) (two' .0) y (two' .1) (pastAct b (pastLocals ls k)) ts (textS ∷ [])
-          (made-deep place q b (pastLocals ls k) (fresh t) ∙ deep) in
-      (z, place (suc at), three .0, one .2 ∙ two' .2 ∙ three .1
-      ∙ ap (λ (zs : List Known). flow place (suc (pastAct b (pastLocals ls k))) ts (textS ∷ []) (reader zs z (place (suc at)) (three .0) (closed y)))
-      (sym (remembered-append (keeps ks (embodies z)) (inLocals ls ++ inAct b) (leaves ∷ [])
-      ∙ ap (λ (zs : List Known). knows zs leaves)
-      (remembered-append (keeps ks (embodies z)) (inLocals ls) (inAct b) ∙ quiet-act b (remembered (keeps ks (embodies z)) (inLocals ls))))))
+      (made-deep place q b (pastLocals ls k) (fresh t) ∙ deep) in (
+        z,
+        place (suc at),
+        three .0,
+        one .2 ∙ two' .2 ∙ three .1
+            ∙ ap (λ (zs : List Known). flow place (suc (pastAct b (pastLocals ls k))) ts (textS ∷ [])
+            (reader zs z (place (suc at)) (three .0) (closed y)))
+            (sym (remembered-append (keeps ks (embodies z)) (inLocals ls ++ inAct b) (leaves ∷ [])
+            ∙ ap (λ (zs : List Known). knows zs leaves)
+            (remembered-append (keeps ks (embodies z)) (inLocals ls) (inAct b)
+            ∙ quiet-act b (remembered (keeps ks (embodies z)) (inLocals ls))))),
+      )
     where
       no-deep : (ks : List Known) (z : Name) (p : ℕ) (s : Sheet) → s .levels ≡ [] → deepness (bodiedIn ks z p (firstAt p s)) ≡ 0
       no-deep ks z p s l =
@@ -351,14 +392,16 @@ module _ (place : ℕ → ℕ) where
   first-open : (p : ℕ) (s : Sheet) → deepness s ≡ 0 → deepness (firstAt p s) ≡ 0
   first-open p s e = either (eqb (s .total) 0) (withFirst s p) s 0 e e
 
-  declared-open : (e : Declaration) (ks : List Known) (at : ℕ) (s : Sheet) → deepness s ≡ 0 → deepness (declared place ks e at s) ≡ 0
+  declared-open : (e : Declaration) (ks : List Known) (at : ℕ) (s : Sheet) → deepness s ≡ 0 →
+      deepness (declared place ks e at s) ≡ 0
   unfolding declared
   declared-open (G.res z n) ks at s h = declares-deep _ (firstAt (place at) s) ∙ first-open (place at) s h
   declared-open (G.bin z n) ks at s h = declares-deep _ (firstAt (place at) s) ∙ first-open (place at) s h
   declared-open (G.sync z) ks at s h = declares-deep _ (firstAt (place at) s) ∙ first-open (place at) s h
   declared-open (G.var z n) ks at s h = declares-deep _ (firstAt (place at) s) ∙ first-open (place at) s h
   declared-open (G.sampler z a b n) ks at s h = declares-deep _ (firstAt (place at) s) ∙ first-open (place at) s h
-  declared-open (G.class z G.announced) ks at s h = classes-deep (place at) No.noBody (firstAt (place at) s) ∙ first-open (place at) s h
+  declared-open (G.class z G.announced) ks at s h = classes-deep (place at) No.noBody (firstAt (place at) s)
+      ∙ first-open (place at) s h
   declared-open (G.class z (G.body ls b)) ks at s h =
       let k : ℕ = pastLocals ls (suc (suc (suc at))) in
       let inBody : List Known = remembered ks (embodies z ∷ inLocals ls) in
@@ -366,9 +409,9 @@ module _ (place : ℕ → ℕ) where
       let t : Sheet = bodiedIn ks z (place at) u in
       let q : Reader = reader inBody z 0 (begin 0 0 0) (braces t) in
       let none-open : deepness t ≡ 0 =
-          either (any (named z) ks) (bodied (numberOf ks z) (blocksOf u) u) (classes (place at) (blocksOf u) u) 0
-          (bodied-deep (numberOf ks z) (blocksOf u) u ∙ first-open (place at) s h)
-          (classes-deep (place at) (blocksOf u) u ∙ first-open (place at) s h) in
+      either (any (named z) ks) (bodied (numberOf ks z) (blocksOf u) u) (classes (place at) (blocksOf u) u) 0
+      (bodied-deep (numberOf ks z) (blocksOf u) u ∙ first-open (place at) s h)
+      (classes-deep (place at) (blocksOf u) u ∙ first-open (place at) s h) in
       closed-deep (sheeted place inBody b k (braces t)) 0 (made-deep place q b k (braces t) ∙ braces-deep t ∙ ap suc none-open)
   declared-open (G.entity z n) ks at s h = declares-deep _ (firstAt (place at) s) ∙ first-open (place at) s h
 
@@ -380,16 +423,21 @@ module _ (place : ℕ → ℕ) where
       (y : Name) × (q : ℕ) × (f : Draft)
       × (flow place at (spellText t []) (textS ∷ []) (reader ks x p d s)
       ≡ reader (remembered ks (events t)) y q f (firstAt (place (pastText t at)) (declaredAll place ks t at s)))
-  unfolding flow effect draftAfter sheetAfter knownAfter after drafted declaredAll remembered
+  unfolding flow declaredAll remembered
   declarations-read [] ks x p d s at h = (x, p, _, refl)
   declarations-read (e ∷ es) ks x p d s at h =
       let one = declaration-reads e ks x p d s at (spellText es []) (nothing-open (s .levels) h) in
       let rest = declarations-read es (remembered ks (inDeclaration e)) (one .0) (one .1) (one .2) (declared place ks e at s)
-          (pastDeclaration e at) (declared-open e ks at s h) in
-      (rest .0, rest .1, rest .2, one .3 ∙ rest .3
-      ∙ ap (λ (zs : List Known). reader zs (rest .0) (rest .1) (rest .2)
-      (firstAt (place (pastText es (pastDeclaration e at))) (declaredAll place (remembered ks (inDeclaration e)) es (pastDeclaration e at) (declared place ks e at s))))
-      (sym (remembered-append ks (inDeclaration e) (events es))))
+      (pastDeclaration e at) (declared-open e ks at s h) in (
+        rest .0,
+        rest .1,
+        rest .2,
+        one .3 ∙ rest .3
+            ∙ ap (λ (zs : List Known). reader zs (rest .0) (rest .1) (rest .2)
+            (firstAt (place (pastText es (pastDeclaration e at)))
+            (declaredAll place (remembered ks (inDeclaration e)) es (pastDeclaration e at) (declared place ks e at s))))
+            (sym (remembered-append ks (inDeclaration e) (events es))),
+      )
 
   -- A WHOLE TEXT makes of the machine's reader what its declarations make, one behind the other.
   pub text-reads : (t : Text) → (y : Name) × (q : ℕ) × (f : Draft)

@@ -1,14 +1,14 @@
 -- What bytes make of a draft: put one behind the other they are put together, and what goes before the last of them.
 -- Assumes nothing.
-use Prim.Native.Nat.{ℕ, zero, suc, _+_, _-_, _≤_, _<_, min}
+use Prim.Native.Nat.{ℕ, _+_, _-_, min}
 use native.Mathlib.Omega.{arith}
-use mathlib.Core.Path.{_≡_, refl, sym, _∙_, ap, subst}
-use mathlib.Core.List.{List, [], _∷_, _++_, append-assoc, append-nil}
+use mathlib.Core.Path.{_≡_, refl, sym, _∙_, ap}
+use mathlib.Core.List.{List, [], _++_, append-assoc}
 use mathlib.Core.Bool.{Bool, true, false, _||_}
-use lib.Dec.{ltb, leb}
+use lib.Dec.{ltb}
 use lib.ListN.{length, take, drop, length-append}
 use lib.Seq.{take-at, drop-at}
-use borrow.Author.Tests.{lt-ltb, le-ltb, ltb-true, ltb-false}
+use borrow.Author.Tests.{lt-ltb, ltb-true, ltb-false}
 use Rattle.semantics.specs.Words.{if_then_else_}
 use Rattle.text_machine.specs.Entry.{Draft, KEPT, FULL, withBody, put, putAt}
 
@@ -43,7 +43,8 @@ twice-body : (o x z : Bool) (bs xs ys : List ℕ) → (x ≡ true → z ≡ true
     (if (o || x) || z then [] else (if o || x then [] else bs ++ xs) ++ ys) ≡ (if o || z then [] else bs ++ (xs ++ ys))
 twice-body true x z bs xs ys e = refl
 twice-body false true true bs xs ys e = refl
-twice-body false true false bs xs ys e = let k : _≡_ {A = Bool} false true = e refl in let w : _≡_ {A = ℕ} 0 1 = cc in absurd (omega arith)
+twice-body false true false bs xs ys e = let k : _≡_ {A = Bool} false true = e refl in let w : _≡_ {A = ℕ} 0 1 = cc in absurd
+    (omega arith)
 twice-body false false true bs xs ys e = refl
 twice-body false false false bs xs ys e = append-assoc bs xs ys
 
@@ -55,7 +56,8 @@ module _ (d : Draft) (xs ys : List ℕ) where
   further = ltb KEPT (min FULL (d .size + length xs) + length ys)
 
   far-further : far ≡ true → further ≡ true
-  far-further e = let h = ltb-true KEPT (d .size + length xs) e in lt-ltb KEPT (min FULL (d .size + length xs) + length ys) (omega arith)
+  far-further e = let h = ltb-true KEPT (d .size + length xs) e in lt-ltb KEPT (min FULL (d .size + length xs) + length ys)
+      (omega arith)
 
   both : ltb KEPT (d .size + length (xs ++ ys)) ≡ ltb KEPT (d .size + (length xs + length ys))
   both = rw (length-append xs ys)
@@ -71,17 +73,21 @@ module _ (d : Draft) (xs ys : List ℕ) where
         where
           go : (o x : Bool) → far ≡ x → o || further ≡ o || ltb KEPT (d .size + length (xs ++ ys))
           go true x e = refl
-          go false true e = far-further e ∙ sym (let h = ltb-true KEPT (d .size + length xs) e in rw (length-append xs ys) (lt-ltb KEPT (d .size + (length xs + length ys)) (omega arith)))
+          go false true e = far-further e ∙ sym (let h = ltb-true KEPT (d .size + length xs) e in rw (length-append xs ys)
+              (lt-ltb KEPT (d .size + (length xs + length ys)) (omega arith)))
           go false false e =
               let h = ltb-false KEPT (d .size + length xs) e in
               rw (length-append xs ys)
-              (let m : min FULL (d .size + length xs) + length ys ≡ d .size + (length xs + length ys) = omega arith in ap (λ (n : ℕ). ltb KEPT n) m)
+              (let m : min FULL (d .size + length xs) + length ys ≡ d .size + (length xs + length ys) = omega arith in ap
+              (λ (n : ℕ). ltb KEPT n) m)
 
   pub put-put : put (put d xs) ys ≡ put d (xs ++ ys)
   unfolding put
   put-put =
-      same-body d put-put-body (twice-over (d .over) (d .size) (length xs) (length ys) ∙ ap (λ (b : Bool). d .over || b) (sym both))
-      (twice-size (d .over) (d .size) (length xs) (length ys) ∙ ap (λ (n : ℕ). min FULL (d .size + n)) (sym (length-append xs ys)))
+      same-body d put-put-body (twice-over (d .over) (d .size) (length xs) (length ys)
+      ∙ ap (λ (b : Bool). d .over || b) (sym both))
+      (twice-size (d .over) (d .size) (length xs) (length ys)
+      ∙ ap (λ (n : ℕ). min FULL (d .size + n)) (sym (length-append xs ys)))
 
 -- Whole stays whole.
 pub whole-put : (d : Draft) (bs : List ℕ) → Whole d → Whole (put d bs)
@@ -120,7 +126,8 @@ put-before d xs ys w =
     bodies true x f g = rw f
     bodies false true f g =
         let h = ltb-true KEPT (d .size + length ys) g in
-        let k : ltb KEPT (d .size + length (xs ++ ys)) ≡ true = lt-ltb KEPT (d .size + length (xs ++ ys)) (omega (arith, turned)) in
+        let k : ltb KEPT (d .size + length (xs ++ ys)) ≡ true = lt-ltb KEPT (d .size + length (xs ++ ys))
+        (omega (arith, turned)) in
         rw (f, k)
     bodies false false f g =
         let h = ltb-false KEPT (d .size + length ys) g in

@@ -192,7 +192,7 @@ module _ (place : ℕ → ℕ) where
   -- What is known then.
   pub known-story : (at : ℕ) (ts : List Token) (ss : List Symbol) (r : Reader) → Fewer (r .known) (story at ts ss r) →
       flow place at ts ss r .known ≡ N.after (r .known) (story at ts ss r)
-  unfolding flow story effect after N.after
+  unfolding flow story N.after
   known-story at [] ss r h = refl
   known-story at (t ∷ ts) [] r h = refl
   known-story at (t ∷ ts) (s ∷ ss) r h =

@@ -1,12 +1,13 @@
--- The machine writes an expression as its nodes: what the tokens of an expression make of a draft is its nodes, put behind the body.
+-- The machine writes an expression as its nodes: what the tokens of an expression make of a draft is its nodes, put behind the
+-- body.
 -- Assumes nothing.
-use Prim.Native.Nat.{ℕ, zero, suc, _+_, _≤_, _<_}
+use Prim.Native.Nat.{ℕ, suc, _+_}
 use native.Mathlib.Omega.{arith}
-use mathlib.Core.Path.{_≡_, refl, sym, _∙_, ap, subst}
+use mathlib.Core.Path.{_≡_, refl, _∙_, ap}
 use mathlib.Core.List.{List, [], _∷_, _++_}
 use mathlib.Core.Bool.{Bool, true, false, _&&_}
-use mathlib.Core.Option.{Option, none, some}
-use lib.Dec.{T, leb, ltb, eqb}
+use mathlib.Core.Option.{Option}
+use lib.Dec.{leb, eqb}
 use lib.ListN.{length}
 use borrow.Author.Tests.{lt-ltb}
 use Rattle.semantics.specs.Words.{if_then_else_}
@@ -15,19 +16,20 @@ use Rattle.semantics.specs.Model as M
 use Rattle.semantics.specs.Model.{Expr}
 use Rattle.text_semantics.specs.Numbers as No
 use Rattle.text_semantics.specs.Token as Tk
-use Rattle.text_semantics.specs.Token.{Token, number, mark, name}
+use Rattle.text_semantics.specs.Token.{Token, number, mark}
 use Rattle.text_semantics.specs.Grammar as G
 use Rattle.text_semantics.specs.Grammar.{Upto, Part, Ex, spell, Name}
 use Rattle.text_semantics.specs.Names.{Known}
 use Rattle.text_semantics.specs.Meaning.{kindOf, numberOf, valueOf, minus, Means, means}
 use Rattle.text_semantics.specs.Written.{code, node, nodesOf}
 use Rattle.text_semantics.specs.Table.{Values, Rule, says}
-use Rattle.text_semantics.specs.Reading.{Symbol, Of, say, Row, Val, on, taken, fitted, aNumber, the, one, factorS, minusS, more, Closer}
-use Rattle.text_semantics.specs.Reading.{round, comma, semi, sign}
-use Rattle.text_machine.specs.Entry.{Draft, DEPTH, Start, put, putAt, withStarts, opens, isExpression, opOf, atSign, atFactor, atMinus}
-use Rattle.text_machine.specs.Entry.{atMore, drafted, newTerm, asking, oneMore}
-use Rattle.text_machine.specs.Machine.{Reader, draftAfter, sheetAfter, knownAfter, after}
-use Rattle.text_agrees.specs.Flow.{nextIn, effect, flow, fits-true}
+use Rattle.text_semantics.specs.Reading.{Symbol, Of, say, on, taken, fitted, aNumber, factorS, minusS}
+use Rattle.text_semantics.specs.Reading.{more, Closer}
+use Rattle.text_semantics.specs.Reading.{round, comma, sign}
+use Rattle.text_machine.specs.Entry.{Draft, DEPTH, Start, put, putAt, withStarts, opens, isExpression, opOf}
+use Rattle.text_machine.specs.Entry.{newTerm, asking, oneMore}
+use Rattle.text_machine.specs.Machine.{Reader}
+use Rattle.text_agrees.specs.Flow.{nextIn, flow, fits-true}
 use Rattle.text_agrees.specs.Drafts.{Whole, put-put, whole-put, put-before}
 
 -- The reader with another draft.
@@ -143,7 +145,8 @@ kind-base d (taking a) = kind-put d _
 times-term : (d : Draft) (l : Pending) (p : Expr) → Whole d →
     putAt (behind d l p) (base d l .size) (node 5 0) ≡ started d l (put (base d l) (node 5 0 ++ nodesOf p))
 times-term d l p w =
-    starts-putAt (put (base d l) (nodesOf p)) (record { sum = d .size; term = base d l .size } ∷ d .starts) (base d l .size) (node 5 0)
+    starts-putAt (put (base d l) (nodesOf p)) (record { sum = d .size; term = base d l .size } ∷ d .starts) (base d l .size)
+    (node 5 0)
     ∙ ap (λ (x : Draft). started d l x) (put-before (base d l) (node 5 0) (nodesOf p) (whole-base d l w))
 
 before-sum : (d : Draft) (l : Pending) (p : Expr) (op : ℕ) (ss : List Start) → Whole d →
@@ -169,7 +172,7 @@ module _ (place : ℕ → ℕ) (r : Reader) where
   Does (G.expression n) e =
       (d : Draft) → Ready (suc n) d → (c : Closer) → (q : ℕ)
       × Goes (spell e) (past e) (factorS n ∷ more n c ∷ []) (more n c ∷ []) (started d nothing d)
-        (withStarts (put d (nodesOf (written e))) (record { sum = d .size; term = q } ∷ d .starts))
+      (withStarts (put d (nodesOf (written e))) (record { sum = d .size; term = q } ∷ d .starts))
   Does (G.term n) t =
       (d : Draft) → Ready (suc n) d → (c : Closer) (l : Pending) →
       Goes (spell t) (past t) (factorS n ∷ more n c ∷ []) (more n c ∷ []) (started d l (base d l)) (behind d l (written t))
@@ -232,17 +235,19 @@ module _ (place : ℕ → ℕ) (r : Reader) where
   module _ {n : ℕ} (e : Ex (G.expression n)) (does-e : Does (G.expression n) e) (d : Draft) (h : Ready (suc n) d) where
     pub bracket-goes : Goes (λ ts. spell e (mark Tk.RP ∷ ts)) (λ at. suc (past e at)) (factorS n ∷ more n round ∷ []) []
         (opens d) (put d (nodesOf (written e)))
-    unfolding flow effect draftAfter sheetAfter knownAfter after drafted atMore
+    unfolding flow
     bracket-goes at ts us =
-        ap (λ (x : Draft). flow place at (spell e (mark Tk.RP ∷ ts)) (factorS n ∷ more n round ∷ us) (redrafted r x)) (opens-ready h)
+        ap (λ (x : Draft). flow place at (spell e (mark Tk.RP ∷ ts)) (factorS n ∷ more n round ∷ us) (redrafted r x))
+        (opens-ready h)
         ∙ does-e d h round .1 at (mark Tk.RP ∷ ts) us
         ∙ ap (λ (x : Draft). flow place (suc (past e at)) ts us (redrafted r x)) (closed-put d (nodesOf (written e)))
 
     comma-goes : Goes (λ ts. spell e (mark Tk.COMMA ∷ ts)) (λ at. suc (past e at)) (factorS n ∷ more n comma ∷ []) []
         (opens d) (opens (put d (nodesOf (written e))))
-    unfolding flow effect draftAfter sheetAfter knownAfter after drafted atMore
+    unfolding flow
     comma-goes at ts us =
-        ap (λ (x : Draft). flow place at (spell e (mark Tk.COMMA ∷ ts)) (factorS n ∷ more n comma ∷ us) (redrafted r x)) (opens-ready h)
+        ap (λ (x : Draft). flow place at (spell e (mark Tk.COMMA ∷ ts)) (factorS n ∷ more n comma ∷ us) (redrafted r x))
+        (opens-ready h)
         ∙ does-e d h comma .1 at (mark Tk.COMMA ∷ ts) us
         ∙ ap (λ (x : Draft). flow place (suc (past e at)) ts us (redrafted r (opens x))) (closed-put d (nodesOf (written e)))
 
@@ -252,7 +257,7 @@ module _ (place : ℕ → ℕ) (r : Reader) where
         (λ at. suc (past b (suc (past a (suc at)))))
         (sign Tk.LP ∷ factorS n ∷ more n comma ∷ factorS n ∷ more n round ∷ []) []
         d (put (put d (nodesOf (written a))) (nodesOf (written b)))
-    unfolding flow effect draftAfter sheetAfter knownAfter after drafted atSign
+    unfolding flow
     two-goes at ts us =
         ap (λ (x : Bool). flow place (suc at) (spell a (mark Tk.COMMA ∷ spell b (mark Tk.RP ∷ ts)))
         (factorS n ∷ more n comma ∷ factorS n ∷ more n round ∷ us) (redrafted r (if x then opens d else other))) (h .expression)
@@ -270,39 +275,50 @@ module _ (place : ℕ → ℕ) (r : Reader) where
   negated d xs ys zs = joined (put d (node 9 0)) xs ys zs ∙ put-put d (node 9 0) (xs ++ ys ++ zs)
 
   pub does : {p : Part} (x : Ex p) → Does p x
-  unfolding flow effect draftAfter sheetAfter knownAfter after drafted atFactor atMinus atMore atSign nodesOf means
+  unfolding flow nodesOf means
   does (G.sum {d = n} t ts) = λ d h c.
-      let m = does ts d h c nothing (written t) in
-      (base d (m .0) .size, λ at us zs.
-      does t d h c nothing at (spell ts us) zs
-      ∙ m .3 (past t at) us zs
-      ∙ ap (λ (x : Draft). flow place (past ts (past t at)) us (more n c ∷ zs) (redrafted r (started d (m .0) x)))
-      (put-with d (m .0) (m .1) ∙ ap (λ (x : Expr). put d (nodesOf x)) (m .2)))
+      let m = does ts d h c nothing (written t) in (
+        base d (m .0) .size,
+        λ at us zs.
+            does t d h c nothing at (spell ts us) zs
+            ∙ m .3 (past t at) us zs
+            ∙ ap (λ (x : Draft). flow place (past ts (past t at)) us (more n c ∷ zs) (redrafted r (started d (m .0) x)))
+            (put-with d (m .0) (m .1) ∙ ap (λ (x : Expr). put d (nodesOf x)) (m .2)),
+      )
   does G.noTerms = λ d h c l p. (l, p, refl, λ at ts us. refl)
   does (G.plus {d = n} t ts) = λ d h c l p.
-      let m = does ts d h c (adding (with l p)) (written t) in
-      (m .0, m .1, m .2, λ at us zs.
-      ap (λ (x : Draft). flow place (suc at) (spell t (spell ts us)) (factorS n ∷ more n c ∷ zs) (redrafted r (newTerm x)))
-      (before-sum d l p 3 (record { sum = d .size; term = base d l .size } ∷ d .starts) (h .whole))
-      ∙ does t d h c (adding (with l p)) (suc at) (spell ts us) zs
-      ∙ m .3 (past t (suc at)) us zs)
+      let m = does ts d h c (adding (with l p)) (written t) in (
+        m .0,
+        m .1,
+        m .2,
+        λ at us zs.
+            ap (λ (x : Draft). flow place (suc at) (spell t (spell ts us)) (factorS n ∷ more n c ∷ zs) (redrafted r (newTerm x)))
+            (before-sum d l p 3 (record { sum = d .size; term = base d l .size } ∷ d .starts) (h .whole))
+            ∙ does t d h c (adding (with l p)) (suc at) (spell ts us) zs
+            ∙ m .3 (past t (suc at)) us zs,
+      )
   does (G.less {d = n} t ts) = λ d h c l p.
-      let m = does ts d h c (taking (with l p)) (written t) in
-      (m .0, m .1, m .2, λ at us zs.
-      ap (λ (x : Draft). flow place (suc at) (spell t (spell ts us)) (factorS n ∷ more n c ∷ zs) (redrafted r (newTerm x)))
-      (before-sum d l p 4 (record { sum = d .size; term = base d l .size } ∷ d .starts) (h .whole))
-      ∙ does t d h c (taking (with l p)) (suc at) (spell ts us) zs
-      ∙ m .3 (past t (suc at)) us zs)
+      let m = does ts d h c (taking (with l p)) (written t) in (
+        m .0,
+        m .1,
+        m .2,
+        λ at us zs.
+            ap (λ (x : Draft). flow place (suc at) (spell t (spell ts us)) (factorS n ∷ more n c ∷ zs) (redrafted r (newTerm x)))
+            (before-sum d l p 4 (record { sum = d .size; term = base d l .size } ∷ d .starts) (h .whole))
+            ∙ does t d h c (taking (with l p)) (suc at) (spell ts us) zs
+            ∙ m .3 (past t (suc at)) us zs,
+      )
   does (G.product {d = n} f fs) = λ d h c l at ts us.
       let first = factor-put d l (base d l) f (put (base d l) (nodesOf (written f)))
-          (does f (started d l (base d l)) (inner l (base d l) h (whole-base d l (h .whole)) (kind-base d l))) refl in
+      (does f (started d l (base d l)) (inner l (base d l) h (whole-base d l (h .whole)) (kind-base d l))) refl in
       first at (spell fs ts) (more n c ∷ us) ∙ does fs d h c l (written f) (past f at) ts us
   does G.noFactors = λ d h c l p at ts us. refl
   does (G.times {d = n} f fs) = λ d h c l p at ts us.
       let x : Draft = put (base d l) (node 5 0 ++ nodesOf p) in
       let w : Whole x = whole-put (base d l) (node 5 0 ++ nodesOf p) (whole-base d l (h .whole)) in
       let next = factor-put d l x f (put (base d l) (nodesOf (M.multiply p (written f))))
-          (does f (started d l x) (inner l x h w (kind-put (base d l) (node 5 0 ++ nodesOf p) ∙ kind-base d l))) (multiplies d l p (written f)) in
+      (does f (started d l x) (inner l x h w (kind-put (base d l) (node 5 0 ++ nodesOf p) ∙ kind-base d l)))
+      (multiplies d l p (written f)) in
       ap (λ (y : Draft). flow place (suc at) (spell f (spell fs ts)) (factorS n ∷ more n c ∷ us) (redrafted r y))
       (times-term d l p (h .whole))
       ∙ next (suc at) (spell fs ts) (more n c ∷ us)
@@ -321,35 +337,43 @@ module _ (place : ℕ → ℕ) (r : Reader) where
   does (G.again m) = λ d h at ts us.
       does m (put d (node 9 0)) (ready-put (node 9 0) h) (suc at) ts us
       ∙ ap (λ (x : Draft). flow place (past m (suc at)) ts us (redrafted r x)) (put-put d (node 9 0) (nodesOf (written m)))
-  does (G.value x) = λ d h.
-      (λ at ts us.
-      ap (λ (bs : List ℕ). flow place (suc at) ts us (redrafted r (put d bs))) (value-node (r .known) x),
-      λ at ts us.
-      ap (λ (bs : List ℕ). flow place (suc at) ts us (redrafted r (put (put d (node 9 0)) bs))) (value-node (r .known) x)
-      ∙ ap (λ (y : Draft). flow place (suc at) ts us (redrafted r y)) (put-put d (node 9 0) (nodesOf (valueOf (r .known) x))))
-  does G.clock = λ d h.
-      (λ at ts us. refl,
-      λ at ts us. ap (λ (y : Draft). flow place (suc at) ts us (redrafted r y)) (put-put d (node 9 0) (node 8 0)))
-  does (G.bracket e) = λ d h.
-      (λ at ts us. bracket-goes e (does e) d h (suc at) ts us,
-      λ at ts us.
-      bracket-goes e (does e) (put d (node 9 0)) (ready-put (node 9 0) h) (suc at) ts us
-      ∙ ap (λ (y : Draft). flow place (suc (past e (suc at))) ts us (redrafted r y)) (put-put d (node 9 0) (nodesOf (written e))))
-  does (G.lesser a b) = λ d h.
-      (λ at ts us.
-      two-goes a b (does a) (does b) (put d (node 6 0)) (ready-put (node 6 0) h) (suc at) ts us
-      ∙ ap (λ (y : Draft). flow place (past (G.lesser a b) at) ts us (redrafted r y))
-      (joined d (node 6 0) (nodesOf (written a)) (nodesOf (written b))),
-      λ at ts us.
-      two-goes a b (does a) (does b) (put (put d (node 9 0)) (node 6 0)) (ready-put (node 6 0) (ready-put (node 9 0) h)) (suc at) ts us
-      ∙ ap (λ (y : Draft). flow place (past (G.lesser a b) at) ts us (redrafted r y))
-      (negated d (node 6 0) (nodesOf (written a)) (nodesOf (written b))))
-  does (G.greater a b) = λ d h.
-      (λ at ts us.
-      two-goes a b (does a) (does b) (put d (node 7 0)) (ready-put (node 7 0) h) (suc at) ts us
-      ∙ ap (λ (y : Draft). flow place (past (G.greater a b) at) ts us (redrafted r y))
-      (joined d (node 7 0) (nodesOf (written a)) (nodesOf (written b))),
-      λ at ts us.
-      two-goes a b (does a) (does b) (put (put d (node 9 0)) (node 7 0)) (ready-put (node 7 0) (ready-put (node 9 0) h)) (suc at) ts us
-      ∙ ap (λ (y : Draft). flow place (past (G.greater a b) at) ts us (redrafted r y))
-      (negated d (node 7 0) (nodesOf (written a)) (nodesOf (written b))))
+  does (G.value x) = λ d h. (
+    λ at ts us.
+        ap (λ (bs : List ℕ). flow place (suc at) ts us (redrafted r (put d bs))) (value-node (r .known) x),
+    λ at ts us.
+        ap (λ (bs : List ℕ). flow place (suc at) ts us (redrafted r (put (put d (node 9 0)) bs))) (value-node (r .known) x)
+        ∙ ap (λ (y : Draft). flow place (suc at) ts us (redrafted r y)) (put-put d (node 9 0) (nodesOf (valueOf (r .known) x))),
+  )
+  does G.clock = λ d h. (
+    λ at ts us. refl,
+    λ at ts us. ap (λ (y : Draft). flow place (suc at) ts us (redrafted r y)) (put-put d (node 9 0) (node 8 0)),
+  )
+  does (G.bracket e) = λ d h. (
+    λ at ts us. bracket-goes e (does e) d h (suc at) ts us,
+    λ at ts us.
+        bracket-goes e (does e) (put d (node 9 0)) (ready-put (node 9 0) h) (suc at) ts us
+        ∙ ap (λ (y : Draft). flow place (suc (past e (suc at))) ts us (redrafted r y))
+        (put-put d (node 9 0) (nodesOf (written e))),
+  )
+  does (G.lesser a b) = λ d h. (
+    λ at ts us.
+        two-goes a b (does a) (does b) (put d (node 6 0)) (ready-put (node 6 0) h) (suc at) ts us
+        ∙ ap (λ (y : Draft). flow place (past (G.lesser a b) at) ts us (redrafted r y))
+        (joined d (node 6 0) (nodesOf (written a)) (nodesOf (written b))),
+    λ at ts us.
+        two-goes a b (does a) (does b) (put (put d (node 9 0)) (node 6 0)) (ready-put (node 6 0) (ready-put (node 9 0) h))
+        (suc at) ts us
+        ∙ ap (λ (y : Draft). flow place (past (G.lesser a b) at) ts us (redrafted r y))
+        (negated d (node 6 0) (nodesOf (written a)) (nodesOf (written b))),
+  )
+  does (G.greater a b) = λ d h. (
+    λ at ts us.
+        two-goes a b (does a) (does b) (put d (node 7 0)) (ready-put (node 7 0) h) (suc at) ts us
+        ∙ ap (λ (y : Draft). flow place (past (G.greater a b) at) ts us (redrafted r y))
+        (joined d (node 7 0) (nodesOf (written a)) (nodesOf (written b))),
+    λ at ts us.
+        two-goes a b (does a) (does b) (put (put d (node 9 0)) (node 7 0)) (ready-put (node 7 0) (ready-put (node 9 0) h))
+        (suc at) ts us
+        ∙ ap (λ (y : Draft). flow place (past (G.greater a b) at) ts us (redrafted r y))
+        (negated d (node 7 0) (nodesOf (written a)) (nodesOf (written b))),
+  )

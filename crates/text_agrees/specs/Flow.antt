@@ -1,19 +1,17 @@
 -- What a text's tokens make of the machine's reader, as long as none is in trouble: token by token, over the pile.
 -- Assumes nothing.
-use Prim.Native.Nat.{ℕ, zero, suc}
+use Prim.Native.Nat.{ℕ, suc}
 use mathlib.Core.Path.{_≡_, refl}
 use mathlib.Core.List.{List, [], _∷_, _++_}
 use mathlib.Core.Bool.{Bool, true, false}
 use mathlib.Core.Option.{Option, none, some}
-use lib.Dec.{T, leb}
-use Rattle.text_semantics.specs.Token.{Token, number}
-use Rattle.text_semantics.specs.Lexing.{Placed}
-use Rattle.text_semantics.specs.Grammar.{Upto}
-use Rattle.text_semantics.specs.Table.{Values, Rule, says}
-use Rattle.text_semantics.specs.Reading.{Symbol, Of, say, step, Row, taken, fitted, on, aNumber, one, factorS, minusS, signedS}
+use lib.Dec.{T}
+use Rattle.text_semantics.specs.Token.{Token}
+use Rattle.text_semantics.specs.Table.{Rule}
+use Rattle.text_semantics.specs.Reading.{Symbol, Of, say, step, Row, aNumber}
 use Rattle.text_machine.specs.Entry.{Draft}
 use Rattle.text_machine.specs.Sheet.{Sheet}
-use Rattle.text_machine.specs.Machine.{Reader, draftAfter, sheetAfter, knownAfter, after}
+use Rattle.text_machine.specs.Machine.{Reader, draftAfter, sheetAfter, after}
 
 -- What comes then.
 abbrev pub nextIn : {s : Symbol} {t : Token} → Option (Rule Of say s t) → List Symbol

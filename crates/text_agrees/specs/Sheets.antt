@@ -1,9 +1,9 @@
 -- How many blocks are open after each change of a sheet.
 -- Assumes nothing.
-use Prim.Native.Nat.{ℕ, zero, suc, _+_, _≤_}
+use Prim.Native.Nat.{ℕ, suc, _+_}
 use native.Mathlib.Omega.{arith}
-use mathlib.Core.Path.{_≡_, refl, sym, _∙_, ap}
-use mathlib.Core.List.{List, [], _∷_, _++_}
+use mathlib.Core.Path.{_≡_, refl, _∙_}
+use mathlib.Core.List.{List, [], _∷_}
 use mathlib.Core.Bool.{Bool, true, false, _||_}
 use mathlib.Core.Option.{Option, none, some}
 use lib.Dec.{leb, ltb}
@@ -13,8 +13,10 @@ use Rattle.semantics.specs.Numbers as F
 use Rattle.semantics.specs.Kinds as K
 use Rattle.text_semantics.specs.Written.{two}
 use Rattle.text_machine.specs.Entry.{Draft}
-use Rattle.text_machine.specs.Sheet.{Sheet, Level, Kept, keeping, outer, headed, keptIn, letGo, branches, stands, settled, closed, counts, acts}
-use Rattle.text_machine.specs.Sheet.{tries, braces, filled, withPieces, withLast, withTotal, DECLARED, classBytes, long, declaring, declares}
+use Rattle.text_machine.specs.Sheet.{Sheet, Level, Kept, keeping, outer, headed, keptIn, letGo, branches, stands, settled}
+use Rattle.text_machine.specs.Sheet.{closed, counts, acts}
+use Rattle.text_machine.specs.Sheet.{tries, braces, filled, withTotal, DECLARED, classBytes, long}
+use Rattle.text_machine.specs.Sheet.{declaring, declares}
 use Rattle.text_machine.specs.Sheet.{classed, classes, bodied}
 
 abbrev pub deepness : Sheet → ℕ
@@ -32,7 +34,8 @@ keeping-deep o (l ∷ ls) = refl
 pub stands-deep : (k : ℕ) (bs : List ℕ) (s : Sheet) → deepness (stands k bs s) ≡ deepness s
 unfolding stands
 stands-deep k bs s =
-    either (leb F.mostActions (length (s .pieces)) || ltb F.longestFile (s .staged + length (headed k bs))) (filled s) _ (deepness s) refl refl
+    either (leb F.mostActions (length (s .pieces)) || ltb F.longestFile (s .staged + length (headed k bs))) (filled s) _
+    (deepness s) refl refl
 
 pub counts-deep : (d : Draft) (s : Sheet) → deepness (counts d s) ≡ deepness s
 unfolding counts
@@ -53,7 +56,8 @@ settled-deep s = go (keptIn (s .levels))
 pub tries-deep : (d : Draft) (s : Sheet) → deepness (tries d s) ≡ deepness s
 unfolding tries
 tries-deep d s =
-    keeping-deep (some (record { line = d .line; body = d .body })) (branches d (keptIn (s .levels)) s .levels) ∙ go (keptIn (s .levels))
+    keeping-deep (some (record { line = d .line; body = d .body })) (branches d (keptIn (s .levels)) s .levels)
+    ∙ go (keptIn (s .levels))
   where
     go : (o : Option Kept) → deepness (branches d o s) ≡ deepness s
     go none = counts-deep d s

@@ -1,7 +1,7 @@
 -- The symbols of the grammar and the tokens as numbers, as the code has them.
 -- Assumes nothing.
-use Prim.Native.Nat.{ℕ, _+_, _*_, _-_, _/_, _%_}
-use mathlib.Core.List.{List, [], _∷_, map}
+use Prim.Native.Nat.{ℕ, _-_, _/_, _%_}
+use mathlib.Core.List.{List, [], _∷_}
 use lib.Dec.{eqb, leb, ltb}
 use lib.ListN.{getD}
 use Rattle.semantics.specs.Words.{if_then_else_}
@@ -26,8 +26,8 @@ abbrev pub tokenOf : ℕ → ℕ → List ℕ → Token
 tokenOf kind v x =
     if leb kind T.END then mark kind else if eqb kind NUMBER then number v else if eqb kind NAME then name x else bad
 
--- SYMBOLS: a mark that has to come is its number, too, and so are a number and a name; then what has parts, the names that a local
--- line may still have, and the parts of expressions by how many brackets may be opened in them.
+-- SYMBOLS: a mark that has to come is its number, too, and so are a number and a name; then what has parts, the names that a
+-- local line may still have, and the parts of expressions by how many brackets may be opened in them.
 abbrev pub COUNT : ℕ
 COUNT = 50
 
@@ -90,7 +90,8 @@ symbolOf c =
     then one (the c)
     else if ltb c FEW
     then getD
-    (one (aNumber No.topNumber) ∷ one aName ∷ one (aNumber No.topCount) ∷ one (aNumber No.topMagnitude) ∷ signedS ∷ relationS ∷ itemS
+    (one (aNumber No.topNumber) ∷ one aName ∷ one (aNumber No.topCount) ∷ one
+    (aNumber No.topMagnitude) ∷ signedS ∷ relationS ∷ itemS
     ∷ claimS ∷ itemsS ∷ givesS ∷ givenS ∷ actionsS ∷ tryS ∷ linesS ∷ bodyS ∷ textS ∷ [])
     (c - NUMBER)
     textS

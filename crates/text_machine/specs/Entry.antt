@@ -65,36 +65,76 @@ module _ (d : Draft) where
   abbrev pub withRole : ℕ → Draft
   withRole r =
       record {
-        line = d .line; kind = d .kind; role = r; body = d .body; over = d .over; size = d .size; count = d .count; at = d .at;
-        aside = d .aside; starts = d .starts;
+        line = d .line;
+        kind = d .kind;
+        role = r;
+        body = d .body;
+        over = d .over;
+        size = d .size;
+        count = d .count;
+        at = d .at;
+        aside = d .aside;
+        starts = d .starts;
       }
 
   abbrev pub withBody : List ℕ → Bool → ℕ → Draft
   withBody bs o n =
       record {
-        line = d .line; kind = d .kind; role = d .role; body = bs; over = o; size = n; count = d .count; at = d .at;
-        aside = d .aside; starts = d .starts;
+        line = d .line;
+        kind = d .kind;
+        role = d .role;
+        body = bs;
+        over = o;
+        size = n;
+        count = d .count;
+        at = d .at;
+        aside = d .aside;
+        starts = d .starts;
       }
 
   abbrev pub withCount : ℕ → ℕ → Draft
   withCount n a =
       record {
-        line = d .line; kind = d .kind; role = d .role; body = d .body; over = d .over; size = d .size; count = n; at = a;
-        aside = d .aside; starts = d .starts;
+        line = d .line;
+        kind = d .kind;
+        role = d .role;
+        body = d .body;
+        over = d .over;
+        size = d .size;
+        count = n;
+        at = a;
+        aside = d .aside;
+        starts = d .starts;
       }
 
   abbrev pub withAside : ℕ → Draft
   withAside n =
       record {
-        line = d .line; kind = d .kind; role = d .role; body = d .body; over = d .over; size = d .size; count = d .count;
-        at = d .at; aside = n; starts = d .starts;
+        line = d .line;
+        kind = d .kind;
+        role = d .role;
+        body = d .body;
+        over = d .over;
+        size = d .size;
+        count = d .count;
+        at = d .at;
+        aside = n;
+        starts = d .starts;
       }
 
   abbrev pub withStarts : List Start → Draft
   withStarts xs =
       record {
-        line = d .line; kind = d .kind; role = d .role; body = d .body; over = d .over; size = d .size; count = d .count;
-        at = d .at; aside = d .aside; starts = xs;
+        line = d .line;
+        kind = d .kind;
+        role = d .role;
+        body = d .body;
+        over = d .over;
+        size = d .size;
+        count = d .count;
+        at = d .at;
+        aside = d .aside;
+        starts = xs;
       }
 
   -- The body, where n bytes came to it; nothing of it where it is more than is kept.
@@ -361,8 +401,8 @@ numberIn (number n) = n
 numberIn (mark s) = 0
 numberIn bad = 0
 
--- What the token t at p, read where s was still to come, makes of the draft. A name in it is of the kind w and has the number i; k
--- blocks have been opened; `kept` is the try that an etry goes on with.
+-- What the token t at p, read where s was still to come, makes of the draft. A name in it is of the kind w and has the number
+-- i; k blocks have been opened; `kept` is the try that an etry goes on with.
 unfoldable pub drafted : ℕ → ℕ → ℕ → ℕ → Draft → Symbol → Token → Draft → Draft
 unfolding atSign atName atNumber atFactor atMinus atMore atItem atAction atText put
 drafted w i k p kept (one (the s)) t d = atSign k s d

@@ -1,8 +1,8 @@
--- The reader of texts as a machine: it goes over the tokens once, from the left, and keeps only what it needs. That it answers what
--- the definitions say is promised (text_promises); the code meets it.
+-- The reader of texts as a machine: it goes over the tokens once, from the left, and keeps only what it needs. That it answers
+-- what the definitions say is promised (text_promises); the code meets it.
 -- Assumes nothing.
-use Prim.Native.Nat.{ℕ, zero, suc, _+_, _-_}
-use mathlib.Core.List.{List, [], _∷_, _++_, map}
+use Prim.Native.Nat.{ℕ, _+_, _-_}
+use mathlib.Core.List.{List, [], _∷_, _++_}
 use mathlib.Core.Bool.{Bool, true, false, not, _&&_, _||_}
 use mathlib.Core.Option.{Option, none, some}
 use lib.Dec.{eqb, leb, ltb}
@@ -23,7 +23,7 @@ use Rattle.text_semantics.specs.Meaning.{kindOf, numberOf}
 use Rattle.text_semantics.specs.Table.{Rule}
 use Rattle.text_semantics.specs.Reading.{Symbol, Of, say, step, one, the, aName, aNumber, factorS, minusS, more, signedS}
 use Rattle.text_semantics.specs.Reading.{relationS, itemS, claimS, itemsS, givesS, givenS, actionsS, tryS, fewS, linesS, bodyS}
-use Rattle.text_semantics.specs.Reading.{textS, round, comma, semi}
+use Rattle.text_semantics.specs.Reading.{textS}
 use Rattle.text_semantics.specs.Answer.{Answer, refused, written}
 use Rattle.text_machine.specs.Entry.{Draft, ASK, begin, drafted, markIn, nameIn}
 use Rattle.text_machine.specs.Sheet.{Sheet, blank, blocksOf, keptIn, resumed, withFirst, classes, bodied, braces, closed}
@@ -121,7 +121,8 @@ unfoldable pub knownAfter : Reader → Symbol → Token → List Known
 unfolding knows
 knownAfter r (one (the s)) t = r .known
 knownAfter r (one aName) t =
-    if leb ASK (r .draft .role) || isNewClass (r .draft) then r .known else keeps (r .known) (declares (r .draft .role) (nameIn t))
+    if leb ASK (r .draft .role) || isNewClass (r .draft) then r .known else keeps (r .known)
+    (declares (r .draft .role) (nameIn t))
 knownAfter r (one (aNumber b)) t = r .known
 knownAfter r (factorS n) t = r .known
 knownAfter r (minusS n) t = r .known

@@ -1,5 +1,5 @@
--- What a reader of texts has written down, of the declarations and actions that it has read: their records, how many there are and
--- how long they are, and which blocks are open.
+-- What a reader of texts has written down, of the declarations and actions that it has read: their records, how many there are
+-- and how long they are, and which blocks are open.
 -- Assumes nothing.
 use Prim.Native.Nat.{ℕ, zero, suc, _+_, _-_, min}
 use mathlib.Core.List.{List, [], _∷_, _++_}
@@ -56,8 +56,19 @@ pub record Sheet : Type 0 where
 abbrev pub blank : Sheet
 blank =
     record {
-      seen = noneSeen; total = 0; first = 0; lastBlock = 0; lastLine = 0; declared = []; classAt = []; classLine = [];
-      current = 0; pieces = []; staged = 0; levels = []; full = false;
+      seen = noneSeen;
+      total = 0;
+      first = 0;
+      lastBlock = 0;
+      lastLine = 0;
+      declared = [];
+      classAt = [];
+      classLine = [];
+      current = 0;
+      pieces = [];
+      staged = 0;
+      levels = [];
+      full = false;
     }
 
 abbrev pub blocksOf : Sheet → ℕ
@@ -103,65 +114,145 @@ module _ (s : Sheet) where
   abbrev pub withFirst : ℕ → Sheet
   withFirst p =
       record {
-        seen = s .seen; total = s .total; first = p; lastBlock = s .lastBlock; lastLine = s .lastLine;
-        declared = s .declared; classAt = s .classAt; classLine = s .classLine; current = s .current; pieces = s .pieces;
-        staged = s .staged; levels = s .levels; full = s .full;
+        seen = s .seen;
+        total = s .total;
+        first = p;
+        lastBlock = s .lastBlock;
+        lastLine = s .lastLine;
+        declared = s .declared;
+        classAt = s .classAt;
+        classLine = s .classLine;
+        current = s .current;
+        pieces = s .pieces;
+        staged = s .staged;
+        levels = s .levels;
+        full = s .full;
       }
 
   abbrev pub withTotal : List ℕ → ℕ → Sheet
   withTotal seen n =
       record {
-        seen = seen; total = added (s .total) n; first = s .first; lastBlock = s .lastBlock; lastLine = s .lastLine;
-        declared = s .declared; classAt = s .classAt; classLine = s .classLine; current = s .current; pieces = s .pieces;
-        staged = s .staged; levels = s .levels; full = s .full;
+        seen = seen;
+        total = added (s .total) n;
+        first = s .first;
+        lastBlock = s .lastBlock;
+        lastLine = s .lastLine;
+        declared = s .declared;
+        classAt = s .classAt;
+        classLine = s .classLine;
+        current = s .current;
+        pieces = s .pieces;
+        staged = s .staged;
+        levels = s .levels;
+        full = s .full;
       }
 
   abbrev pub withLevels : List Level → Sheet
   withLevels ls =
       record {
-        seen = s .seen; total = s .total; first = s .first; lastBlock = s .lastBlock; lastLine = s .lastLine;
-        declared = s .declared; classAt = s .classAt; classLine = s .classLine; current = s .current; pieces = s .pieces;
-        staged = s .staged; levels = ls; full = s .full;
+        seen = s .seen;
+        total = s .total;
+        first = s .first;
+        lastBlock = s .lastBlock;
+        lastLine = s .lastLine;
+        declared = s .declared;
+        classAt = s .classAt;
+        classLine = s .classLine;
+        current = s .current;
+        pieces = s .pieces;
+        staged = s .staged;
+        levels = ls;
+        full = s .full;
       }
 
   abbrev pub withPieces : List Piece → ℕ → Sheet
   withPieces ps n =
       record {
-        seen = s .seen; total = s .total; first = s .first; lastBlock = s .lastBlock; lastLine = s .lastLine;
-        declared = s .declared; classAt = s .classAt; classLine = s .classLine; current = s .current; pieces = ps;
-        staged = n; levels = s .levels; full = s .full;
+        seen = s .seen;
+        total = s .total;
+        first = s .first;
+        lastBlock = s .lastBlock;
+        lastLine = s .lastLine;
+        declared = s .declared;
+        classAt = s .classAt;
+        classLine = s .classLine;
+        current = s .current;
+        pieces = ps;
+        staged = n;
+        levels = s .levels;
+        full = s .full;
       }
 
   abbrev pub withDeclared : List ℕ → Sheet
   withDeclared bs =
       record {
-        seen = s .seen; total = s .total; first = s .first; lastBlock = s .lastBlock; lastLine = s .lastLine;
-        declared = bs; classAt = s .classAt; classLine = s .classLine; current = s .current; pieces = s .pieces;
-        staged = s .staged; levels = s .levels; full = s .full;
+        seen = s .seen;
+        total = s .total;
+        first = s .first;
+        lastBlock = s .lastBlock;
+        lastLine = s .lastLine;
+        declared = bs;
+        classAt = s .classAt;
+        classLine = s .classLine;
+        current = s .current;
+        pieces = s .pieces;
+        staged = s .staged;
+        levels = s .levels;
+        full = s .full;
       }
 
   abbrev pub withClass : List ℕ → List ℕ → ℕ → Sheet
   withClass ats lines c =
       record {
-        seen = s .seen; total = s .total; first = s .first; lastBlock = s .lastBlock; lastLine = s .lastLine;
-        declared = s .declared; classAt = ats; classLine = lines; current = c; pieces = s .pieces; staged = s .staged;
-        levels = s .levels; full = s .full;
+        seen = s .seen;
+        total = s .total;
+        first = s .first;
+        lastBlock = s .lastBlock;
+        lastLine = s .lastLine;
+        declared = s .declared;
+        classAt = ats;
+        classLine = lines;
+        current = c;
+        pieces = s .pieces;
+        staged = s .staged;
+        levels = s .levels;
+        full = s .full;
       }
 
   abbrev pub withLast : ℕ → ℕ → Sheet
   withLast b p =
       record {
-        seen = s .seen; total = s .total; first = s .first; lastBlock = b; lastLine = p; declared = s .declared;
-        classAt = s .classAt; classLine = s .classLine; current = s .current; pieces = s .pieces; staged = s .staged;
-        levels = s .levels; full = s .full;
+        seen = s .seen;
+        total = s .total;
+        first = s .first;
+        lastBlock = b;
+        lastLine = p;
+        declared = s .declared;
+        classAt = s .classAt;
+        classLine = s .classLine;
+        current = s .current;
+        pieces = s .pieces;
+        staged = s .staged;
+        levels = s .levels;
+        full = s .full;
       }
 
   abbrev pub filled : Sheet
   filled =
       record {
-        seen = s .seen; total = s .total; first = s .first; lastBlock = s .lastBlock; lastLine = s .lastLine;
-        declared = s .declared; classAt = s .classAt; classLine = s .classLine; current = s .current; pieces = s .pieces;
-        staged = s .staged; levels = s .levels; full = true;
+        seen = s .seen;
+        total = s .total;
+        first = s .first;
+        lastBlock = s .lastBlock;
+        lastLine = s .lastLine;
+        declared = s .declared;
+        classAt = s .classAt;
+        classLine = s .classLine;
+        current = s .current;
+        pieces = s .pieces;
+        staged = s .staged;
+        levels = s .levels;
+        full = true;
       }
 
 -- DECLARATIONS. Bytes put behind those that are there.

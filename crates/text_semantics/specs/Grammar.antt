@@ -1,7 +1,7 @@
 -- The grammar of a text (docs/TEXT.md, section 3): a tree has a constructor for each way that a line of the grammar can go, and
 -- its spelling is the tokens of that line. The tokens that follow are the second argument.
 -- Assumes nothing.
-use Prim.Native.Nat.{ℕ, zero, suc}
+use Prim.Native.Nat.{ℕ, suc}
 use mathlib.Core.List.{List, [], _∷_}
 use lib.Dec.{T, leb}
 use Rattle.semantics.specs.Model.{Relation, below, atMost, equals, differs, atLeast, above}

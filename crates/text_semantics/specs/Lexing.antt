@@ -1,6 +1,6 @@
 -- From the bytes of a text to its tokens with their places (docs/TEXT.md, section 2), byte by byte.
 -- Assumes nothing.
-use Prim.Native.Nat.{ℕ, zero, suc, _+_, _*_, _-_, min}
+use Prim.Native.Nat.{ℕ, suc, _+_, _*_, _-_, min}
 use Prim.Native.Char.{code}
 use Prim.Native.String.{String, [] as no-letter, _∷_ as _then_}
 use mathlib.Core.List.{List, [], _∷_, _++_}

@@ -3,7 +3,7 @@
 -- Assumes nothing.
 use Prim.Native.Nat.{ℕ, zero, suc, _+_}
 use mathlib.Core.List.{List, [], _∷_, _++_, map}
-use mathlib.Core.Bool.{Bool, true, false}
+use mathlib.Core.Bool.{Bool, false}
 use lib.Dec.{eqb}
 use lib.ListN.{length}
 use lib.IntN.{ℤ, pos, negsuc}
@@ -18,7 +18,7 @@ use Rattle.text_semantics.specs.Token as T
 use Rattle.text_semantics.specs.Token.{mark}
 use Rattle.text_semantics.specs.Lexing.{sameBytes}
 use Rattle.text_semantics.specs.Grammar as G
-use Rattle.text_semantics.specs.Grammar.{Name, Part, Ex, Kind, Act, Locals, Body, Declaration, Text, digits, spellClaim}
+use Rattle.text_semantics.specs.Grammar.{Name, Part, Ex, Kind, Act, Locals, Declaration, Text, digits, spellClaim}
 use Rattle.text_semantics.specs.Grammar.{toBrace, spellAct, spellLocals, declare}
 use Rattle.text_semantics.specs.Names.{Known, named, LOCAL, embodies, inLocals, inDeclaration, after}
 

@@ -200,7 +200,7 @@ troubleIn ks (e ∷ es) =
     elim (trouble ks e) [
       | some n ↦ some (record { number = n; before = 0 })
       | none ↦ elim (troubleIn (knows ks e) es) [
-          | none ↦ none
-          | some t ↦ some (record { number = t .number; before = names e + t .before })
-        ]
+        | none ↦ none
+        | some t ↦ some (record { number = t .number; before = names e + t .before })
+      ]
     ]

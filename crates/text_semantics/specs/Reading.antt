@@ -17,9 +17,10 @@ use Rattle.text_semantics.specs.Lexing.{ascii}
 use Rattle.text_semantics.specs.Grammar.{Name, Upto, Ex, Signed, Item, Claim, Give, Gives, Act, Few, Locals, Body, Text}
 use Rattle.text_semantics.specs.Grammar.{spell, spellAct, spellItem, spellItems, spellClaim, spellGiven, spellGives}
 use Rattle.text_semantics.specs.Grammar.{spellFew, spellLocals, spellBody, spellText, spellSigned, relation}
-use Rattle.text_semantics.specs.Grammar.{expression, term, terms, factor, factors, minus, atom, action, actions, branches}
+use Rattle.text_semantics.specs.Grammar.{expression, terms, factor, factors, minus, actions, branches}
 use Rattle.text_semantics.specs.Grammar.{sum, noTerms, plus, less, product, noFactors, times, literal, plain, negative}
-use Rattle.text_semantics.specs.Grammar.{magnitude, negated, again, value, clock, bracket, lesser, greater, upward, downward}
+use Rattle.text_semantics.specs.Grammar.{magnitude, negated, again, value, clock, bracket, lesser, greater, upward}
+use Rattle.text_semantics.specs.Grammar.{downward}
 use Rattle.text_semantics.specs.Grammar.{getR, getB, getS, condition, nothing, claim, give, noGives, gives, hold, priority}
 use Rattle.text_semantics.specs.Grammar.{trace, set, repeat, putR, putB, putS, become, req, try, while, start, close}
 use Rattle.text_semantics.specs.Grammar.{noBranches, etry, noActions, follow, noNames, also, noLocals, locals, announced}
@@ -326,7 +327,8 @@ rows textS =
     ∷ on (the K.VAR) (sign K.LP ∷ nameS ∷ sign K.COMMA ∷ signedS ∷ sign K.RP ∷ sign K.SEMI ∷ textS ∷ [])
     (λ v vs. var (vs .1 .0) (vs .1 .1 .1 .0) ∷ vs .1 .1 .1 .1 .1 .1 .0) (λ v vs r. refl)
     ∷ on (the K.SAMPLER)
-    (sign K.LP ∷ nameS ∷ sign K.COMMA ∷ signedS ∷ sign K.COMMA ∷ signedS ∷ sign K.COMMA ∷ upto No.topNumber ∷ sign K.RP ∷ sign K.SEMI
+    (sign K.LP ∷ nameS ∷ sign K.COMMA ∷ signedS ∷ sign K.COMMA ∷ signedS ∷ sign K.COMMA ∷ upto No.topNumber ∷ sign K.RP ∷ sign
+    K.SEMI
     ∷ textS ∷ [])
     (λ v vs. sampler (vs .1 .0) (vs .1 .1 .1 .0) (vs .1 .1 .1 .1 .1 .0) (vs .1 .1 .1 .1 .1 .1 .1 .0)
     ∷ vs .1 .1 .1 .1 .1 .1 .1 .1 .1 .1 .0)

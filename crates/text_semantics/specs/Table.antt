@@ -1,7 +1,7 @@
--- A table of rules, each of which begins with a token, and reading by it: one token after another, over a pile of what is still to
--- come. What is read is a value; where a token doesn't fit, how many did, and a value that begins with those.
+-- A table of rules, each of which begins with a token, and reading by it: one token after another, over a pile of what is still
+-- to come. What is read is a value; where a token doesn't fit, how many did, and a value that begins with those.
 -- Assumes nothing.
-use Prim.Native.Nat.{ℕ, zero, suc}
+use Prim.Native.Nat.{ℕ, suc}
 use mathlib.Core.Path.{_≡_}
 use mathlib.Core.List.{List, [], _∷_, _++_}
 use mathlib.Core.Option.{Option, none, some}

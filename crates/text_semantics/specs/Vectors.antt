@@ -130,7 +130,7 @@ the-55 = refl
 -- Blocks inside blocks, in the order of their braces; what binds how.
 abbrev pub nested : String
 nested =
-    "var(left, 3); class job { do 2 { left := left - 1 - 1; try [left < 0] then { close; } etry [] then { } } trace(-left * 2); } entity(job, 0);"
+    "var(v, 3); class c { do 2 { v := v - 1 - 1; try [v < 0] then { close; } etry [] then { } } trace(-v * 2); } entity(c, 0);"
 
 abbrev one : M.Expr
 one = M.literal (pos 1)
@@ -151,9 +151,11 @@ unfolding answer W.bytesOf
 the-nested = refl
 
 -- One of nearly everything: a comment, what binds how, a minus before a bare number, each kind of item, what is handed over.
-abbrev words : String
+abbrev words : List ℕ
 words =
-    "bin(b, 2); sync(s); # a note\nsampler(d, 1, 6, 7); var(v, -1); res(r, 3); class c { local x; x := greater(d, clock) + lesser(x, v) * 2; req [getB(b, 1), getS(s, 2), v <> -5]; start(c, 4, [(r, 1)]); putB(b, 1); priority(--5); become(s); putS(s, 2); while [v >= 0] { hold(-(3)); } } entity(c, 9);"
+    ascii "bin(b, 2); sync(s); # a note\nsampler(d, 1, 6, 7); var(v, -1); res(r, 3); class c { local x; "
+    ++ ascii "x := greater(d, clock) + lesser(x, v) * 2; req [getB(b, 1), getS(s, 2), v <> -5]; start(c, 4, [(r, 1)]); "
+    ++ ascii "putB(b, 1); priority(--5); become(s); putS(s, 2); while [v >= 0] { hold(-(3)); } } entity(c, 9);"
 
 abbrev inClass : List M.Action
 inClass =
@@ -174,7 +176,7 @@ wordsBytes =
     ∷ R.ENTITY (record { class = 0; offset = 9 })
     ∷ R.BLOCK ∷ map R.ACTION inClass ++ (R.BLOCK ∷ map R.ACTION inWhile))
 
-the-words : to words ≡ written wordsBytes
+the-words : answer words room ≡ written wordsBytes
 unfolding answer W.bytesOf
 the-words = refl
 

@@ -1,8 +1,7 @@
 -- A record as its bytes (document 01, "The model file"): what each says, written down; and the file that a text writes.
 -- Assumes nothing.
-use Prim.Native.Nat.{ℕ, zero, suc, _+_, _-_, _/_, _%_}
-use mathlib.Core.List.{List, [], _∷_, _++_, map}
-use mathlib.Core.Bool.{Bool, true, false}
+use Prim.Native.Nat.{ℕ, _+_, _-_, _/_, _%_}
+use mathlib.Core.List.{List, [], _∷_, _++_}
 use lib.Dec.{ltb}
 use lib.ListN.{length}
 use lib.IntN.{ℤ, pos, negsuc}
@@ -12,8 +11,7 @@ use Rattle.semantics.specs.Model as M
 use Rattle.semantics.specs.Model.{Expr, Relation, Item, Branch, Share, Action}
 use Rattle.semantics.specs.Record as R
 use Rattle.semantics.specs.Record.{Entry}
-use Rattle.text_semantics.specs.Grammar.{Text}
-use Rattle.text_semantics.specs.Meaning.{Owned, records}
+use Rattle.text_semantics.specs.Meaning.{Owned}
 
 -- NUMBERS, little-endian: a byte has 256 values.
 abbrev pub BYTE : ℕ
