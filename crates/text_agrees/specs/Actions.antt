@@ -21,9 +21,8 @@ use Rattle.text_semantics.specs.Grammar.{Name, Kind, Act, spell, spellAct, spel
 use Rattle.text_semantics.specs.Names.{Known, knows, leaves}
 use Rattle.text_semantics.specs.Meaning.{kindOf, numberOf, means, storeIn, claimOf, sharesOf, branch}
 use Rattle.text_semantics.specs.Written.{two, four, counted, claimBytes, shareBytes, nodesOf, actionBody}
-use Rattle.text_semantics.specs.Reading.{Symbol, claimS, givesS, actionsS, tryS, linesS, sign, upto, wholeS, semi}
-use Rattle.text_machine.specs.Entry.{Draft, begin, put, branching, asking}
-use Rattle.text_machine.specs.Entry.{isExpression}
+use Rattle.text_semantics.specs.Reading.{Symbol, claimS, givesS, actionsS, tryS, linesS, sign, upto, wholeS, round, semi}
+use Rattle.text_machine.specs.Entry.{Draft, begin, put, branching, asking, opens, isExpression}
 use Rattle.text_machine.specs.Sheet as S
 use Rattle.text_machine.specs.Sheet.{Sheet, blocksOf, keptIn, resumed, settled, closed, acts, tries, braces}
 use Rattle.text_machine.specs.Machine.{Reader}
@@ -152,38 +151,37 @@ module _ (place : ℕ → ℕ) (r : Reader) where
       flow place at (spellAct a ts) (z ∷ us) (resheeted r d s)
       ≡ flow place (pastAct a at) ts (actionsS ∷ us) (resheeted r (wrote (place at) m) (acts (wrote (place at) m) (settled s)))
 
+  bracketed : (kind : ℕ) → isExpression kind ≡ true → (x : G.Expression) (d : Draft) (s : Sheet) (at : ℕ) (ts : List Token)
+      (us : List Symbol) →
+      flow place (suc (suc at)) (spell x (mark Tk.RP ∷ mark Tk.SEMI ∷ ts)) (wholeS No.brackets round (sign Tk.SEMI ∷ actionsS ∷ us))
+      (resheeted r (opens (begin (place at) kind 0)) (settled s))
+      ≡ flow place (suc (past x (suc (suc at)))) (mark Tk.SEMI ∷ ts) (sign Tk.SEMI ∷ actionsS ∷ us)
+      (resheeted r (put (begin (place at) kind 0) (nodesOf (means (r .known) x))) (settled s))
+  bracketed kind e x d s at ts us =
+      let q : Reader = resheeted r d (settled s) in
+      E.bracket-goes place q x (E.does place q x) (begin (place at) kind 0) (ready (place at) kind e) (suc (suc at))
+      (mark Tk.SEMI ∷ ts) (sign Tk.SEMI ∷ actionsS ∷ us)
+
   hold-goes : (x : G.Expression) → Acts (G.hold x)
   unfolding flow actionBody sheeted
   hold-goes x d s b at ts us l =
-      let q : Reader = resheeted r d (settled s) in
-      let go = E.bracket-goes place q x (E.does place q x) (begin (place at) K.HOLD 0) (ready (place at) K.HOLD refl)
-      (suc (suc at)) (mark Tk.SEMI ∷ ts) (sign Tk.SEMI ∷ actionsS ∷ us) in (
-        wrote (place at) (M.HOLD (means (r .known) x)),
-        by-block
-            (Goes-on (G.hold x) d s at ts us (M.HOLD (means (r .known) x))) b go go go,
-      )
+      let go = bracketed K.HOLD refl x d s at ts us in
+      let m : Action = M.HOLD (means (r .known) x) in
+      (wrote (place at) m, by-block (Goes-on (G.hold x) d s at ts us m) b go go go)
 
   priority-goes : (x : G.Expression) → Acts (G.priority x)
   unfolding flow actionBody sheeted
   priority-goes x d s b at ts us l =
-      let q : Reader = resheeted r d (settled s) in
-      let go = E.bracket-goes place q x (E.does place q x) (begin (place at) K.PRIO 0) (ready (place at) K.PRIO refl)
-      (suc (suc at)) (mark Tk.SEMI ∷ ts) (sign Tk.SEMI ∷ actionsS ∷ us) in (
-        wrote (place at) (M.PRIO (means (r .known) x)),
-        by-block
-            (Goes-on (G.priority x) d s at ts us (M.PRIO (means (r .known) x))) b go go go,
-      )
+      let go = bracketed K.PRIO refl x d s at ts us in
+      let m : Action = M.PRIO (means (r .known) x) in
+      (wrote (place at) m, by-block (Goes-on (G.priority x) d s at ts us m) b go go go)
 
   trace-goes : (x : G.Expression) → Acts (G.trace x)
   unfolding flow actionBody sheeted
   trace-goes x d s b at ts us l =
-      let q : Reader = resheeted r d (settled s) in
-      let go = E.bracket-goes place q x (E.does place q x) (begin (place at) K.TRACE 0) (ready (place at) K.TRACE refl)
-      (suc (suc at)) (mark Tk.SEMI ∷ ts) (sign Tk.SEMI ∷ actionsS ∷ us) in (
-        wrote (place at) (M.TRACE (means (r .known) x)),
-        by-block
-            (Goes-on (G.trace x) d s at ts us (M.TRACE (means (r .known) x))) b go go go,
-      )
+      let go = bracketed K.TRACE refl x d s at ts us in
+      let m : Action = M.TRACE (means (r .known) x) in
+      (wrote (place at) m, by-block (Goes-on (G.trace x) d s at ts us m) b go go go)
 
   -- x := e, of a variable or a local.
   module _ (kind : ℕ) (expression : isExpression kind ≡ true) (action : ltb kind K.ACTION ≡ false) (p i : ℕ) (e : G.Expression)
