@@ -1,3 +1,4 @@
 pub mod Pile
 pub mod Table
 pub mod Laws
+pub mod Same
