@@ -11,3 +11,8 @@ pub mod Events
 pub mod Clues
 pub mod Tales
 pub mod Counts
+pub mod Spans
+pub mod Notes
+pub mod Accounts
+pub mod Laying
+pub mod Layout
