@@ -90,7 +90,7 @@ plain-append (s ∷ ss) zs h g = go (isBody s) (λ e. plain-append ss zs e g) h
     go true f e = never e
     go false f e = f e
 
-total-append : (es fs : List Event) → total (es ++ fs) ≡ total es + total fs
+pub total-append : (es fs : List Event) → total (es ++ fs) ≡ total es + total fs
 total-append [] fs = omega arith
 total-append (e ∷ es) fs = let h = total-append es fs in omega arith
 

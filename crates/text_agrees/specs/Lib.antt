@@ -11,6 +11,8 @@ pub mod Events
 pub mod Clues
 pub mod Tales
 pub mod Counts
+pub mod Named
+pub mod Tested
 pub mod Spans
 pub mod Notes
 pub mod Accounts
