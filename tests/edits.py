@@ -182,7 +182,7 @@ def rows():
 
 def faults(source, told):
     beside = sum(1 for _, over in told if not over)
-    for name in sorted(source.public):
+    for name in sorted(source.public - source.constants):
         if sum(name in over for _, over in told) + beside < 2:
             yield f'{name}: fewer than two edits'
     for tried in sorted({edit.tried for edit, _ in told}):

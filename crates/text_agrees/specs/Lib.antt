@@ -18,3 +18,8 @@ pub mod Notes
 pub mod Accounts
 pub mod Laying
 pub mod Layout
+pub mod Seen
+pub mod Tallies
+pub mod Stages
+pub mod Roomy
+pub mod Going
