@@ -163,7 +163,7 @@ quiet-gives G.noGives = quiet-none
 quiet-gives (G.gives x n gs) = quiet-append (asks resource x ∷ []) (collect inGive gs) (quiet-asks resource x)
     (quiet-collect inGive quiet-give gs)
 
-quiet-act : {k : G.Kind} (a : G.Act k) → Quiet (inAct a)
+pub quiet-act : {k : G.Kind} (a : G.Act k) → Quiet (inAct a)
 quiet-act (G.hold e) = quiet-ex e
 quiet-act (G.priority e) = quiet-ex e
 quiet-act (G.trace e) = quiet-ex e

@@ -50,7 +50,7 @@ module _ (place : ℕ → ℕ) where
     bytes : length (fileOf os) ≡ weight ns + 4 * n
     line : (p : ℕ) → lastLine p os ≡ lines p ns
 
-  last-append : (p : ℕ) (os qs : List Owned) → lastLine p (os ++ qs) ≡ lastLine (lastLine p os) qs
+  pub last-append : (p : ℕ) (os qs : List Owned) → lastLine p (os ++ qs) ≡ lastLine (lastLine p os) qs
   last-append p [] qs = refl
   last-append p (o ∷ os) qs = last-append _ os qs
 

@@ -23,3 +23,8 @@ pub mod Tallies
 pub mod Stages
 pub mod Roomy
 pub mod Going
+pub mod Lines
+pub mod Adding
+pub mod Slots
+pub mod Patches
+pub mod Whole

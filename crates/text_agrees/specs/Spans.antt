@@ -40,7 +40,7 @@ past-span (G.greater a b) n r =
     let x = past-span a (suc (suc n)) (mark Tk.COMMA ∷ spell b (mark Tk.RP ∷ r)) in
     let y = past-span b (suc (past a (suc (suc n)))) (mark Tk.RP ∷ r) in omega arith
 
-signed-span : (z : G.Signed) (n : ℕ) (ts : List Token) → pastSigned z n + length ts ≡ n + length (spellSigned z ts)
+pub signed-span : (z : G.Signed) (n : ℕ) (ts : List Token) → pastSigned z n + length ts ≡ n + length (spellSigned z ts)
 signed-span (G.upward x) n r = omega arith
 signed-span (G.downward x) n r = omega arith
 
@@ -70,7 +70,7 @@ gives-span G.noGives n r = omega arith
 gives-span (G.gives x v gs) n r =
     let a = given-span gs (suc (suc (suc (suc (suc (suc (suc n))))))) (mark Tk.RS ∷ r) in omega arith
 
-act-span : {k : Kind} (a : Act k) (n : ℕ) (ts : List Token) → pastAct a n + length ts ≡ n + length (spellAct a ts)
+pub act-span : {k : Kind} (a : Act k) (n : ℕ) (ts : List Token) → pastAct a n + length ts ≡ n + length (spellAct a ts)
 act-span (G.hold e) n r = let a = past-span e (suc (suc n)) (mark Tk.RP ∷ mark Tk.SEMI ∷ r) in omega arith
 act-span (G.priority e) n r = let a = past-span e (suc (suc n)) (mark Tk.RP ∷ mark Tk.SEMI ∷ r) in omega arith
 act-span (G.trace e) n r = let a = past-span e (suc (suc n)) (mark Tk.RP ∷ mark Tk.SEMI ∷ r) in omega arith
