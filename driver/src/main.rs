@@ -1,6 +1,7 @@
 //! The driver: makes models from a seed and holds the engine, by its C functions, against the second program.
 //!
 //!     driver COUNT [SEED]
+//!     driver texts COUNT [SEED]    texts instead of models, by the second program alone
 //!
 //! Model number k, from 0, has the seed SEED + k, so `driver 1 S` tries the one of seed S again. README.md says more.
 
@@ -21,6 +22,7 @@ mod row;
 mod show;
 mod shrink;
 mod sound;
+mod texts;
 mod waited;
 
 use compare::{Bench, Difference, Effort};
@@ -43,12 +45,14 @@ const STACK: usize = 64 << 20;
 
 fn main() -> ExitCode {
     let words: Vec<String> = std::env::args().skip(1).collect();
-    let numbers: Option<Vec<u64>> = words.iter().map(|word| word.parse().ok()).collect();
+    let of_texts = words.first().is_some_and(|word| word == "texts");
+    let numbers: Option<Vec<u64>> = words[usize::from(of_texts)..].iter().map(|word| word.parse().ok()).collect();
+    let drive = if of_texts { texts::drive } else { drive };
     match numbers.as_deref() {
         Some([count]) => drive(*count, FIRST_SEED),
         Some([count, seed]) => drive(*count, *seed),
         _ => {
-            eprintln!("usage: driver COUNT [SEED]");
+            eprintln!("usage: driver [texts] COUNT [SEED]");
             ExitCode::from(2)
         }
     }

@@ -122,7 +122,7 @@ either f a true e g = e
 either f a false e g = g
 
 -- WHAT EACH CHANGE COUNTS.
-stands-account : (k : ℕ) (bs : List ℕ) (s : Sheet) → account (stands k bs s) ≡ account s
+pub stands-account : (k : ℕ) (bs : List ℕ) (s : Sheet) → account (stands k bs s) ≡ account s
 unfolding stands
 stands-account k bs s =
     either account (account s)
@@ -331,7 +331,7 @@ module _ (s : Sheet) (b : ℕ) (o : Option Kept) (ls : List Level) (at : s .leve
       go none = either (λ y. y .levels) (s .levels) (leb (s .lastBlock) (innermost (s .levels))) refl refl
       go (some x) = refl
 
-counts-stays : {A : Type 0} (f : Sheet → A) (d : Draft) (s : Sheet)
+pub counts-stays : {A : Type 0} (f : Sheet → A) (d : Draft) (s : Sheet)
     → f (withLast (withTotal s (more (s .seen) K.ACTION 1) (long d)) (innermost (s .levels)) (d .line)) ≡ f s
     → f (withTotal s (more (s .seen) K.ACTION 1) (long d)) ≡ f s → f (counts d s) ≡ f s
 unfolding counts

@@ -256,7 +256,7 @@ text-rows =
     numbered : List Symbol
     numbered = sign K.COMMA ∷ upto No.topNumber ∷ sign K.RP ∷ sign K.SEMI ∷ []
 
-found-rule : (P : Token → List Symbol → Type 0) {s : Symbol} {t : Token} (p : Rule Of say s t) → Each P (rows s) →
+pub found-rule : (P : Token → List Symbol → Type 0) {s : Symbol} {t : Token} (p : Rule Of say s t) → Each P (rows s) →
     step s t ≡ some p → P t (p .next)
 found-rule P {s = s} {t = t} p a e = subst (λ (o : Option (Rule Of say s t)). Found P o) e (found P (rows s) t a)
 

@@ -64,7 +64,7 @@ unfolding put
 wrote-kind p a = (refl, refl)
 
 -- A TRY with a branch more.
-collect-append : {A : Type 0} (f : A → List ℕ) (xs ys : List A) → collect f (xs ++ ys) ≡ collect f xs ++ collect f ys
+pub collect-append : {A : Type 0} (f : A → List ℕ) (xs ys : List A) → collect f (xs ++ ys) ≡ collect f xs ++ collect f ys
 collect-append f [] ys = refl
 collect-append f (x ∷ xs) ys =
     ap (λ bs. f x ++ bs) (collect-append f xs ys) ∙ sym (append-assoc (f x) (collect f xs) (collect f ys))

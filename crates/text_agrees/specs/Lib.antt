@@ -28,3 +28,5 @@ pub mod Adding
 pub mod Slots
 pub mod Patches
 pub mod Whole
+pub mod Closing
+pub mod Goodness
