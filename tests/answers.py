@@ -19,14 +19,14 @@ CODE = re.compile(r'`([^`]+)`')
 # What is short for "given what the `requires` asks for", and that.
 SHORT = {'Done': 'Doing', 'PutBack': 'PuttingBack'}
 # An `ensures` may speak of each of these where its form says `of all`: its law shows that there is one.
-EACH = {'List Process', 'Process', 'Model'}
+EACH = {'List Process', 'Process', 'Model', 'Lent'}
 
 
 class Contract:
     """The memories lent to a function to be written, and its clauses, with what is meant at the call written as in `requires`."""
 
     def __init__(self, head):
-        takes, *clauses = re.split(r'^ +(?=requires|ensures)', re.sub(r'\((\w+) \.entry\)', r'\1', head), flags=re.M)
+        takes, *clauses = re.split(r'^ +(?=requires|ensures)', re.sub(r'\((\w+) \.entry\)', r'\1', re.sub('[«»]', '', head)), flags=re.M)
         self.lent = LENT.findall(takes)
         self.asks, self.says = (' '.join(' '.join(clause for clause in clauses if clause.startswith(kind)).split())
                                 for kind in ('requires', 'ensures'))

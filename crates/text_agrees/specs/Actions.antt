@@ -153,7 +153,8 @@ module _ (place : ℕ → ℕ) (r : Reader) where
 
   bracketed : (kind : ℕ) → isExpression kind ≡ true → (x : G.Expression) (d : Draft) (s : Sheet) (at : ℕ) (ts : List Token)
       (us : List Symbol) →
-      flow place (suc (suc at)) (spell x (mark Tk.RP ∷ mark Tk.SEMI ∷ ts)) (wholeS No.brackets round (sign Tk.SEMI ∷ actionsS ∷ us))
+      flow place (suc (suc at)) (spell x (mark Tk.RP ∷ mark Tk.SEMI ∷ ts))
+      (wholeS No.brackets round (sign Tk.SEMI ∷ actionsS ∷ us))
       (resheeted r (opens (begin (place at) kind 0)) (settled s))
       ≡ flow place (suc (past x (suc (suc at)))) (mark Tk.SEMI ∷ ts) (sign Tk.SEMI ∷ actionsS ∷ us)
       (resheeted r (put (begin (place at) kind 0) (nodesOf (means (r .known) x))) (settled s))

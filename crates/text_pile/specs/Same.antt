@@ -82,7 +82,8 @@ unfolding pileOf
 pile-height p zero = refl
 pile-height p (suc h) = ap suc (pile-height p h)
 
-pile-numbers : (p q : List ℕ) (h : ℕ) → Known p h → Known q h → pileOf p h ≡ pileOf q h → (i : ℕ) → i < h → getD p i 0 ≡ getD q i 0
+pile-numbers : (p q : List ℕ) (h : ℕ) → Known p h → Known q h → pileOf p h ≡ pileOf q h → (i : ℕ) → i < h →
+    getD p i 0 ≡ getD q i 0
 unfolding pileOf
 pile-numbers p q zero a b e i l = absurd (omega arith)
 pile-numbers p q (suc h) a b e i l =
@@ -115,7 +116,8 @@ module _ {p : List ℕ} {height kind value : ℕ} where
       go i true f g h = g (ltb-true i (r .height) f)
       go i false f g h = h (ltb-false i (r .height) f)
 
-  pub same-turn : {r s : Turned} {q z : List ℕ} → Turns p height kind value r q → Turns p height kind value s z → (r ≡ s) × (q ≡ z)
+  pub same-turn : {r s : Turned} {q z : List ℕ} → Turns p height kind value r q → Turns p height kind value s z →
+      (r ≡ s) × (q ≡ z)
   same-turn {r} {s} {q} {z} a b = go (r .fits) (s .fits) refl refl (a .answer [] ∙ sym (b .answer []))
     where
       turned : r .fits ≡ s .fits → r .height ≡ s .height → r ≡ s
