@@ -27,16 +27,37 @@ use Rattle.text_agrees.specs.Notes.{lasts-append}
 abbrev pub account : Sheet → Sheet
 account s =
     record {
-      seen = s .seen; total = s .total; first = s .first; lastBlock = s .lastBlock; lastLine = s .lastLine;
-      declared = s .declared; classAt = s .classAt; classLine = s .classLine; current = s .current; pieces = []; staged = 0;
-      levels = []; full = false;
+      seen = s .seen;
+      total = s .total;
+      first = s .first;
+      lastBlock = s .lastBlock;
+      lastLine = s .lastLine;
+      declared = s .declared;
+      classAt = s .classAt;
+      classLine = s .classLine;
+      current = s .current;
+      pieces = [];
+      staged = 0;
+      levels = [];
+      full = false;
     }
 
 abbrev pub heading : Sheet → Sheet
 heading s =
     record {
-      seen = []; total = 0; first = s .first; lastBlock = 0; lastLine = 0; declared = s .declared; classAt = s .classAt;
-      classLine = s .classLine; current = s .current; pieces = []; staged = 0; levels = []; full = false;
+      seen = [];
+      total = 0;
+      first = s .first;
+      lastBlock = 0;
+      lastLine = 0;
+      declared = s .declared;
+      classAt = s .classAt;
+      classLine = s .classLine;
+      current = s .current;
+      pieces = [];
+      staged = 0;
+      levels = [];
+      full = false;
     }
 
 abbrev pub lastOf : Sheet → Last
@@ -153,7 +174,7 @@ module _ (place : ℕ → ℕ) where
             let m = more-at (s .seen) K.ACTION 1 g (let w = c .wide in omega arith) in
             let z = only-none g K.BLOCK in
             let h : getD (more (s .seen) K.ACTION 1) g 0 ≡ getD (s .seen) g 0 + only g K.BLOCK 0 + only g K.ACTION 1 =
-                omega arith in
+            omega arith in
             either (λ x. getD (x .seen) g 0) _ (leb (s .lastBlock) b) h h;
         total = either (λ x. x .total) (added (s .total) (long d)) (leb (s .lastBlock) b) refl refl;
         last = rw e (go (leb (s .lastBlock) b));
@@ -235,11 +256,13 @@ lays-join {s} {t} {u} {ps} {qs} {rs} {ns} {ms} a b = record { came = go }
         → (s .full ≡ false) × ((j : ℕ) → standing j (u .pieces ++ rs) ≡ standing j (s .pieces ++ ps) ++ bytesIn j (ns ++ ms))
     go e =
         let y = b .came e in
-        let x = a .came (y .0) in
-        (x .0, λ j.
-        y .1 j ∙ ap (λ bs. bs ++ bytesIn j ms) (x .1 j)
-        ∙ append-assoc (standing j (s .pieces ++ ps)) (bytesIn j ns) (bytesIn j ms)
-        ∙ ap (λ bs. standing j (s .pieces ++ ps) ++ bs) (sym (bytes-append j ns ms)))
+        let x = a .came (y .0) in (
+          x .0,
+          λ j.
+              y .1 j ∙ ap (λ bs. bs ++ bytesIn j ms) (x .1 j)
+              ∙ append-assoc (standing j (s .pieces ++ ps)) (bytesIn j ns) (bytesIn j ms)
+              ∙ ap (λ bs. standing j (s .pieces ++ ps) ++ bs) (sym (bytes-append j ns ms)),
+        )
 
 pub lays-then : {s t u : Sheet} {ps qs rs : List Piece} {ns : List Note} → Lays s ps t qs ns → Lays t qs u rs []
     → Lays s ps u rs ns
@@ -297,9 +320,11 @@ module _ (s : Sheet) (b : ℕ) (o : Option Kept) (ls : List Level) (at : s .leve
       go (some x) e =
           let t : Sheet = stands K.TRY (x .body) s in
           lays-nothing s (S.withLevels t (S.keeping none (t .levels))) (waiting b (some x)) [] (λ f.
-          let y = stands-pieces K.TRY (x .body) s f in
-          (y .0, append-nil (t .pieces) ∙ y .1
-          ∙ ap (λ ys. s .pieces ++ (record { block = innermost ys; bytes = headed K.TRY (x .body) } ∷ [])) e))
+          let y = stands-pieces K.TRY (x .body) s f in (
+            y .0,
+            append-nil (t .pieces) ∙ y .1
+                ∙ ap (λ ys. s .pieces ++ (record { block = innermost ys; bytes = headed K.TRY (x .body) } ∷ [])) e,
+          ))
 
   pub closed-levels : closed s .levels ≡ ls
   unfolding closed
@@ -346,20 +371,23 @@ pub acts-lays : (d : Draft) (s : Sheet) (b : ℕ) (o : Owned) → innermost (s .
     → headed (d .kind) (d .body) ≡ bytesOf (o .entry) → Lays s [] (acts d s) [] (note b o ∷ [])
 unfolding acts
 acts-lays d s b o i e =
-    record { came = λ f.
-    let y = stands-pieces (d .kind) (d .body) (counts d s) f in
-    let p = counts-stays (λ x. x .pieces) d s refl refl in
-    let l = counts-stays (λ x. x .levels) d s refl refl in
-    let n : Note = note b o in
-    (sym (counts-stays (λ x. x .full) d s refl refl) ∙ y .0,
-    λ j.
-    ap (standing j) (append-nil (acts d s .pieces) ∙ y .1
-    ∙ ap (λ ps. ps ++ (record { block = innermost (counts d s .levels); bytes = headed (d .kind) (d .body) } ∷ [])) p
-    ∙ ap (λ ys. s .pieces ++ (record { block = innermost ys; bytes = headed (d .kind) (d .body) } ∷ [])) l
-    ∙ ap (λ bs. s .pieces ++ (record { block = innermost (s .levels); bytes = bs } ∷ [])) e
-    ∙ ap (λ x. s .pieces ++ (record { block = x; bytes = bytesOf (o .entry) } ∷ [])) i)
-    ∙ standing-append j (s .pieces) (pieces (n ∷ []))
-    ∙ ap (λ ps. standing j ps ++ bytesIn j (n ∷ [])) (sym (append-nil (s .pieces)))) }
+    record {
+      came = λ f.
+          let y = stands-pieces (d .kind) (d .body) (counts d s) f in
+          let p = counts-stays (λ x. x .pieces) d s refl refl in
+          let l = counts-stays (λ x. x .levels) d s refl refl in
+          let n : Note = note b o in (
+            sym (counts-stays (λ x. x .full) d s refl refl) ∙ y .0,
+            λ j.
+                ap (standing j) (append-nil (acts d s .pieces) ∙ y .1
+                ∙ ap (λ ps. ps ++ (record { block = innermost (counts d s .levels); bytes = headed (d .kind) (d .body) } ∷ [])) p
+                ∙ ap (λ ys. s .pieces ++ (record { block = innermost ys; bytes = headed (d .kind) (d .body) } ∷ [])) l
+                ∙ ap (λ bs. s .pieces ++ (record { block = innermost (s .levels); bytes = bs } ∷ [])) e
+                ∙ ap (λ x. s .pieces ++ (record { block = x; bytes = bytesOf (o .entry) } ∷ [])) i)
+                ∙ standing-append j (s .pieces) (pieces (n ∷ []))
+                ∙ ap (λ ps. standing j ps ++ bytesIn j (n ∷ [])) (sym (append-nil (s .pieces))),
+          );
+    }
 
 pub tries-lays : (d : Draft) (s : Sheet) → Lays s [] (tries d s) [] []
 unfolding tries

@@ -113,12 +113,13 @@ module _ (bs : List Branch) (b : Branch) where
       let w = ap length f in
       let v = ap (λ k. length (two k ++ claimBytes (b .claim))) g in
       let p = put-short (branching (resumed (some x))) (two (blocksOf s) ++ claimBytes (b .claim)) refl (omega arith) in
-      let d = ap (λ o. put (branching (resumed o)) (two (blocksOf s) ++ claimBytes (b .claim))) e in
-      (ap (λ u. u .body) d ∙ p .0
-      ∙ ap (λ cs. set cs 0 (suc (getD cs 0 0)) ++ (two (blocksOf s) ++ claimBytes (b .claim))) f
-      ∙ ap (λ k. set (actionBody (M.TRY bs)) 0 (suc (getD (actionBody (M.TRY bs)) 0 0)) ++ (two k ++ claimBytes (b .claim))) g
-      ∙ more-body h,
-      ap (λ u. u .size) d ∙ p .1 ∙ omega arith)
+      let d = ap (λ o. put (branching (resumed o)) (two (blocksOf s) ++ claimBytes (b .claim))) e in (
+        ap (λ u. u .body) d ∙ p .0
+            ∙ ap (λ cs. set cs 0 (suc (getD cs 0 0)) ++ (two (blocksOf s) ++ claimBytes (b .claim))) f
+            ∙ ap (λ k. set (actionBody (M.TRY bs)) 0 (suc (getD (actionBody (M.TRY bs)) 0 0)) ++ (two k ++ claimBytes (b .claim))) g
+            ∙ more-body h,
+        ap (λ u. u .size) d ∙ p .1 ∙ omega arith,
+      )
 
 -- WHERE a body or its branches are read from: the open block b, what is kept in it, the next block k.
 pub record From (s : Sheet) (b : ℕ) (o : Option Kept) (ls : List Level) (k : ℕ) : Type 0 where
@@ -173,15 +174,17 @@ lays-kept s t ps ns b k hi x o a i l e = record { came = go }
         → (s .full ≡ false)
         × ((j : ℕ) → standing j (t .pieces ++ waiting b (some x)) ≡ standing j (s .pieces ++ ps) ++ bytesIn j (n ∷ ns))
     go f =
-        let y = a .came f in
-        (y .0, λ j.
-        standing-append j (t .pieces) (waiting b (some x))
-        ∙ ap (λ bs. standing j (t .pieces) ++ standing j (record { block = b; bytes = bs } ∷ [])) e
-        ∙ ap (λ ps. standing j ps ++ bytesIn j (n ∷ [])) (sym (append-nil (t .pieces)))
-        ∙ ap (λ bs. bs ++ bytesIn j (n ∷ [])) (y .1 j)
-        ∙ append-assoc (standing j (s .pieces ++ ps)) (bytesIn j ns) (bytesIn j (n ∷ []))
-        ∙ ap (λ bs. standing j (s .pieces ++ ps) ++ bs)
-        (sym (bytes-append j ns (n ∷ [])) ∙ bytes-swap j k hi ns (n ∷ []) i ((omega arith, l), tt)))
+        let y = a .came f in (
+          y .0,
+          λ j.
+              standing-append j (t .pieces) (waiting b (some x))
+              ∙ ap (λ bs. standing j (t .pieces) ++ standing j (record { block = b; bytes = bs } ∷ [])) e
+              ∙ ap (λ ps. standing j ps ++ bytesIn j (n ∷ [])) (sym (append-nil (t .pieces)))
+              ∙ ap (λ bs. bs ++ bytesIn j (n ∷ [])) (y .1 j)
+              ∙ append-assoc (standing j (s .pieces ++ ps)) (bytesIn j ns) (bytesIn j (n ∷ []))
+              ∙ ap (λ bs. standing j (s .pieces ++ ps) ++ bs)
+              (sym (bytes-append j ns (n ∷ [])) ∙ bytes-swap j k hi ns (n ∷ []) i ((omega arith, l), tt)),
+        )
 
 -- Notes of inner blocks and those of the block around them change places.
 module _ (place : ℕ → ℕ) (n : Note) (k hi : ℕ) (ns ms rs : List Note) (inner : AllOf (In k hi) ns)
@@ -223,7 +226,7 @@ module _ (place : ℕ → ℕ) (n : Note) (k hi : ℕ) (ns ms rs : List Note) (i
         levels = a .levels;
         grew =
             let g : Grew place s t m (weight filed + 4 * m) read = grew-as place refl (ap (λ w. w + 4 * m) turned-weight)
-                (a .grew) in
+            (a .grew) in
             record {
               wide = g .wide;
               seen = λ i. g .seen i ∙ ap (λ c. getD (s .seen) i 0 + only i K.BLOCK m + only i K.ACTION c) turned-long;
@@ -232,9 +235,11 @@ module _ (place : ℕ → ℕ) (n : Note) (k hi : ℕ) (ns ms rs : List Note) (i
               besides = g .besides;
             };
         lays =
-            record { came = λ f.
-            let x = a .lays .came f in
-            (x .0, λ j. x .1 j ∙ ap (λ bs. standing j (s .pieces ++ waiting b o) ++ bs) (turned-bytes j)) };
+            record {
+              came = λ f.
+                  let x = a .lays .came f in
+                  (x .0, λ j. x .1 j ∙ ap (λ bs. standing j (s .pieces ++ waiting b o) ++ bs) (turned-bytes j));
+            };
       }
 
 module _ (place : ℕ → ℕ) where
@@ -306,13 +311,13 @@ module _ (place : ℕ → ℕ) where
         let n = grew-blocks place g in
         let ns : List Note = notes k (direct ks a (suc k) at) ++ inner ks a (suc k) at in
         let y : Laid place (braces s) k none (s .levels) (sheeted place ks a p (braces s)) (opened a) ns =
-            lies p at own (suc k) k none (s .levels) (braces s) e
-            (record {
-              counting = still-counting place c g;
-              levels = braces-levels s ∙ ap (λ x. level x none ∷ s .levels) h;
-              blocks = omega arith;
-              below = omega arith;
-            }) i j in
+        lies p at own (suc k) k none (s .levels) (braces s) e
+        (record {
+          counting = still-counting place c g;
+          levels = braces-levels s ∙ ap (λ x. level x none ∷ s .levels) h;
+          blocks = omega arith;
+          below = omega arith;
+        }) i j in
         record {
           now = y .now;
           levels = y .levels;
@@ -344,7 +349,7 @@ module _ (place : ℕ → ℕ) where
         let r = f .blocks in
         let js = all-split Short (owned R.BLOCK at ∷ direct ks a (suc k) q) (inside ks a own (suc k) q) i in
         let y = nested a lies (suc (suc (suc p))) q own k s1 (do-span n p ∙ ap (λ x. x + toDo n) e)
-            (still-counting place (f .counting) (d .grew)) (omega arith) (js .0 .1) (js .1) in
+        (still-counting place (f .counting) (d .grew)) (omega arith) (js .0 .1) (js .1) in
         let same : blocksOf (settled s) ≡ k = ap blocksOf (settled-account s) ∙ f .blocks in
         subst (λ (x : ℕ). Laid place s b o ls
         (closed (sheeted place ks a (suc (suc (suc p))) (braces (acts (wrote (place p) (M.DO (n .value) x)) (settled s)))))
@@ -363,7 +368,7 @@ module _ (place : ℕ → ℕ) where
         let r = f .blocks in
         let js = all-split Short (owned R.BLOCK at ∷ direct ks a (suc k) q) (inside ks a own (suc k) q) i in
         let y = nested a lies v q own k s1 (while-span c p ∙ ap (λ x. x + toWhile c) e)
-            (still-counting place (f .counting) (d .grew)) (omega arith) (js .0 .1) (js .1) in
+        (still-counting place (f .counting) (d .grew)) (omega arith) (js .0 .1) (js .1) in
         subst (λ (x : ℕ). Laid place s b o ls
         (closed (sheeted place ks a v (braces (acts (wrote (place p) (M.WHILE x (claimOf ks c))) (settled s)))))
         (suc (opened a)) (note b (owned (R.ACTION m) at) ∷ (notes k (direct ks a (suc k) q) ++ inner ks a (suc k) q)))
@@ -381,12 +386,12 @@ module _ (place : ℕ → ℕ) where
         let r = f .blocks in
         let l = f .below in
         let y = next (pastAct a p) q own n b (x .now) ls t (tokens-span a p ∙ ap (λ w. w + inTokens a) e)
-            (record {
-              counting = still-counting place (f .counting) (x .grew);
-              levels = x .levels;
-              blocks = omega arith;
-              below = omega arith;
-            }) (h .1) (js .1) in
+        (record {
+          counting = still-counting place (f .counting) (x .grew);
+          levels = x .levels;
+          blocks = omega arith;
+          below = omega arith;
+        }) (h .1) (js .1) in
         let w : Note = note b (direct ks a k at) in
         let ms : List Note = notes b (direct ks c n q) in
         let v = weight-append (inner ks a k at) (ms ++ inner ks c n q) in
@@ -423,12 +428,12 @@ module _ (place : ℕ → ℕ) where
         let l0 = settled-levels s b o ls (f .levels) in
         let c0 = still-counting place (f .counting) (grew-nothing place s (settled s) (f .counting) (settled-account s)) in
         let g1 = tries-grew place d (settled s) b w c0 (ap place (sym e) ∙ sym (wrote-kind (place p) m .1)) (ap innermost l0)
-            (ap keptIn l0) in
+        (ap keptIn l0) in
         let s1 : Sheet = tries d (settled s) in
         let n1 = grew-blocks place g1 in
         let r : blocksOf (settled s) ≡ k = ap blocksOf (settled-account s) ∙ f .blocks in
         let js = all-split Short (owned R.BLOCK at ∷ direct ks a (suc k) q ++ inside ks a own (suc k) q)
-            (inside ks bs at n z) i in
+        (inside ks bs at n z) i in
         let ks2 = all-split Short (owned R.BLOCK at ∷ direct ks a (suc k) q) (inside ks a own (suc k) q) (js .0) in
         let inBrace : v ≡ q = try-span c p ∙ ap (λ x. x + toTry c) e in
         let y = nested a lies v q own k s1 inBrace (still-counting place c0 g1) (omega arith) (ks2 .0 .1) (ks2 .1) in
@@ -437,27 +442,27 @@ module _ (place : ℕ → ℕ) where
         let below = f .below in
         let x : Kept = record { line = d .line; body = d .body } in
         let u = rest (suc (pastAct a v)) z at n b x ls t1 (one ∷ []) (braces-span a v ∙ ap (λ i. i + inBraces a) inBrace)
-            (record {
-              counting = still-counting place (still-counting place c0 g1) (y .grew);
-              levels = y .levels ∙ tries-levels (settled s) b none ls l0 d;
-              blocks = omega arith;
-              below = omega arith;
-            }) (short .0) (omega arith) (js .1) in
+        (record {
+          counting = still-counting place (still-counting place c0 g1) (y .grew);
+          levels = y .levels ∙ tries-levels (settled s) b none ls l0 d;
+          blocks = omega arith;
+          below = omega arith;
+        }) (short .0) (omega arith) (js .1) in
         let ns : List Note = notes k (direct ks a (suc k) q) ++ inner ks a (suc k) q in
         let ms : List Note = inner ks bs n z in
         let heavy = weight-append ns ms in
         let t : Sheet = sheeted place ks bs (suc (pastAct a v)) t1 in
         let all : Laid place s b o ls t (suc (opened a + opened bs)) (note b w ∷ (ns ++ ms)) =
-            record {
-              now = some (u .now);
-              levels = u .levels;
-              grew = grew-from place (settled-account s)
-                  (grew-as place (omega arith) (omega arith) (grew-join place g1 (grew-join place (y .grew) (u .grew))));
-              lays = lays-kept s t (waiting b o) (ns ++ ms) b k (k + suc (opened a + opened bs)) (u .now) w
-                  (lays-join (lays-join (lays-join (settled-lays s b o ls (f .levels)) (tries-lays d (settled s))) (y .lays))
-                  (u .lays))
-                  (inner-in ks (G.try c a bs) k at) below (ap (headed K.TRY) (u .body) ∙ action-bytes (M.TRY (one ∷ ys)));
-            } in
+        record {
+          now = some (u .now);
+          levels = u .levels;
+          grew = grew-from place (settled-account s)
+              (grew-as place (omega arith) (omega arith) (grew-join place g1 (grew-join place (y .grew) (u .grew))));
+          lays = lays-kept s t (waiting b o) (ns ++ ms) b k (k + suc (opened a + opened bs)) (u .now) w
+              (lays-join (lays-join (lays-join (settled-lays s b o ls (f .levels)) (tries-lays d (settled s))) (y .lays))
+              (u .lays))
+              (inner-in ks (G.try c a bs) k at) below (ap (headed K.TRY) (u .body) ∙ action-bytes (M.TRY (one ∷ ys)));
+        } in
         subst (λ (i : ℕ). Laid place s b o ls
         (sheeted place ks bs (suc (pastAct a v)) (closed (sheeted place ks a v (braces
         (tries (wrote (place p) (M.TRY (branch i (claimOf ks c) ∷ []))) (settled s))))))
@@ -491,7 +496,7 @@ module _ (place : ℕ → ℕ) where
         let n1 = grew-blocks place g1 in
         let r = f .blocks in
         let js = all-split Short (owned R.BLOCK own ∷ direct ks a (suc k) q ++ inside ks a own (suc k) q)
-            (inside ks bs own n z) i in
+        (inside ks bs own n z) i in
         let ks2 = all-split Short (owned R.BLOCK own ∷ direct ks a (suc k) q) (inside ks a own (suc k) q) (js .0) in
         let inBrace : v ≡ q = try-span c p ∙ ap (λ x. x + toTry c) e in
         let y = nested a lies v q own k s1 inBrace (still-counting place (f .counting) g1) (omega arith) (ks2 .0 .1) (ks2 .1) in
@@ -500,13 +505,13 @@ module _ (place : ℕ → ℕ) where
         let below = f .below in
         let x : Kept = record { line = d .line; body = d .body } in
         let u = rest (suc (pastAct a v)) z own n b x ls t1 (xs ++ (one ∷ []))
-            (braces-span a v ∙ ap (λ i. i + inBraces a) inBrace)
-            (record {
-              counting = still-counting place (still-counting place (f .counting) g1) (y .grew);
-              levels = y .levels ∙ tries-levels s b (some x0) ls (f .levels) d;
-              blocks = omega arith;
-              below = omega arith;
-            }) (draft .0) (omega arith) (js .1) in
+        (braces-span a v ∙ ap (λ i. i + inBraces a) inBrace)
+        (record {
+          counting = still-counting place (still-counting place (f .counting) g1) (y .grew);
+          levels = y .levels ∙ tries-levels s b (some x0) ls (f .levels) d;
+          blocks = omega arith;
+          below = omega arith;
+        }) (draft .0) (omega arith) (js .1) in
         let ns : List Note = notes k (direct ks a (suc k) q) ++ inner ks a (suc k) q in
         let heavy = weight-append ns (inner ks bs n z) in
         record {

@@ -318,12 +318,13 @@ module _ (place : ℕ → ℕ) (ks : List Known) (a : Act G.actions) (own at : �
             let w = u .1 in
             (ap (λ (l : Last). l .1) (g .last) ∙ u .0 ∙ sym (told .line (s .lastLine)), omega arith);
         besides = g .besides;
-        blocks = λ f fresh.
-            (l .came f .0,
-            rw e (still-fresh s t qs k n all (body ks a own k at) l f fresh i),
-            rw e (laid-out s t qs k n all (body ks a own k at) l f fresh i
-            (out-inside k (opened a) own os (inside ks a own (suc k) at) ns (inner-in ks a (suc k) at)
-            (inside-out ks a own (suc k) at))));
+        blocks = λ f fresh. (
+          l .came f .0,
+          rw e (still-fresh s t qs k n all (body ks a own k at) l f fresh i),
+          rw e (laid-out s t qs k n all (body ks a own k at) l f fresh i
+              (out-inside k (opened a) own os (inside ks a own (suc k) at) ns (inner-in ks a (suc k) at)
+              (inside-out ks a own (suc k) at))),
+        );
       }
 
   -- A BODY, from the brace that opens its block to the one that closes it.

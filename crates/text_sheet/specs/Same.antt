@@ -30,9 +30,16 @@ pub same-opened : {block kept line kind size : ℕ} {s r r′ : Sheet}
     Opened block kept s r′ line kind size body st a′ es b′ bs c′ lb d′ kl e′ ks f′ kb g′ →
     (r ≡ r′) × (a ≡ a′) × (b ≡ b′) × (c ≡ c′) × (d ≡ d′) × (e ≡ e′) × (f ≡ f′) × (g ≡ g′)
 same-opened h k =
-    let x = same-braced (h .braced) (k .braced) in
-    (x .0, h .stage ∙ sym (k .stage), h .ends ∙ sym (k .ends), h .blocks ∙ sym (k .blocks), x .1, h .lines ∙ sym (k .lines), x .2,
-    h .bodies ∙ sym (k .bodies))
+    let x = same-braced (h .braced) (k .braced) in (
+      x .0,
+      h .stage ∙ sym (k .stage),
+      h .ends ∙ sym (k .ends),
+      h .blocks ∙ sym (k .blocks),
+      x .1,
+      h .lines ∙ sym (k .lines),
+      x .2,
+      h .bodies ∙ sym (k .bodies),
+    )
 
 -- A try that goes on: its line, its kind, its size and its body are those of one draft.
 pub same-again : {levels : ℕ} {lines sizes bodies before a a′ : List ℕ} {r r′ : Kept} →
@@ -43,8 +50,9 @@ same-again {before = before} {a = a} {a′ = a′} {r = r} {r′ = r′} h k =
     let kind = ap (λ (d : Draft). d .kind) same in
     let size = ap (λ (d : Draft). d .size) same in
     let body = ap (λ (d : Draft). d .body) same in
-    let made : ℕ → ℕ → ℕ → Kept = λ x y z. record { line = x; kind = y; size = z } in
-    (ap (λ (x : ℕ). made x (r .kind) (r .size)) line ∙ ap (λ (x : ℕ). made (r′ .line) x (r .size)) kind
-    ∙ ap (λ (x : ℕ). made (r′ .line) (r′ .kind) x) size,
-    h .rest ∙ ap (λ (x : List ℕ). x ++ drop (r .size) before) body ∙ ap (λ (x : ℕ). take (r′ .size) a′ ++ drop x before) size
-    ∙ sym (k .rest))
+    let made : ℕ → ℕ → ℕ → Kept = λ x y z. record { line = x; kind = y; size = z } in (
+      ap (λ (x : ℕ). made x (r .kind) (r .size)) line ∙ ap (λ (x : ℕ). made (r′ .line) x (r .size)) kind
+          ∙ ap (λ (x : ℕ). made (r′ .line) (r′ .kind) x) size,
+      h .rest ∙ ap (λ (x : List ℕ). x ++ drop (r .size) before) body ∙ ap (λ (x : ℕ). take (r′ .size) a′ ++ drop x before) size
+          ∙ sym (k .rest),
+    )
