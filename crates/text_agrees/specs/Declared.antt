@@ -8,7 +8,7 @@ use mathlib.Core.Bool.{Bool}
 use lib.Dec.{eqb}
 use lib.ListN.{length}
 use borrow.Author.Tests.{eq-eqb}
-use Rattle.semantics.specs.Words.{if_then_else_, any, collect}
+use Rattle.semantics.specs.Words.{if_then_else_, any}
 use Rattle.semantics.specs.Kinds as K
 use Rattle.text_semantics.specs.Numbers as No
 use Rattle.text_semantics.specs.Token as Tk
@@ -18,8 +18,7 @@ use Rattle.text_semantics.specs.Grammar.{Name, Text, Declaration, Locals, Few, 
 use Rattle.text_semantics.specs.Grammar.{declare, spellText}
 use Rattle.text_semantics.specs.Names.{Known, Event, declares, announces, embodies, leaves, asks, knows, named, LOCAL}
 use Rattle.text_semantics.specs.Names.{inDeclaration}
-use Rattle.text_semantics.specs.Names.{inLocals, inFew, inEx, inItem, inClaim, inGive, inGives, inAct, events, resource, bin}
-use Rattle.text_semantics.specs.Names.{sync, class, variable, store, value}
+use Rattle.text_semantics.specs.Names.{inLocals, inFew, inAct, events}
 use Rattle.text_semantics.specs.Meaning.{numberOf, signedOf}
 use Rattle.text_semantics.specs.Written.{two, four, code}
 use Rattle.text_semantics.specs.Reading.{Symbol, signedS, textS, linesS, fewS, actionsS, nameS, sign, upto}
@@ -34,6 +33,7 @@ use Rattle.text_agrees.specs.Claims as C
 use Rattle.text_agrees.specs.Claims.{shaped, pastSigned, Claiming}
 use Rattle.text_agrees.specs.Actions.{pastAct, sheeted, acts-go, made-deep, Block, symbol, by-block, some-actions}
 use Rattle.text_agrees.specs.Actions.{first-lines}
+use Rattle.text_agrees.specs.Asking.{asked-act}
 
 -- What the machine remembers of an event.
 unfoldable pub remembers : List Known → Event → List Known
@@ -112,11 +112,6 @@ Quiet es = (ks : List Known) → remembered ks es ≡ ks
 quiet-append : (es fs : List Event) → Quiet es → Quiet fs → Quiet (es ++ fs)
 quiet-append es fs p q ks = remembered-append ks es fs ∙ ap (λ (zs : List Known). remembered zs fs) (p ks) ∙ q ks
 
-quiet-collect : {A : Type 0} (f : A → List Event) → ((x : A) → Quiet (f x)) → (xs : List A) → Quiet (collect f xs)
-unfolding remembered
-quiet-collect f p [] = λ ks. refl
-quiet-collect f p (x ∷ xs) = quiet-append (f x) (collect f xs) (p x) (quiet-collect f p xs)
-
 quiet-asks : (ws : List ℕ) (x : Name) → Quiet (asks ws x ∷ [])
 unfolding remembered remembers
 quiet-asks ws x ks = refl
@@ -125,67 +120,8 @@ quiet-none : Quiet []
 unfolding remembered
 quiet-none ks = refl
 
-quiet-ex : {p : G.Part} (e : G.Ex p) → Quiet (inEx e)
-quiet-ex (G.sum t ts) = quiet-append (inEx t) (inEx ts) (quiet-ex t) (quiet-ex ts)
-quiet-ex G.noTerms = quiet-none
-quiet-ex (G.plus t ts) = quiet-append (inEx t) (inEx ts) (quiet-ex t) (quiet-ex ts)
-quiet-ex (G.less t ts) = quiet-append (inEx t) (inEx ts) (quiet-ex t) (quiet-ex ts)
-quiet-ex (G.product f fs) = quiet-append (inEx f) (inEx fs) (quiet-ex f) (quiet-ex fs)
-quiet-ex G.noFactors = quiet-none
-quiet-ex (G.times f fs) = quiet-append (inEx f) (inEx fs) (quiet-ex f) (quiet-ex fs)
-quiet-ex (G.literal n) = quiet-none
-quiet-ex (G.plain a) = quiet-ex a
-quiet-ex (G.negative m) = quiet-ex m
-quiet-ex (G.magnitude n) = quiet-none
-quiet-ex (G.negated a) = quiet-ex a
-quiet-ex (G.again m) = quiet-ex m
-quiet-ex (G.value x) = quiet-asks value x
-quiet-ex G.clock = quiet-none
-quiet-ex (G.bracket e) = quiet-ex e
-quiet-ex (G.lesser a b) = quiet-append (inEx a) (inEx b) (quiet-ex a) (quiet-ex b)
-quiet-ex (G.greater a b) = quiet-append (inEx a) (inEx b) (quiet-ex a) (quiet-ex b)
-
-quiet-item : (i : G.Item) → Quiet (inItem i)
-quiet-item (G.getR x n) = quiet-asks resource x
-quiet-item (G.getB x n) = quiet-asks bin x
-quiet-item (G.getS x n) = quiet-asks sync x
-quiet-item (G.condition x k n) = quiet-asks variable x
-
-quiet-claim : (c : G.Claim) → Quiet (inClaim c)
-quiet-claim G.nothing = quiet-none
-quiet-claim (G.claim i is) = quiet-append (inItem i) (collect inItem is) (quiet-item i) (quiet-collect inItem quiet-item is)
-
-quiet-give : (g : G.Give) → Quiet (inGive g)
-quiet-give (G.give x n) = quiet-asks resource x
-
-quiet-gives : (g : G.Gives) → Quiet (inGives g)
-quiet-gives G.noGives = quiet-none
-quiet-gives (G.gives x n gs) = quiet-append (asks resource x ∷ []) (collect inGive gs) (quiet-asks resource x)
-    (quiet-collect inGive quiet-give gs)
-
 pub quiet-act : {k : G.Kind} (a : G.Act k) → Quiet (inAct a)
-quiet-act (G.hold e) = quiet-ex e
-quiet-act (G.priority e) = quiet-ex e
-quiet-act (G.trace e) = quiet-ex e
-quiet-act (G.set x e) = quiet-append (asks store x ∷ []) (inEx e) (quiet-asks store x) (quiet-ex e)
-quiet-act (G.repeat n b) = quiet-act b
-quiet-act (G.putR x n) = quiet-asks resource x
-quiet-act (G.putB x n) = quiet-asks bin x
-quiet-act (G.putS x n) = quiet-asks sync x
-quiet-act (G.become x) = quiet-asks sync x
-quiet-act (G.req c) = quiet-claim c
-quiet-act (G.try c b bs) =
-    quiet-append (inClaim c ++ inAct b) (inAct bs) (quiet-append (inClaim c) (inAct b) (quiet-claim c) (quiet-act b))
-    (quiet-act bs)
-quiet-act (G.while c b) = quiet-append (inClaim c) (inAct b) (quiet-claim c) (quiet-act b)
-quiet-act (G.start x n g) = quiet-append (asks class x ∷ []) (inGives g) (quiet-asks class x) (quiet-gives g)
-quiet-act G.close = quiet-none
-quiet-act G.noBranches = quiet-none
-quiet-act (G.etry c b bs) =
-    quiet-append (inClaim c ++ inAct b) (inAct bs) (quiet-append (inClaim c) (inAct b) (quiet-claim c) (quiet-act b))
-    (quiet-act bs)
-quiet-act G.noActions = quiet-none
-quiet-act (G.follow a b) = quiet-append (inAct a) (inAct b) (quiet-act a) (quiet-act b)
+quiet-act a = asked-act Quiet quiet-none quiet-asks quiet-append a
 
 -- A reader with these parts.
 abbrev pub reader : List Known → Name → ℕ → Draft → Sheet → Reader

@@ -6,6 +6,7 @@ pub mod Claims
 pub mod Starts
 pub mod Sheets
 pub mod Actions
+pub mod Asking
 pub mod Declared
 pub mod Events
 pub mod Clues
@@ -30,3 +31,6 @@ pub mod Patches
 pub mod Whole
 pub mod Closing
 pub mod Goodness
+pub mod Lasting
+pub mod Growing
+pub mod Grown
