@@ -1,7 +1,7 @@
 -- What a token makes of the clue alone: all else of a reader may be forgotten, where only names are asked for.
 -- Assumes nothing.
 use Prim.Native.Nat.{ℕ, zero, suc, _+_}
-use mathlib.Core.Path.{_≡_, refl, _∙_, ap}
+use mathlib.Core.Path.{_≡_, refl, _∙_, ap, ap₂}
 use mathlib.Core.List.{List, [], _∷_}
 use mathlib.Core.Bool.{Bool, true, false, _&&_, _||_}
 use mathlib.Core.Option.{Option, none, some}
@@ -15,18 +15,19 @@ use Rattle.text_semantics.specs.Numbers as No
 use Rattle.text_semantics.specs.Token as T
 use Rattle.text_semantics.specs.Token.{Token, name, number, mark, bad}
 use Rattle.text_semantics.specs.Grammar.{Name}
-use Rattle.text_semantics.specs.Written.{two, node}
+use Rattle.text_semantics.specs.Written.{two}
 use Rattle.text_semantics.specs.Reading.{Symbol, one, the, aName, aNumber, factorS, minusS, more, signedS, relationS, itemS}
-use Rattle.text_semantics.specs.Reading.{claimS, itemsS, givesS, givenS, actionsS, tryS, fewS, linesS, bodyS, textS, Closer}
-use Rattle.text_semantics.specs.Reading.{round, comma, semi}
+use Rattle.text_semantics.specs.Reading.{claimS, itemsS, givesS, givenS, actionsS, tryS, fewS, linesS, bodyS, textS}
 use Rattle.text_machine.specs.Entry as E
-use Rattle.text_machine.specs.Entry.{Draft, begin, asking, drafted, markIn, nameIn, put, putCount, oneMore, atSign}
-use Rattle.text_machine.specs.Entry.{atName, atNumber, atFactor, atMinus, atMore, atItem, atAction, atText}
+use Rattle.text_machine.specs.Entry.{Draft, begin, asking, drafted, markIn, nameIn, put}
+use Rattle.text_machine.specs.Entry.{atNumber, atItem, atAction, atText}
 use Rattle.text_machine.specs.Sheet as S
 use Rattle.text_machine.specs.Sheet.{Sheet, Kept, keptIn, resumed, declaring, declares, classed, classes, bodied, counts}
 use Rattle.text_machine.specs.Sheet.{stands, acts, settled, letGo, braces, tries, branches, closed, DECLARED}
 use Rattle.text_machine.specs.Machine.{Reader, draftAfter, sheetAfter, after, done, isDeclaration, behind, embodied, isKnown}
 use Rattle.text_agrees.specs.Flow.{effect}
+use Rattle.text_agrees.specs.Steady.{Steady, still, steady-put, steady-oneMore, steady-sign, steady-name, steady-factor}
+use Rattle.text_agrees.specs.Steady.{steady-minus, steady-more}
 use Rattle.text_agrees.specs.Events.{Clue, clueOf}
 
 -- THE DRAFT'S PART: what the next name is for, and whether a start is being written.
@@ -132,81 +133,19 @@ cue-both : (b : Bool) (x y u v : Draft) → Cued x (cue u) → Cued y (cue v) �
 cue-both true x y u v e f = e
 cue-both false x y u v e f = f
 
-module _ {d : Draft} {q : Cue} (h : Cued d q) where
-  cue-put : (bs : List ℕ) → Cued (put d bs) q
-  unfolding put
-  cue-put bs = record { shown = h .shown }
-
-  cue-putCount : Cued (putCount d) q
-  unfolding putCount
-  cue-putCount = record { shown = h .shown }
-
-  cue-starts : (ss : List E.Start) → Cued (E.withStarts d ss) q
-  cue-starts ss = record { shown = h .shown }
-
-  cue-dropped : Cued (E.dropped d) q
-  cue-dropped = record { shown = h .shown }
-
-  cue-oneMore : Cued (oneMore d) q
-  unfolding oneMore
-  cue-oneMore = cue-keeps (d .over || leb E.KEPT (d .count)) _ _ cue-dropped (record { shown = h .shown })
-
-  cue-opens : Cued (E.opens d) q
-  cue-opens = cue-keeps (ltb (length (d .starts)) E.DEPTH) _ _ (cue-starts _) cue-dropped
-
-  cue-deep : (s : ℕ) → Cued (E.deep s d) q
-  cue-deep s =
-      cue-keeps (eqb s T.CLOCK) _ _ (cue-put _)
-      (cue-keeps (eqb s T.LESSER) _ _ (cue-put _)
-      (cue-keeps (eqb s T.GREATER) _ _ (cue-put _) (cue-keeps (eqb s T.LP) _ _ cue-opens h)))
-
-  cue-sign : (k s : ℕ) → Cued (atSign k s d) q
-  unfolding atSign
-  cue-sign k s =
-      cue-keeps (eqb s T.LP) _ _
-      (cue-keeps (E.isExpression (d .kind)) _ _ cue-opens
-      (cue-keeps (eqb (d .kind) K.START && eqb (d .role) (asking K.RES)) _ _ cue-oneMore h))
-      (cue-keeps (eqb s T.BECOMES) _ _ cue-opens
-      (cue-keeps (eqb s T.LS) _ _ (cue-keeps (eqb (d .kind) K.START) _ _ h cue-putCount)
-      (cue-keeps (eqb s T.LB && eqb (d .kind) K.DO) _ _ (record { shown = h .shown }) h)))
-
-  cue-name : (i : ℕ) → Cued (atName i d) q
-  unfolding atName
-  cue-name i = cue-keeps (leb E.ASK (d .role)) _ _ (record { shown = h .shown }) h
-
-  cue-factor : (w i : ℕ) (t : Token) → Cued (atFactor w i t d) q
-  unfolding atFactor
-  cue-factor w i (number n) = record { shown = h .shown }
-  cue-factor w i (name x) = record { shown = h .shown }
-  cue-factor w i (mark s) = cue-deep s
-  cue-factor w i bad = h
+cue-steady : {a d : Draft} → Steady a d → Cued d (cue a)
+cue-steady h = record { shown = ap₂ (λ (r k : ℕ). (r, eqb k K.START)) (h .role) (h .kind) }
 
 module _ {d : Draft} {q : Cue} (h : Cued d q) where
-  cue-minus : (w i : ℕ) (t : Token) → Cued (atMinus w i t d) q
-  unfolding atMinus
-  cue-minus w i (number n) = record { shown = h .shown }
-  cue-minus w i (name x) = record { shown = h .shown }
-  cue-minus w i (mark s) = cue-deep (cue-put h (node 9 0)) s
-  cue-minus w i bad = h
-
-  cue-closing : (c : Closer) → Cued (E.closing c d) q
-  cue-closing round = cue-starts h _
-  cue-closing comma = cue-opens (cue-starts h (E.outer (d .starts)))
-  cue-closing semi = cue-starts h _
-
-  cue-more : (c : Closer) (s : ℕ) → Cued (atMore c s d) q
-  unfolding atMore
-  cue-more c s =
-      cue-keeps (eqb s T.STAR) _ _ (record { shown = h .shown })
-      (cue-keeps (eqb s T.PLUS) _ _ (record { shown = h .shown })
-      (cue-keeps (eqb s T.MINUS) _ _ (record { shown = h .shown }) (cue-closing c)))
-
   cue-role : (w : ℕ) → Cued (E.withRole d w) (w, q .1)
   cue-role w = record { shown = ap (λ (x : Cue). (w, x .1)) (h .shown) }
 
 module _ (r : Reader) where
   abbrev drawn : Cued (r .draft) (cue (r .draft))
   drawn = same
+
+  abbrev untouched : Steady (r .draft) (r .draft)
+  untouched = still
 
   cue-number : (b n : ℕ) → Cued (atNumber b n (r .draft)) (numberCue (clueOf r) b)
   unfolding atNumber
@@ -217,11 +156,11 @@ module _ (r : Reader) where
       (record { shown = refl }) (record { shown = refl })))
 
   getting : (n w : ℕ) → Cued (E.getting n w (r .draft)) (asking w, cue (r .draft) .1)
-  getting n w = cue-role (cue-put (cue-oneMore drawn) (n ∷ 0 ∷ [])) (asking w)
+  getting n w = cue-role (cue-steady (steady-put (steady-oneMore untouched) (n ∷ 0 ∷ []))) (asking w)
 
   cue-item : (i : ℕ) (t : Token) → Cued (atItem i t (r .draft)) (itemCue (clueOf r) t)
   unfolding atItem
-  cue-item i (name x) = record { shown = cue-oneMore drawn .shown }
+  cue-item i (name x) = record { shown = cue-steady (steady-oneMore untouched) .shown }
   cue-item i (number n) = drawn
   cue-item i (mark s) =
       cue-if (eqb s T.GETR) _ _ (getting 0 K.RES)
@@ -395,16 +334,16 @@ module _ (r : Reader) (t : Token) (p : ℕ) where
   pub clue-effect : (s : Symbol) → clueOf (effect r s t p) ≡ led (clueOf r) s t
   unfolding effect draftAfter sheetAfter after drafted led
   clue-effect (one (the s)) =
-      clued (r .called) (cue-sign (drawn r) _ s)
+      clued (r .called) (cue-steady (steady-sign (untouched r) _ s))
       (deep-if (eqb s T.SEMI) _ _ (deep-done open-blocks (draftAfter r (one (the s)) t p))
       (deep-if (eqb s T.LB) _ _ (deep-opens open-blocks (draftAfter r (one (the s)) t p)) open-blocks))
   clue-effect (one aName) =
-      clued (if eqb (r .draft .role) K.CLASS then nameIn t else r .called) (cue-name (drawn r) _) open-blocks
+      clued (if eqb (r .draft .role) K.CLASS then nameIn t else r .called) (cue-steady (steady-name (untouched r) _)) open-blocks
   clue-effect (one (aNumber b)) = clued (r .called) (cue-number r b _) open-blocks
-  clue-effect (factorS n) = clued (r .called) (cue-factor (drawn r) _ _ t) open-blocks
-  clue-effect (minusS n) = clued (r .called) (cue-minus (drawn r) _ _ t) open-blocks
+  clue-effect (factorS n) = clued (r .called) (cue-steady (steady-factor (untouched r) _ _ t)) open-blocks
+  clue-effect (minusS n) = clued (r .called) (cue-steady (steady-minus (untouched r) _ _ t)) open-blocks
   clue-effect (more n k) =
-      clued (r .called) (cue-more (drawn r) k (markIn t))
+      clued (r .called) (cue-steady (steady-more (untouched r) k (markIn t)))
       (deep-keeps (eqb (markIn t) T.SEMI) _ _ (deep-done open-blocks (draftAfter r (more n k) t p)) open-blocks)
   clue-effect signedS =
       clued (r .called) (cue-keeps (eqb (markIn t) T.MINUS) _ _ (drawn r) (record { shown = refl })) open-blocks

@@ -9,6 +9,7 @@ pub mod Actions
 pub mod Asking
 pub mod Declared
 pub mod Events
+pub mod Steady
 pub mod Clues
 pub mod Tales
 pub mod Counts

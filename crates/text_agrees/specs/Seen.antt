@@ -16,17 +16,18 @@ use Rattle.semantics.specs.Numbers as F
 use Rattle.text_semantics.specs.Numbers as No
 use Rattle.text_semantics.specs.Token as T
 use Rattle.text_semantics.specs.Token.{Token, name, number, mark, bad}
-use Rattle.text_semantics.specs.Written.{two, node}
+use Rattle.text_semantics.specs.Written.{two}
 use Rattle.text_semantics.specs.Reading.{Symbol, one, the, aName, aNumber, factorS, minusS, more, signedS, relationS, itemS}
-use Rattle.text_semantics.specs.Reading.{claimS, itemsS, givesS, givenS, actionsS, tryS, fewS, linesS, bodyS, textS, Closer}
-use Rattle.text_semantics.specs.Reading.{round, comma, semi}
+use Rattle.text_semantics.specs.Reading.{claimS, itemsS, givesS, givenS, actionsS, tryS, fewS, linesS, bodyS, textS}
 use Rattle.text_machine.specs.Entry as E
-use Rattle.text_machine.specs.Entry.{Draft, asking, drafted, markIn, put, putCount, oneMore, atSign, atName, atNumber}
-use Rattle.text_machine.specs.Entry.{atFactor, atMinus, atMore, atItem}
+use Rattle.text_machine.specs.Entry.{Draft, asking, drafted, markIn, put, atNumber}
+use Rattle.text_machine.specs.Entry.{atItem}
 use Rattle.text_machine.specs.Sheet as S
 use Rattle.text_machine.specs.Sheet.{Sheet, Kept, keptIn, declaring, declares, classed, classes, bodied, counts, stands, acts}
 use Rattle.text_machine.specs.Sheet.{settled, letGo, braces, tries, branches, closed, DECLARED}
 use Rattle.text_machine.specs.Machine.{Reader, draftAfter, done, isDeclaration, behind}
+use Rattle.text_agrees.specs.Steady.{Steady, still, steady-oneMore, steady-sign, steady-name, steady-factor, steady-minus}
+use Rattle.text_agrees.specs.Steady.{steady-more}
 
 -- KINDS. Only the first token of a declaration or action gives the draft a kind.
 abbrev pub begins : Symbol → Bool
@@ -55,96 +56,31 @@ kind-if : (b : Bool) (x y : Draft) {n : ℕ} → Kind x n → Kind y n → Kind 
 kind-if true x y e f = e
 kind-if false x y e f = f
 
-module _ {d : Draft} {n : ℕ} (h : Kind d n) where
-  kind-put : (bs : List ℕ) → Kind (put d bs) n
-  unfolding put
-  kind-put bs = record { is = h .is }
+kind-steady : {a d : Draft} → Steady a d → Kind d (a .kind)
+kind-steady h = record { is = h .kind }
 
-  kind-putCount : Kind (putCount d) n
-  unfolding putCount
-  kind-putCount = record { is = h .is }
-
-  kind-starts : (ss : List E.Start) → Kind (E.withStarts d ss) n
-  kind-starts ss = record { is = h .is }
-
-  kind-dropped : Kind (E.dropped d) n
-  kind-dropped = record { is = h .is }
-
-  kind-oneMore : Kind (oneMore d) n
-  unfolding oneMore
-  kind-oneMore = kind-if (d .over || leb E.KEPT (d .count)) _ _ kind-dropped (record { is = h .is })
-
-  kind-opens : Kind (E.opens d) n
-  kind-opens = kind-if (ltb (length (d .starts)) E.DEPTH) _ _ (kind-starts _) kind-dropped
-
-  kind-deep : (s : ℕ) → Kind (E.deep s d) n
-  kind-deep s =
-      kind-if (eqb s T.CLOCK) _ _ (kind-put _)
-      (kind-if (eqb s T.LESSER) _ _ (kind-put _)
-      (kind-if (eqb s T.GREATER) _ _ (kind-put _) (kind-if (eqb s T.LP) _ _ kind-opens h)))
-
-  kind-sign : (k s : ℕ) → Kind (atSign k s d) n
-  unfolding atSign
-  kind-sign k s =
-      kind-if (eqb s T.LP) _ _
-      (kind-if (E.isExpression (d .kind)) _ _ kind-opens
-      (kind-if (eqb (d .kind) K.START && eqb (d .role) (asking K.RES)) _ _ kind-oneMore h))
-      (kind-if (eqb s T.BECOMES) _ _ kind-opens
-      (kind-if (eqb s T.LS) _ _ (kind-if (eqb (d .kind) K.START) _ _ h kind-putCount)
-      (kind-if (eqb s T.LB && eqb (d .kind) K.DO) _ _ (record { is = h .is }) h)))
-
-  kind-name : (i : ℕ) → Kind (atName i d) n
-  unfolding atName
-  kind-name i = kind-if (leb E.ASK (d .role)) _ _ (record { is = h .is }) h
-
-  kind-number : (b m : ℕ) → Kind (atNumber b m d) n
+module _ (d : Draft) where
+  kind-number : (b m : ℕ) → Kind (atNumber b m d) (d .kind)
   unfolding atNumber
   kind-number b m =
-      kind-if (eqb b No.topCount) _ _ (record { is = h .is })
-      (kind-if (eqb b No.topMagnitude) _ _ (record { is = h .is })
+      kind-if (eqb b No.topCount) _ _ (record { is = refl })
+      (kind-if (eqb b No.topMagnitude) _ _ (record { is = refl })
       (kind-if (eqb (d .kind) K.START && eqb (d .role) (asking K.CLASS)) _ _
-      (record { is = h .is }) (record { is = h .is })))
+      (record { is = refl }) (record { is = refl })))
 
-  kind-factor : (w i : ℕ) (t : Token) → Kind (atFactor w i t d) n
-  unfolding atFactor
-  kind-factor w i (number m) = record { is = h .is }
-  kind-factor w i (name x) = record { is = h .is }
-  kind-factor w i (mark s) = kind-deep s
-  kind-factor w i bad = h
-
-  kind-closing : (c : Closer) → Kind (E.closing c d) n
-  kind-closing round = kind-starts _
-  kind-closing comma =
-      kind-if (ltb (length (E.outer (d .starts))) E.DEPTH) _ _ (record { is = h .is }) (record { is = h .is })
-  kind-closing semi = kind-starts _
-
-  kind-more : (c : Closer) (s : ℕ) → Kind (atMore c s d) n
-  unfolding atMore
-  kind-more c s =
-      kind-if (eqb s T.STAR) _ _ (record { is = h .is })
-      (kind-if (eqb s T.PLUS) _ _ (record { is = h .is })
-      (kind-if (eqb s T.MINUS) _ _ (record { is = h .is }) (kind-closing c)))
-
-  kind-getting : (k w : ℕ) → Kind (E.getting k w d) n
+  kind-getting : (k w : ℕ) → Kind (E.getting k w d) (d .kind)
   unfolding put
-  kind-getting k w = record { is = kind-oneMore .is }
+  kind-getting k w = record { is = steady-oneMore (still {d = d}) .kind }
 
-  kind-item : (i : ℕ) (t : Token) → Kind (atItem i t d) n
+  kind-item : (i : ℕ) (t : Token) → Kind (atItem i t d) (d .kind)
   unfolding atItem
-  kind-item i (name x) = record { is = kind-oneMore .is }
-  kind-item i (number m) = h
+  kind-item i (name x) = record { is = steady-oneMore (still {d = d}) .kind }
+  kind-item i (number m) = record { is = refl }
   kind-item i (mark s) =
       kind-if (eqb s T.GETR) _ _ (kind-getting 0 K.RES)
       (kind-if (eqb s T.GETB) _ _ (kind-getting 1 K.BIN)
-      (kind-if (eqb s T.GETS) _ _ (kind-getting 2 K.SYNC) h))
-  kind-item i bad = h
-
-kind-minus : (d : Draft) {n : ℕ} → Kind d n → (w i : ℕ) (t : Token) → Kind (atMinus w i t d) n
-unfolding atMinus
-kind-minus d h w i (number m) = record { is = h .is }
-kind-minus d h w i (name x) = record { is = h .is }
-kind-minus d h w i (mark s) = kind-deep (kind-put h (node 9 0)) s
-kind-minus d h w i bad = h
+      (kind-if (eqb s T.GETS) _ _ (kind-getting 2 K.SYNC) (record { is = refl })))
+  kind-item i bad = record { is = refl }
 
 pub kind-kept : (r : Reader) (s : Symbol) (t : Token) (p : ℕ) → begins s ≡ false → draftAfter r s t p .kind ≡ r .draft .kind
 unfolding draftAfter drafted
@@ -153,17 +89,20 @@ kind-kept r s t p h = go s h .is
     same : Kind (r .draft) (r .draft .kind)
     same = record { is = refl }
 
+    untouched : Steady (r .draft) (r .draft)
+    untouched = still
+
     go : (s : Symbol) → begins s ≡ false → Kind (draftAfter r s t p) (r .draft .kind)
-    go (one (the k)) h = kind-sign same _ k
-    go (one aName) h = kind-name same _
-    go (one (aNumber b)) h = kind-number same b _
-    go (factorS n) h = kind-factor same _ _ t
-    go (minusS n) h = kind-minus (r .draft) same _ _ t
-    go (more n c) h = kind-more same c (markIn t)
+    go (one (the k)) h = kind-steady (steady-sign untouched _ k)
+    go (one aName) h = kind-steady (steady-name untouched _)
+    go (one (aNumber b)) h = kind-number (r .draft) b _
+    go (factorS n) h = kind-steady (steady-factor untouched _ _ t)
+    go (minusS n) h = kind-steady (steady-minus untouched _ _ t)
+    go (more n c) h = kind-steady (steady-more untouched c (markIn t))
     go signedS h = kind-if (eqb (markIn t) T.MINUS) _ _ same (record { is = refl })
     go relationS h = record { is = refl }
-    go itemS h = kind-item same _ t
-    go claimS h = kind-item same _ t
+    go itemS h = kind-item (r .draft) _ t
+    go claimS h = kind-item (r .draft) _ t
     go itemsS h = same
     go givesS h = same
     go givenS h = same
