@@ -1,0 +1,1 @@
+// That the machine's answer to a text is the definitions' is in specs/; this crate has no code.
