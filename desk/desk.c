@@ -1,5 +1,5 @@
-/* The booking desk as a program: checks a model file, tells its bound, runs it whole, keeps a run of it open (moves.c), or tells
- * who waits in it and why (waits.c). */
+/* The booking desk as a program: checks a model, tells its bound, runs it whole, keeps a run of it open (moves.c), tells who waits
+ * in it and why (waits.c), or writes its records. A model is a record file or a text (texts.c). */
 #include "desk.h"
 
 #include <errno.h>
@@ -9,12 +9,13 @@
 #include <string.h>
 
 #include "moves.h"
+#include "texts.h"
 #include "waits.h"
 #include "words.h"
 
 #define USUAL_LIMIT 1000000u
 
-enum request { CHECK, BOUND, RUN, MOVES, WAITS, UNKNOWN };
+enum request { CHECK, BOUND, RUN, MOVES, WAITS, RECORDS, UNKNOWN };
 
 /* A whole file in memory of its own. */
 struct file {
@@ -30,6 +31,8 @@ static enum status usage(void)
             "       desk run FILE [LIMIT]\n"
             "       desk moves FILE STEPS\n"
             "       desk waits FILE [LIMIT]\n"
+            "       desk records FILE\n"
+            "FILE is a record file or a text; - is standard input. records writes the records of a text to standard output.\n"
             "LIMIT is the most steps that are made, 0 to 4294967295; without it %u. STEPS are made at a time, 1 to 4294967295,\n"
             "until the run ends or has made %u. waits tells who is blocked when the run stops, since when, and why.\n"
             "run and moves tell what a job lacks, and how much of it there is, in the first %u lines that say that it lacks\n"
@@ -65,6 +68,8 @@ static bool read_all(const char *name, FILE *stream, struct file *file)
 
 static bool read_file(const char *name, struct file *file)
 {
+    if (strcmp(name, "-") == 0)
+        return read_all("standard input", stdin, file);
     FILE *stream = fopen(name, "rb");
 
     if (stream == NULL)
@@ -72,6 +77,20 @@ static bool read_file(const char *name, struct file *file)
     bool whole = read_all(name, stream, file);
     fclose(stream);
     return whole;
+}
+
+/* Puts the records of a text in its place. False, and the refusal is told, if it is refused. */
+static bool to_records(const char *name, struct file *text)
+{
+    static uint8_t records[RECORDS_ROOM];
+    size_t written;
+
+    if (!reads_text(name, text->bytes, text->length, records, &written))
+        return false;
+    /* Records are never longer than the room that read_all makes. */
+    memcpy(text->bytes, records, written);
+    text->length = written;
+    return true;
 }
 
 static enum status check(const struct file *file)
@@ -144,6 +163,8 @@ static enum request request_of(int count, char **words, uint32_t *limit)
         return CHECK;
     if (count == 3 && strcmp(words[1], "bound") == 0)
         return BOUND;
+    if (count == 3 && strcmp(words[1], "records") == 0)
+        return RECORDS;
     if (count == 4 && strcmp(words[1], "moves") == 0 && reads_number(words[3], limit) && *limit > 0)
         return MOVES;
     if (count != 3 && (count != 4 || !reads_number(words[3], limit)))
@@ -166,9 +187,22 @@ static enum status serve(enum request request, const struct file *file, uint32_t
         return moves(file->bytes, file->length, limit, USUAL_LIMIT);
     case WAITS:
         return waits(file->bytes, file->length, limit);
+    case RECORDS:
+        fwrite(file->bytes, 1, file->length, stdout);
+        return FINE;
     default:
         return run(file, limit);
     }
+}
+
+/* Only a text has records to be written: `records` takes every file as one. */
+static enum status answer(enum request request, const char *name, struct file *file, uint32_t limit)
+{
+    if (!read_file(name, file))
+        return TROUBLE;
+    if ((request == RECORDS || is_text(file->bytes, file->length)) && !to_records(name, file))
+        return REFUSED_OR_FAULT;
+    return serve(request, file, limit);
 }
 
 int main(int count, char **words)
@@ -179,7 +213,7 @@ int main(int count, char **words)
 
     if (request == UNKNOWN)
         return usage();
-    enum status status = read_file(words[2], &file) ? serve(request, &file, limit) : TROUBLE;
+    enum status status = answer(request, words[2], &file, limit);
     free(file.bytes);
     if (fflush(stdout) != 0 || ferror(stdout)) {
         fprintf(stderr, "desk: the answer can't be written: %s\n", strerror(errno));

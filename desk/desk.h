@@ -13,6 +13,12 @@ uint32_t desk_check(const uint8_t *file, size_t length);
 #define DESK_REFUSAL_NUMBER(answer) ((uint32_t)(answer) >> 16)
 #define DESK_REFUSAL_PLACE(answer) ((uint32_t)(answer) & 65535u)
 
+/* Read a text (docs/TEXT.md) into a model file, for which `room` bytes are lent, that may not overlap the text. 0: its records
+ * stand in the first `*place` of them, and desk_check accepts those; no byte behind them is changed. Otherwise the refusal's number,
+ * 51 to 55, and `*place` is how many bytes of the text stand before what is refused; then nothing lent but `*place` is changed. No
+ * text of any length has records of over 65,534 bytes. */
+uint32_t desk_text(const uint8_t *text, size_t length, uint8_t *records, size_t room, size_t *place);
+
 /* Bound: below 2^32 the number of steps that no run of the model passes. Otherwise the high 32 bits are DESK_NONE, for a model
  * that has a WHILE or a START of a body that isn't later; DESK_OVER, for a bound over 4,294,967,295; or DESK_REFUSED, and then
  * the low 32 bits are what desk_check answers. */

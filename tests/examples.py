@@ -40,9 +40,9 @@ def crowded_day():
     when it is done (TRACE). Every fourth hour the desk starts another wedding. The trailers that come at 2 and at 3 are
     barred (-1): the feature waits for both rooms. Everybody else who waits lacks a room, item 1 of what it claims first."""
     wedding = REQ(getR(0), getR(2)) + HOLD(literal(3)) + PUTR(0, 1) + PUTR(2, 1) + TRACE(CLOCK)
-    trailer = TRY(branch(5, getR(1)), branch(6, getR(0))) + TRACE(CLOCK)
+    trailer = TRY(branch(4, getR(1)), branch(5, getR(0))) + TRACE(CLOCK)
     feature = PRIO(literal(5)) + DO(2, 7) + TRACE(CLOCK)
-    return (RES(2) + RES(1) + RES(3) + CLASS(0) + CLASS(2) + CLASS(3) + CLASS(4)
+    return (RES(2) + RES(1) + RES(3) + CLASS(0) + CLASS(2) + CLASS(3) + CLASS(6)
             + ENTITY(0, 0)
             + b''.join(ENTITY(1, t) for t in (0, 0, 1, 1, 2))
             + b''.join(ENTITY(2, t) for t in (0, 1, 2, 3))
@@ -51,9 +51,9 @@ def crowded_day():
             + BLOCK() + HOLD(literal(4)) + START(1, 0)
             + BLOCK() + wedding
             + BLOCK() + trailer
-            + BLOCK() + feature
             + BLOCK() + HOLD(literal(2)) + PUTR(1, 1)
             + BLOCK() + HOLD(literal(4)) + PUTR(0, 1)
+            + BLOCK() + feature
             + BLOCK() + REQ(getR(0), getR(1)) + HOLD(literal(3)) + PUTR(0, 1) + PUTR(1, 1))
 
 
@@ -69,11 +69,11 @@ def runners():
 def night_render():
     """A render queue by night. Frames stand in a bin; a render takes ten at a time as long as there are that many and the
     switch (variable 0) is on; at six the switch goes off, and whatever is left stays in the bin."""
-    return (RES(1) + BIN(45) + VAR(1) + CLASS(0) + CLASS(1)
+    return (RES(1) + BIN(45) + VAR(1) + CLASS(0) + CLASS(2)
             + ENTITY(0, 0) + ENTITY(1, 6)
-            + BLOCK() + WHILE(2, getB(0, 10), condition(0, 3, 1)) + TRACE(CLOCK)
-            + BLOCK() + SET(0, literal(0))
-            + BLOCK() + REQ(getR(0)) + HOLD(literal(2)) + PUTR(0, 1))
+            + BLOCK() + WHILE(1, getB(0, 10), condition(0, 3, 1)) + TRACE(CLOCK)
+            + BLOCK() + REQ(getR(0)) + HOLD(literal(2)) + PUTR(0, 1)
+            + BLOCK() + SET(0, literal(0)))
 
 
 def one_deck_too_many():

@@ -4,7 +4,7 @@
 
 A build takes minutes, so `rt` is played here: a script that writes what rt writes, with a pause for each batch of crates. For it
 bin/plan is copied to a folder with five crates that `plan` stands on and one that it doesn't; `bin/run` there prints what it is
-lent. That the real rt writes the same is tried by tests/plan.sh.
+lent, and `bin/records` what it is asked. That the real rt writes the same is tried by tests/plan.sh.
 """
 import os
 import pathlib
@@ -54,7 +54,14 @@ done
 if [ "${BAD:-}" = run ]; then echo 'rt: FAILED: plan'; exit 1; fi
 echo 'rt: ok, 5 crates proved'
 '''
-TOOLS = 'bash cat cp dirname env find grep mkdir mv readlink rm setsid sleep tac tail touch uname'.split()
+# The text says what comes of it.
+RECORDS = '''#!/usr/bin/env bash
+read -r status
+echo "$1 $status"
+exit $status
+'''
+TOOLS = 'bash cat cp dirname env find grep head mkdir mktemp mv od readlink rm setsid sleep tac tail touch uname'.split()
+GRADE = '\0the grade\n'
 SHOWN = re.compile(rb'\r\x1b\[Kplan: (\d) of 5 crates done, \d+ s(?:, now ([a-z ]+))?(?=\r)')
 
 
@@ -82,9 +89,11 @@ class House:
         for tool in TOOLS:
             (self.tools / tool).symlink_to(shutil.which(tool))
         (self.root / 'crates.txt').write_text(CRATES)
-        (self.root / 'examples' / 'grade.model').write_text('the grade\n')
+        (self.root / 'examples' / 'grade.model').write_text(GRADE)
         shutil.copy(ROOT / 'bin' / 'plan', self.root / 'bin')
+        shutil.copy(ROOT / 'bin' / 'build', self.root / 'bin')
         script(self.root / 'bin' / 'run', '#!/usr/bin/env bash\nexec cat\n')
+        script(self.root / 'bin' / 'records', RECORDS)
         script(self.tools / 'rt', RT)
 
     def environment(self, **more):
@@ -165,20 +174,31 @@ def refusals(house):
 
 
 def without_terminal(house):
-    status, told, said = house.plan('-', lent=b'lent\n')
-    house.same('standard input', (status, told), (0, 'lent\n'))
+    status, told, said = house.plan('-', lent=b'\0lent\n')
+    house.same('standard input', (status, told), (0, '\0lent\n'))
     house.has('a build', said, 'first 5 crates are proved', 'target/plan.log', 'built: 5 of 5 crates done')
     house.same('lines of a short build', said.count('\n'), 3)
     house.same('what rt is asked', (house.read('asked'), house.read('eaten')), ('check plan, 4 at once\n', ''))
     house.same('the log', re.findall(r'rt: (\w+) proved', house.read('target/plan.log')), 'low left right top plan'.split())
-    house.same('a second start', house.plan(), (0, 'the grade\n', ''))
+    house.same('a second start', house.plan(), (0, GRADE, ''))
     os.utime(house.root / 'crates.txt')
     house.has('a start after a change', house.plan()[2], 'built: 5 of 5 crates done')
-    house.same('the start after that', house.plan(), (0, 'the grade\n', ''))
+    house.same('the start after that', house.plan(), (0, GRADE, ''))
     house.changed()
     said = house.plan(RT_JOBS='1', PAUSE='0.7', PLAN_EVERY='1')[2]
     house.has('a long build', said, 'of 5 crates done, 1 s, now', 'built: 5 of 5 crates done')
     house.same('what rt is asked then', house.read('asked'), 'check plan, 1 at once\n')
+
+
+def texts(house):
+    """A text is read by bin/records; what that prints is the model, or the refusal. A file with a 0 among its first four bytes
+    is none."""
+    text = house.root / 'day.text'
+    for content, told in (('0', (0, '%s 0\n' % text)), ('1', (0, '%s 1\n' % text)), ('2', (2, '%s 2\n' % text)),
+                          ('0  \0', (0, '0  \0')), ('0   \0', (0, '%s 0\n' % text))):
+        text.write_text(content)
+        house.same('a file of %r' % content, house.plan(str(text))[:2], told)
+    house.same('a text on standard input', house.plan('-', lent=b'0\n')[:2], (0, '- 0\n'))
 
 
 def bad(house):
@@ -205,7 +225,7 @@ def shows(house):
     house.same('the counts', ({0, 1, 3, 4} - set(counts), counts), (set(), sorted(counts)))
     house.same('the crates that are named', {b'low', b'right left', b'top', b'plan'} - names, set())
     house.same('crates that plan doesn\'t use', [now for now in names if b'aside' in now], [])
-    last = re.search(rb'\r\x1b\[Kplan: built: 5 of 5 crates done, \d+ s\r\nthe grade\r\n$', shown)
+    last = re.search(rb'\r\x1b\[Kplan: built: 5 of 5 crates done, \d+ s\r\n\0the grade\r\n$', shown)
     house.same('the last line', last is not None or shown, True)
 
 
@@ -217,7 +237,7 @@ def stopped(house):
     house.has('stopped', shown.decode(), 'plan: stopped. What is proved is kept, and the next start goes on from there')
     house.same('processes that are left', house.left(), [])
     house.same('proved so far', sorted(os.listdir(house.root / 'target' / 'stamp')), ['low'])
-    house.same('the next start', house.plan()[:2], (0, 'the grade\n'))
+    house.same('the next start', house.plan()[:2], (0, GRADE))
     house.same('proved before', re.findall(r'rt: (\w+) proved \(unch', house.read('target/plan.log')), ['low'])
     house.changed()
     started = house.starts(PAUSE='60')
@@ -241,7 +261,7 @@ def emulated(house):
 def main():
     with tempfile.TemporaryDirectory() as folder:
         house = House(folder)
-        for part in (refusals, without_terminal, bad, shows, stopped, emulated):
+        for part in (refusals, without_terminal, texts, bad, shows, stopped, emulated):
             part(house)
     print('first start of bin/plan: %d as it should be, %d not' % (house.tried - house.failed, house.failed))
     return house.failed

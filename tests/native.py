@@ -56,6 +56,12 @@ pub unsafe extern "C" fn desk_check(file: *const u8, length: usize) -> u32 {
 }
 
 #[no_mangle]
+pub unsafe extern "C" fn desk_text(text: *const u8, length: usize, records: *mut u8, room: usize, place: *mut usize) -> u32 {
+    let (text, records) = (from_raw_parts(text, length), from_raw_parts_mut(records, room));
+    catch_unwind(AssertUnwindSafe(|| desk_c::desk_text(text, records, &mut *place))).unwrap_or(u32::MAX)
+}
+
+#[no_mangle]
 pub unsafe extern "C" fn desk_bound(file: *const u8, length: usize) -> u64 {
     let file = from_raw_parts(file, length);
     catch_unwind(|| desk_c::desk_bound(file)).unwrap_or(u64::MAX)
@@ -108,7 +114,7 @@ def without_contracts(text):
 
 def module(text):
     text = re.sub(r'(?m)^//.*\n', '', without_contracts(text))
-    text = re.sub(r'(?m)^use ([a-z0-9_]+)::', r'use crate::\1::', text)
+    text = re.sub(r'(?m)^( *)use (?!super)([a-z0-9_]+)::', r'\1use crate::\2::', text)
     text = re.sub(r'(?m)^#\[no_mangle\]\npub extern "C" ', 'pub ', text)
     return re.sub(r'(?m)^(pub )?(struct|enum) ', r'#[derive(Clone, Copy)]\n\1\2 ', text)
 
@@ -128,10 +134,18 @@ def named(*crates):
     return [name for name in rows if name in wanted]
 
 
+def whole(path):
+    """The source of a crate, with each other file of it in place of the line that names it."""
+    def file_of(line):
+        text = (path.parent / (line[2] + '.rt')).read_text()
+        return '%smod %s {\n%s\n}\n' % (line[1] or '', line[2], text)
+    return re.sub(r'(?m)^(pub )?mod (\w+);\n', file_of, path.read_text())
+
+
 def sources(*crates):
     """The source of each, by its crate; a program's own source is not among them."""
     paths = [CRATES / name / 'src' / 'lib.rt' for name in named(*crates)]
-    return {path.parent.parent.name: path.read_text() for path in paths if path.exists()}
+    return {path.parent.parent.name: whole(path) for path in paths if path.exists()}
 
 
 def modules(texts):

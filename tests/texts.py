@@ -2,11 +2,10 @@
 
     python3 -B tests/texts.py COMMAND ...    reads each text by COMMAND, which writes records or prints `refused N at P`
 
-Each examples/*.text must be read to the very bytes of the .model beside it, and each .model has a .text. A model whose blocks
-stand in another order than that of nesting has no text (section 9); its text must be read to that model with its blocks put in
-order (IN_ORDER). Of the page, each text with a `^` in a table must be refused with the number of its row at that place; the text
-of section 1 and each text fenced as ```text NAME must be read to the bytes that are worked out here by hand (WORKED).
-It fails as well if a file, a row or a fenced text is missing.
+Each examples/*.text must be read to the very bytes of the .model beside it, and each .model has a .text. Of the page, each text
+with a `^` in a table must be refused with the number of its row at that place; the text of section 1 and each text fenced as
+```text NAME must be read to the bytes that are worked out here by hand (WORKED). It fails as well if a file, a row or a fenced
+text is missing.
 """
 import pathlib
 import re
@@ -18,12 +17,6 @@ from records import *
 ROOT = pathlib.Path(__file__).resolve().parent.parent
 EXAMPLES = ROOT / 'examples'
 PAGE = (ROOT / 'docs' / 'TEXT.md').read_text()
-
-# Of models that have no text: their blocks as they nest.
-IN_ORDER = {
-    'crowded-day': [0, 1, 2, 3, 5, 6, 4, 7],
-    'night-render': [0, 2, 1],
-}
 
 
 def studio_day():
@@ -54,57 +47,16 @@ WORKED = {
 }
 
 
-# ---- blocks in another order
-
-
-def cut(model):
-    """The records of a model."""
-    at = 0
-    while at < len(model):
-        size = 2 + int.from_bytes(model[at:at + 2], 'little')
-        yield bytearray(model[at:at + size])
-        at += size
-
-
-def block_fields(record):
-    """Where in a record the numbers of blocks stand."""
-    kind = record[2]
-    if kind in (5, 27):
-        yield 4
-    elif kind == 20:
-        yield 6
-    elif kind == 26:
-        at = 6
-        for _ in range(record[4]):
-            yield at
-            at += 4 + 8 * record[at + 2]
-
-
-def put_in_order(model, order):
-    """The model with its blocks in this order, and every number of a block put right."""
-    parts = [[]]
-    for record in cut(model):
-        if record[2:] == BLOCK()[2:]:
-            parts.append([])
-        for at in block_fields(record):
-            record[at:at + 2] = u16(order.index(record[at] + 256 * record[at + 1]))
-        parts[-1].append(record)
-    return b''.join(b''.join(part) for part in [parts[0]] + [parts[1 + block] for block in order])
-
-
 # ---- what is held
 
 
 def examples():
     """Each example: its name, its text, and the records that it must give."""
     models, texts = ({path.stem for path in EXAMPLES.glob('*.' + ending)} for ending in ('model', 'text'))
-    if models != texts or not models or not set(IN_ORDER) <= models:
-        sys.exit('examples: %s have no .model or no .text' % sorted(models ^ texts | set(IN_ORDER) - models))
+    if models != texts or not models:
+        sys.exit('examples: %s have no .model or no .text' % sorted(models ^ texts))
     for name in sorted(models):
-        model = (EXAMPLES / (name + '.model')).read_bytes()
-        if name in IN_ORDER:
-            model = put_in_order(model, IN_ORDER[name])
-        yield 'examples/%s.text' % name, (EXAMPLES / (name + '.text')).read_bytes(), model
+        yield 'examples/%s.text' % name, *((EXAMPLES / (name + ending)).read_bytes() for ending in ('.text', '.model'))
 
 
 def worked():
@@ -141,10 +93,8 @@ def main(command):
         if given != expected:
             failed += 1
             print('%s\n  gives    %r\n  and not  %r' % (name, given, expected))
-    in_order = len(IN_ORDER)
-    told = (len(groups[0]), len(groups[0]) - in_order, in_order, len(groups[1]), len(groups[2]), failed)
-    print('texts: %d examples, %d to the very bytes and %d with blocks put in order; of docs/TEXT.md %d read and %d refused; '
-          '%d wrong' % told)
+    told = (len(groups[0]), len(groups[1]), len(groups[2]), failed)
+    print('texts: %d examples; of docs/TEXT.md %d read and %d refused; %d wrong' % told)
     return failed
 
 

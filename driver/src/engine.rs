@@ -2,6 +2,7 @@
 
 extern "C" {
     fn desk_check(file: *const u8, length: usize) -> u32;
+    fn desk_text(text: *const u8, length: usize, records: *mut u8, room: usize, place: *mut usize) -> u32;
     fn desk_bound(file: *const u8, length: usize) -> u64;
     fn desk_run(file: *const u8, length: usize, limit: u32, journal: *mut u8, room: usize) -> u64;
     fn desk_open(file: *const u8, length: usize, run: *mut u64, words: usize) -> u32;
@@ -75,6 +76,13 @@ impl<T: Copy + PartialEq> Lent<T> {
 
 pub fn check(file: &[u8]) -> u32 {
     unsafe { desk_check(file.as_ptr(), file.len()) }
+}
+
+/// The number, 0 for a text that is read, and the place, or how many bytes were written.
+pub fn text(text: &[u8], records: &mut [u8]) -> (u32, usize) {
+    let mut place = usize::MAX;
+    let number = unsafe { desk_text(text.as_ptr(), text.len(), records.as_mut_ptr(), records.len(), &mut place) };
+    (number, place)
 }
 
 pub fn bound(file: &[u8]) -> u64 {

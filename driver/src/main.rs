@@ -1,7 +1,7 @@
-//! The driver: makes models from a seed and holds the engine, by its C functions, against the second program.
+//! The driver: makes models, and texts of models, from a seed and holds the engine, by its C functions, against the second program.
 //!
 //!     driver COUNT [SEED]
-//!     driver texts COUNT [SEED]    texts instead of models, by the second program alone
+//!     driver texts COUNT [SEED]    texts of models
 //!
 //! Model number k, from 0, has the seed SEED + k, so `driver 1 S` tries the one of seed S again. README.md says more.
 

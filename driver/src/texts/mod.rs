@@ -1,4 +1,4 @@
-//! Texts made from a seed, and the second program's reader of texts held against what each must give.
+//! Texts made from a seed; the engine and the second program are held against what each must give, and against each other.
 //!
 //! What is expected of a text comes from the tree that it was written from, or from where trouble was put in; no text is read
 //! here. docs/TEXT.md decides who is right.
@@ -21,6 +21,8 @@ mod tree;
 mod unfit;
 mod write;
 
+use crate::engine;
+use crate::engine::Lent;
 use crate::random::Random;
 use case::{Case, Expected, Wrong};
 use counts::*;
@@ -32,7 +34,7 @@ use std::sync::Mutex;
 use std::time::Instant;
 
 /// The texts of the gate; in a run of so many everything must come up.
-const GATE: u64 = 20_000;
+const GATE: u64 = 200_000;
 
 /// So many texts are taken by a thread at a time.
 const TURN: u64 = 32;
@@ -210,7 +212,7 @@ fn earlier(random: &mut Random) -> Option<Case> {
 // ---- what is held
 
 /// The answer of the second program; that it panicked is an answer too.
-fn answer(text: &[u8], room: usize) -> Result<Expected, String> {
+fn second(text: &[u8], room: usize) -> Result<Expected, String> {
     match catch_unwind(|| read_text(text, room)) {
         Ok(Ok(file)) => Ok(Expected::Records(file)),
         Ok(Err(refused)) => Ok(Expected::Refused { number: refused.number, place: refused.place }),
@@ -218,13 +220,33 @@ fn answer(text: &[u8], room: usize) -> Result<Expected, String> {
     }
 }
 
-fn expect(text: &[u8], room: usize, expected: &Expected) -> Result<(), Difference> {
-    let what = match answer(text, room) {
-        Ok(given) if given == *expected => return Ok(()),
-        Ok(given) => format!("with room for {room} it gives {}\n  expected {}", shown(&given), shown(expected)),
-        Err(what) => what,
+/// The answer of the engine. The text is as it was; of what was lent the records are written, and no byte more.
+fn engines(text: &[u8], room: usize, random: &mut Random) -> Result<Expected, String> {
+    let (mut lent, mut records) = (Lent::new(0), Lent::new(0));
+    lent.set(text, random.below(8), random.below(256) as u8);
+    records.empty(room, random.below(8), random.below(256) as u8);
+    let (number, place) = engine::text(lent.content(), records.content_mut());
+    lent.is(text).map_err(|at| format!("the engine changed what is lent with the text, at {at}"))?;
+    let file = match number {
+        0 if place <= room => records.content()[..place].to_vec(),
+        0 => return Err(format!("the engine says that it wrote {place} bytes, with room for {room}")),
+        _ => Vec::new(),
     };
-    Err(Difference { text: text.to_vec(), what })
+    records.is(&file).map_err(|at| format!("the engine answers {number}, {place}, and wrote at {at} of what is lent"))?;
+    Ok(if number == 0 { Expected::Records(file) } else { Expected::Refused { number, place } })
+}
+
+/// Both must give what is expected.
+fn expect(text: &[u8], room: usize, expected: &Expected, random: &mut Random) -> Result<(), Difference> {
+    for (name, answer) in [("the second program", second(text, room)), ("the engine", engines(text, room, random))] {
+        let what = match answer {
+            Ok(given) if given == *expected => continue,
+            Ok(given) => format!("with room for {room} {name} gives {}\n  expected {}", shown(&given), shown(expected)),
+            Err(what) => what,
+        };
+        return Err(Difference { text: text.to_vec(), what });
+    }
+    Ok(())
 }
 
 fn shown(answer: &Expected) -> String {
@@ -240,29 +262,32 @@ fn shown(answer: &Expected) -> String {
 fn hold(random: &mut Random, case: &Case, counts: &mut Counts) -> Result<(), Difference> {
     let Expected::Records(file) = &case.expected else {
         let room = random.pick(&[ROOM, ROOM, 0]);
-        return expect(&case.text, room, &case.expected);
+        return expect(&case.text, room, &case.expected, random);
     };
-    expect(&case.text, random.pick(&[file.len(), file.len(), ROOM]), &case.expected)?;
+    let room = random.pick(&[file.len(), file.len(), ROOM]);
+    expect(&case.text, room, &case.expected, random)?;
     let short = Expected::Refused { number: 55, place: case.text.len() };
     let rooms = [file.len().wrapping_sub(1), 0];
     let which = random.below(rooms.len());
     if !file.is_empty() {
-        expect(&case.text, rooms[which], &short)?;
+        expect(&case.text, rooms[which], &short, random)?;
         counts.add(SHORT, ROOMS[which]);
     }
     Ok(())
 }
 
-/// Nothing is expected of any text but an answer within the rules, and that what is written passes the checks.
+/// Nothing is expected of any text but an answer within the rules, that what is written passes the checks, and that both give it.
 fn hold_any(random: &mut Random, counts: &mut Counts) -> Result<(), Difference> {
     let text = any::any_text(random);
-    let given = answer(&text, ROOM);
+    let given = match second(&text, ROOM) {
+        Ok(given) => given,
+        Err(what) => return Err(Difference { what, text }),
+    };
     let name = match &given {
-        Ok(Expected::Records(file)) if reference::check(file).is_ok() => ANSWERS[0],
-        Ok(Expected::Refused { number: number @ 51..=54, place }) if *place <= text.len() => ANSWERS[*number as usize - 50],
-        Ok(other) => return Err(Difference { what: format!("it gives {}", shown(other)), text }),
-        Err(what) => return Err(Difference { what: what.clone(), text }),
+        Expected::Records(file) if reference::check(file).is_ok() => ANSWERS[0],
+        Expected::Refused { number: number @ 51..=54, place } if *place <= text.len() => ANSWERS[*number as usize - 50],
+        other => return Err(Difference { what: format!("the second program gives {}", shown(other)), text }),
     };
     counts.add(ANY, name);
-    Ok(())
+    expect(&text, ROOM, &given, random)
 }
