@@ -2,6 +2,7 @@
 # Builds the fuzzer: fuzz/build.sh PROGRAM [EDIT]. Coverage is counted in the second program and in the engine's source as Rust;
 # the proved library carries no counters. With EDIT, CRATE/NAME, that source has the must-fail edit, and the library hasn't. With
 # NEVER=1 in the environment it is the program of fuzz/never.py: compiled as the source stands, line by line, without libFuzzer.
+# With JUDGE=texts in the environment texts are judged, and models without.
 set -eu
 cd "$(dirname "$0")/.."
 program=$1
@@ -37,5 +38,5 @@ python3 -B fuzz/engine.py "$parts/engine.rs" ${2:+"$2"}
   -o "$parts/libhanded.rlib" fuzz/handed.rs
 "${rust[@]}" "${counted[@]}" --crate-type rlib --crate-name engine -o "$parts/libengine.rlib" "$parts/engine.rs"
 "${rust[@]}" --crate-type staticlib --crate-name judge --extern reference --extern handed --extern engine \
-  -o "$parts/libjudge.a" fuzz/judge.rs
+  -o "$parts/libjudge.a" "fuzz/${JUDGE:-judge}.rs"
 clang "${around[@]}" -Wl,-u,LLVMFuzzerTestOneInput -o "$program" "$parts/libjudge.a" "${library[@]}" -ldl -lm

@@ -3,6 +3,7 @@
 pub struct Desk {
     pub name: &'static str,
     pub check: fn(&[u8]) -> u32,
+    pub text: fn(&[u8], &mut [u8], &mut usize) -> u32,
     pub bound: fn(&[u8]) -> u64,
     pub run: fn(&[u8], u32, &mut [u8]) -> u64,
     pub open: fn(&[u8], &mut [u64]) -> u32,
@@ -14,6 +15,7 @@ pub const DESKS: &[Desk] = &[
     Desk {
         name: "the library",
         check: library::check,
+        text: library::text,
         bound: library::bound,
         run: library::run,
         open: library::open,
@@ -22,6 +24,7 @@ pub const DESKS: &[Desk] = &[
     Desk {
         name: "its source as Rust",
         check: engine::desk_c::desk_check,
+        text: engine::desk_c::desk_text,
         bound: engine::desk_c::desk_bound,
         run: engine::desk_c::desk_run,
         open: engine::desk_c::desk_open,
@@ -34,6 +37,13 @@ pub const DESKS: &[Desk] = &[
 mod library {
     extern "C" {
         fn desk_check(file: *const u8, length: usize) -> u32;
+        fn desk_text(
+            text: *const u8,
+            length: usize,
+            records: *mut u8,
+            room: usize,
+            place: *mut usize,
+        ) -> u32;
         fn desk_bound(file: *const u8, length: usize) -> u64;
         fn desk_run(
             file: *const u8,
@@ -54,10 +64,15 @@ mod library {
         ) -> u64;
     }
 
-    // SAFETY, five times: a slice is its pointer and its length, which is what the header asks for.
+    // SAFETY, six times: a slice is its pointer and its length, which is what the header asks for.
 
     pub fn check(file: &[u8]) -> u32 {
         unsafe { desk_check(file.as_ptr(), file.len()) }
+    }
+
+    pub fn text(text: &[u8], records: &mut [u8], place: &mut usize) -> u32 {
+        let (lent, room) = (records.as_mut_ptr(), records.len());
+        unsafe { desk_text(text.as_ptr(), text.len(), lent, room, place) }
     }
 
     pub fn bound(file: &[u8]) -> u64 {

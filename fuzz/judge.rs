@@ -5,6 +5,7 @@
 //! byte of what was lent is told, and the program aborts.
 
 mod chance;
+#[allow(dead_code)] // texts are judged by texts.rs
 mod desks;
 mod head;
 mod input;

@@ -1,4 +1,4 @@
-//! The driver: makes models, and texts of models, from a seed and holds the engine, by its C functions, against the second program.
+//! The driver: makes models, and texts of them, from a seed and holds the engine, by its C functions, against the second program.
 //!
 //!     driver COUNT [SEED]
 //!     driver texts COUNT [SEED]    texts of models
