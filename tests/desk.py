@@ -5,6 +5,7 @@
 What it must tell of a model is known elsewhere as numbers: examples/*.plan, tests/plans.py and tests/cases.py. So its words are
 turned back into the lines of `plan`. The words themselves, WORDS and KINDS, were copied from document 01 by hand. What it tells
 of a lacking item is held against tests/claims.py, and against texts that were written by hand: tests/waits.py, docs/MODEL.md.
+What it tells of a mistake in a text is tests/mistakes.py's.
 """
 import pathlib
 import re
@@ -15,6 +16,7 @@ import tempfile
 import cases
 import claims
 import examples
+import mistakes
 import plans
 import waits
 from records import *
@@ -254,6 +256,22 @@ def usage(desk):
                 2, '', "desk: %s can't be read: %s\n" % (name, reason)))
 
 
+def texts(desk):
+    """A text is taken by every command, and gives what its records give; `records` writes them. A mistake is told in words."""
+    for example in examples.EXAMPLES:
+        model = examples.files(example)[0]
+        text = model.with_suffix('.text')
+        for words in (['check'], ['bound'], ['run'], ['waits', '60']):
+            desk.same('%s of %s' % (words[0], text.name), *(desk.asks(words[0], str(file), *words[1:]) for file in (text, model)))
+        done = subprocess.run([*desk.command, 'records', str(text)], capture_output=True, check=False)
+        desk.same('records of ' + text.name, (done.returncode, done.stdout, done.stderr), (0, model.read_bytes(), b''))
+    for text, told, said in mistakes.told(str(desk.file)):
+        desk.file.write_bytes(text)
+        for command in ('records', 'check', 'run'):
+            done = subprocess.run([*desk.command, command, str(desk.file)], capture_output=True, check=False)
+            desk.same('%s of %r' % (command, text), (done.returncode, done.stdout, done.stderr), (1, told, said))
+
+
 def main(words):
     with tempfile.TemporaryDirectory() as folder:
         desk = Desk(words, folder)
@@ -263,6 +281,7 @@ def main(words):
         page(desk)
         draws(desk)
         checks(desk)
+        texts(desk)
         usage(desk)
     print('desk: %d told as they should, %d not' % (desk.tried - desk.failed, desk.failed))
     return desk.failed

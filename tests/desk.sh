@@ -49,11 +49,13 @@ for command in check bound run waits; do
 done
 under_valgrind 0 moves examples/two-jobs.model 3
 under_valgrind 1 moves "$folder/bad" 3
+under_valgrind 0 records examples/crowded-day.text
+under_valgrind 1 records examples/crowded-day.model
 under_valgrind 0 run "$folder/endless" 140000
 # Six jobs wait then, each for one of two reasons.
 under_valgrind 0 waits examples/crowded-day.model 60
 under_valgrind 0 moves examples/crowded-day.model 50
-echo "desk: thirteen runs under valgrind, as they should"
+echo "desk: fifteen runs under valgrind, as they should"
 
 [ "$(uname -m)" != x86_64 ] || exit 0
 if ! command -v x86_64-linux-gnu-gcc >/dev/null; then
