@@ -231,16 +231,40 @@ static void tell_token(struct token token)
     show(token.bytes, token.length > SHOWN ? SHOWN : token.length);
 }
 
-static void tell_misfit(struct token token)
+/* Whether the token is the first of its line, and what stands before it is neither ended nor opened. */
+static bool lacks_semicolon(const uint8_t *text, struct token token)
+{
+    struct token last = {text, 0, 0};
+
+    for (;;) {
+        struct token next = token_at(text, token.place, last.place + last.length);
+
+        if (next.length == 0)
+            break;
+        last = next;
+    }
+    for (size_t k = last.place; k < token.place; k++)
+        if (ends_line(text[k]))
+            return last.length > 0 && strchr(";{}", *last.bytes) == NULL;
+    return false;
+}
+
+static void tell_misfit(const uint8_t *text, struct token token)
 {
     if (token.length == 0) {
         fputs("the text ends here, and isn't complete", stderr);
-    } else if (in_word(*token.bytes) && token.length > 16) {
-        fprintf(stderr, "a word of %zu letters and digits; a name has at most 16", token.length);
-    } else {
-        tell_token(token);
-        fputs(*token.bytes >= '0' && *token.bytes <= '9' ? " doesn't fit here, or is too large" : " doesn't fit here", stderr);
+        return;
     }
+    if (in_word(*token.bytes) && token.length > 16) {
+        fprintf(stderr, "a word of %zu letters and digits; a name has at most 16", token.length);
+        return;
+    }
+    tell_token(token);
+    fputs(" doesn't fit here", stderr);
+    if (*token.bytes >= '0' && *token.bytes <= '9')
+        fputs(", or is too large", stderr);
+    else if (lacks_semicolon(text, token))
+        fputs("; is a semicolon missing before it?", stderr);
 }
 
 static void tell_words(const uint8_t *text, size_t length, uint32_t number, struct token token)
@@ -249,7 +273,7 @@ static void tell_words(const uint8_t *text, size_t length, uint32_t number, stru
 
     switch (number) {
     case GRAMMAR:
-        tell_misfit(token);
+        tell_misfit(text, token);
         break;
     case UNKNOWN:
         tell_token(token);

@@ -10,6 +10,8 @@ CLAIM = 'a claim has at most 4 items, with amounts of 1 to 1,000,000, and no res
 MISTAKES = [
     # 51
     (b'res(a, 1) ^bin(b, 1);', 51, '1:11', "bin doesn't fit here"),
+    (b'sync(s)\n^res(a, 1);', 51, '2:1', "res doesn't fit here; is a semicolon missing before it?"),
+    (b'sync(s); # done\n^hold(1);', 51, '2:1', "hold doesn't fit here"),
     (b'res(a, 1^', 51, '1:9', "the text ends here, and isn't complete"),
     (b'class c {\n  do ^65536 { }\n}', 51, '2:6', "65536 doesn't fit here, or is too large"),
     (b'res(^abcdefghijklmnopq, 1);', 51, '1:5', 'a word of 17 letters and digits; a name has at most 16'),
