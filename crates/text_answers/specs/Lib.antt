@@ -1,3 +1,5 @@
 pub mod Cutting
 pub mod Grading
 pub mod Nesting
+pub mod Sized
+pub mod Spare
