@@ -3,3 +3,4 @@ pub mod Grading
 pub mod Nesting
 pub mod Sized
 pub mod Spare
+pub mod Arriving
