@@ -4,3 +4,11 @@ pub mod Nesting
 pub mod Sized
 pub mod Spare
 pub mod Arriving
+pub mod Naming
+pub mod Seconds
+pub mod Asked
+pub mod Ranges
+pub mod Lacking
+pub mod Decoded
+pub mod Ending
+pub mod Machines
