@@ -137,6 +137,12 @@ module _ (place : ℕ → ℕ) where
   grew-as {s} {t} {n} {z} {m} {y} {ns} e f a =
       subst (λ i. Grew place s t i y ns) e (subst (λ i. Grew place s t n i ns) f a)
 
+  -- Bytes over FULL are not counted.
+  pub grew-total : {s t : Sheet} {n z y : ℕ} {ns : List Note} → added (s .total) z ≡ added (s .total) y → Grew place s t n z ns
+      → Grew place s t n y ns
+  grew-total e a =
+      record { wide = a .wide; seen = a .seen; total = a .total ∙ e; last = a .last; besides = a .besides }
+
 -- A choice between two sheets that have something alike.
 either : {A : Type 0} (f : Sheet → A) (a : A) (b : Bool) {x y : Sheet} → f x ≡ a → f y ≡ a → f (if b then x else y) ≡ a
 either f a true e g = e

@@ -33,8 +33,8 @@ use Rattle.text_promises.specs.Cuts.{bytes-long}
 use Rattle.text_agrees.specs.Actions.{sheeted}
 use Rattle.text_agrees.specs.Notes.{file-append}
 use Rattle.text_agrees.specs.Accounts.{Counting, heading, grew-blocks}
-use Rattle.text_agrees.specs.Laying.{Short, nested, acts-lie}
-use Rattle.text_agrees.specs.Layout.{Writes, Fresh, lastLine, last-append, body, body-writes}
+use Rattle.text_agrees.specs.Laying.{Short, Fair, block-split, nested, acts-lie}
+use Rattle.text_agrees.specs.Layout.{Writes, Fresh, lastLine, last-append, body, kept-in, body-writes}
 use Rattle.text_agrees.specs.Events.{Fewer, fewer-split}
 use Rattle.text_agrees.specs.Declared.{remembered, firstAt, pastLocals, declared, declaredAll}
 use Rattle.text_agrees.specs.Lines.{body-span, declaration-span, all-known, in-body, calm-first, calm-split, wants-nothing}
@@ -87,16 +87,17 @@ Classed place s ds t =
     length (s .classAt) + ofGroup K.CLASS ds ≤ F.mostClasses
     → (t .classLine ≡ s .classLine ++ classLines place ds) × (length (t .classAt) ≡ length (s .classAt) + ofGroup K.CLASS ds)
 
--- WHAT IS ADDED from s to t: the records ds to the declarations, and the records bs to the blocks.
+-- WHAT IS ADDED from s to t: the records ds to the declarations, and the records bs to the blocks, where they stand if they are
+-- kept.
 pub record Adds (place : ℕ → ℕ) (s t : Sheet) (ds bs : List Owned) : Type 0 where
   pub counting : Counting t
   pub counts : (g : ℕ) → getD (t .seen) g 0 ≡ getD (s .seen) g 0 + (ofGroup g ds + ofGroup g bs)
   pub total : t .total ≡ added (s .total) (length (fileOf ds) + length (fileOf bs))
   pub last : s .lastBlock ≤ blocksOf s → (t .lastLine ≡ lastLine place (s .lastLine) bs) × (t .lastBlock ≤ blocksOf t)
   pub levels : t .levels ≡ s .levels
-  pub room : Roomy s ds t
+  pub room : AllOf Short bs → Roomy s ds t
   pub classes : Classed place s ds t
-  pub blocks : t .full ≡ false → Fresh (blocksOf s) (s .pieces)
+  pub blocks : AllOf Short bs → t .full ≡ false → Fresh (blocksOf s) (s .pieces)
       → Fresh (blocksOf t) (t .pieces)
       × (blocksFrom (blocksOf t) 0 (t .pieces) ≡ blocksFrom (blocksOf s) 0 (s .pieces) ++ fileOf bs)
 
@@ -123,9 +124,10 @@ module _ (place : ℕ → ℕ) where
             let y = b .last (x .1) in
             (y .0 ∙ ap (λ p. lastLine place p cs) (x .0) ∙ sym (last-append place (s .lastLine) bs cs), y .1);
         levels = b .levels ∙ a .levels;
-        room = λ f.
-            let y = b .room f in
-            let x = a .room (y .0) in (
+        room = λ j f.
+            let js = all-split Short bs cs j in
+            let y = b .room (js .1) f in
+            let x = a .room (js .0) (y .0) in (
               x .0,
               λ h.
                   let p = over-append (λ o. once K.CLASS (groupOf (o .entry))) ds es in
@@ -145,9 +147,10 @@ module _ (place : ℕ → ℕ) where
                   ∙ ap (λ ns. s .classLine ++ ns) (sym (lines-append place ds es)),
               omega arith,
             );
-        blocks = λ f fresh.
-            let x = a .blocks (b .room f .0) fresh in
-            let y = b .blocks f (x .0) in (
+        blocks = λ j f fresh.
+            let js = all-split Short bs cs j in
+            let x = a .blocks (js .0) (b .room (js .1) f .0) fresh in
+            let y = b .blocks (js .1) f (x .0) in (
               y .0,
               y .1 ∙ ap (λ ns. ns ++ fileOf cs) (x .1)
                   ∙ append-assoc (blocksFrom (blocksOf s) 0 (s .pieces)) (fileOf bs) (fileOf cs)
@@ -176,9 +179,9 @@ module _ (place : ℕ → ℕ) where
         total = let a = ap (λ x. x .total) e in let l = c .little in omega arith;
         last = λ l. let i = ap (λ x. x .lastBlock) e in (ap (λ x. x .lastLine) e, omega arith);
         levels = ap (λ x. x .levels) e;
-        room = λ f. (h f, λ l. omega arith);
+        room = λ j f. (h f, λ l. omega arith);
         classes = λ l. (i ∙ sym (append-nil (s .classLine)), let n = ap length j in omega arith);
-        blocks = λ f fresh. kept-blocks s t b (ap (λ x. x .pieces) e) fresh;
+        blocks = λ j f fresh. kept-blocks s t b (ap (λ x. x .pieces) e) fresh;
       }
 
   -- A record more among the declarations.
@@ -201,9 +204,9 @@ module _ (place : ℕ → ℕ) where
             let l = length-append (bytesOf (o .entry)) [] in omega arith;
         last = λ l. let i = ap (λ x. x .lastBlock) e in (ap (λ x. x .lastLine) e, omega arith);
         levels = ap (λ x. x .levels) e;
-        room = h;
+        room = λ j. h;
         classes = j;
-        blocks = λ f fresh. kept-blocks s t b (ap (λ x. x .pieces) e) fresh;
+        blocks = λ j f fresh. kept-blocks s t b (ap (λ x. x .pieces) e) fresh;
       }
 
   -- THE CHANGES of a sheet by declarations.
@@ -256,7 +259,7 @@ module _ (place : ℕ → ℕ) where
       (λ e. same-adds s s c refl (λ f. f) refl refl)
 
   writes-adds : (s t : Sheet) (os : List Owned) → Writes place s t [] os → t .levels ≡ s .levels
-      → (t .full ≡ false → s .full ≡ false) → Adds place s t [] os
+      → (AllOf Short os → t .full ≡ false → s .full ≡ false) → Adds place s t [] os
   writes-adds s t os w l r =
       record {
         counting = w .counting;
@@ -264,12 +267,12 @@ module _ (place : ℕ → ℕ) where
         total = let a = w .total in omega arith;
         last = w .last;
         levels = l;
-        room = λ f. (r f, λ i. omega arith);
+        room = λ j f. (r j f, λ i. omega arith);
         classes = λ i.
             let a = ap (λ x. length (x .classAt)) (w .besides) in
             (ap (λ x. x .classLine) (w .besides) ∙ sym (append-nil (s .classLine)), omega arith);
-        blocks = λ f fresh.
-            let y = w .blocks f fresh in (
+        blocks = λ j f fresh.
+            let y = w .blocks j f fresh in (
               subst (Fresh (blocksOf t)) (append-nil (t .pieces)) (y .1),
               ap (blocksFrom (blocksOf t) 0) (sym (append-nil (t .pieces))) ∙ y .2,
             );
@@ -277,7 +280,7 @@ module _ (place : ℕ → ℕ) where
 
   -- A body, from its brace to the brace that closes it.
   body-adds : (ks : List Known) (a : G.Act G.actions) (own at p : ℕ) (s : Sheet) → Counting s → p ≡ at
-      → AllOf Short (body ks a own (blocksOf s) at)
+      → AllOf Fair (body ks a own (blocksOf s) at)
       → Adds place s (closed (sheeted place ks a p (braces s))) [] (body ks a own (blocksOf s) at)
       × (heading (closed (sheeted place ks a p (braces s))) ≡ heading s)
       × (blocksOf (closed (sheeted place ks a p (braces s))) ≡ blocksOf s + suc (W.opened a))
@@ -285,9 +288,10 @@ module _ (place : ℕ → ℕ) where
       let k : ℕ = blocksOf s in
       let t : Sheet = closed (sheeted place ks a p (braces s)) in
       let w = body-writes place ks a own at s c p e h in
-      let js = all-split Short (owned R.BLOCK own ∷ W.direct ks a (suc k) at) (W.inside ks a own (suc k) at) h in
-      let y = nested place ks a (acts-lie place ks a) p at own k s e c refl (js .0 .1) (js .1) in (
-        writes-adds s t (body ks a own k at) (w .0) (w .1) (λ f. y .lays .came f .0),
+      let js = block-split Fair own (W.direct ks a (suc k) at) (W.inside ks a own (suc k) at) h in
+      let y = nested place ks a (acts-lie place ks a) p at own k s e c refl (js .0) (js .1) in (
+        writes-adds s t (body ks a own k at) (w .0) (w .1)
+            (λ j f. y .lays (kept-in place ks a own at s c j) .came f .0),
         w .0 .besides,
         grew-blocks place (y .grew),
       )
@@ -356,45 +360,46 @@ module _ (place : ℕ → ℕ) where
         (a, first-begins at s, (let m = a .counts K.BLOCK in omega arith))
 
     -- A body behind it: nothing else is changed.
-    abbrev pub Behind : Sheet → Sheet → Type 0
-    Behind v t = (heading t ≡ heading v) × (t .full ≡ false → v .full ≡ false)
+    abbrev pub Behind : List Owned → Sheet → Sheet → Type 0
+    Behind bs v t = (heading t ≡ heading v) × (AllOf Short bs → t .full ≡ false → v .full ≡ false)
 
     with-body : (v : Sheet) (os : List Owned) (is js : List Known) (l : G.Locals) (b : G.Act G.actions) → One v os [] 0
-        → js ≡ is → AllOf Short (body is b at k (at + toBody l))
+        → js ≡ is → AllOf Fair (body is b at k (at + toBody l))
         → One (closed (sheeted place js b (pastLocals l (suc (suc (suc at)))) (braces v))) os (body is b at k (at + toBody l))
         (suc (W.opened b))
-        × Behind v (closed (sheeted place js b (pastLocals l (suc (suc (suc at)))) (braces v)))
+        × Behind (body is b at k (at + toBody l)) v (closed (sheeted place js b (pastLocals l (suc (suc (suc at)))) (braces v)))
     with-body v os is js l b a i h =
         let p : ℕ = pastLocals l (suc (suc (suc at))) in
         let q : ℕ = at + toBody l in
         let t : List Known → Sheet = λ zs. closed (sheeted place zs b p (braces v)) in
         let j : blocksOf v ≡ k = let m = a .2 in omega arith in
         let y = body-adds is b at q p v (a .0 .counting) (body-span l at)
-        (subst (λ n. AllOf Short (body is b at n q)) (sym j) h) in
-        subst (λ zs. One (t zs) os (body is b at k q) (suc (W.opened b)) × Behind v (t zs)) (sym i) (
+        (subst (λ n. AllOf Fair (body is b at n q)) (sym j) h) in
+        subst (λ zs. One (t zs) os (body is b at k q) (suc (W.opened b)) × Behind (body is b at k q) v (t zs)) (sym i) (
           (
             subst (λ n. Adds place s (t is) os (body is b at n q)) j
                 (subst (λ zs. Adds place s (t is) zs (body is b at (blocksOf v) q)) (append-nil os) (adds-join (a .0) (y .0))),
             ap (λ x. x .first) (y .1) ∙ a .1,
             y .2 ∙ ap (λ n. n + suc (W.opened b)) j,
           ),
-          (y .1, λ f. y .0 .room f .0),
+          (y .1, λ x f. y .0 .room (subst (λ n. AllOf Short (body is b at n q)) (sym j) x) f .0),
         )
 
     -- A class line with a body, where the class is known or isn't.
     pub by-body : (x : Name) (l : G.Locals) (b : G.Act G.actions) (j : ℕ) (t : Bool) (is js : List Known) → js ≡ is
-        → AllOf Short (body is b at k (at + toBody l))
+        → AllOf Fair (body is b at k (at + toBody l))
         → One (closed (sheeted place js b (pastLocals l (suc (suc (suc at))))
         (braces (if t then bodied (numberOf ks x) (blocksOf u) u else S.classes (place at) (blocksOf u) u))))
         (map (λ e. owned e at) (if t then [] else R.CLASS j ∷ [])) (body is b at k (at + toBody l)) (suc (W.opened b))
-        × Behind (if t then bodied (numberOf ks x) (blocksOf u) u else S.classes (place at) (blocksOf u) u)
+        × Behind (body is b at k (at + toBody l))
+        (if t then bodied (numberOf ks x) (blocksOf u) u else S.classes (place at) (blocksOf u) u)
         (closed (sheeted place js b (pastLocals l (suc (suc (suc at))))
         (braces (if t then bodied (numberOf ks x) (blocksOf u) u else S.classes (place at) (blocksOf u) u))))
     by-body x l b j true is js i h = with-body _ [] is js l b (by-patch (numberOf ks x) (blocksOf u)) i h
     by-body x l b j false is js i h = with-body _ (owned (R.CLASS j) at ∷ []) is js l b (by-class j (blocksOf u)) i h
 
     pub one-adds : (d : Declaration) → troubleIn ks (inDeclaration d) ≡ none → Fewer ks (inDeclaration d)
-        → AllOf Short (W.blocksOf ks k at d)
+        → AllOf Fair (W.blocksOf ks k at d)
         → One (declared place ks d at s) (entries ks k at d ts) (W.blocksOf ks k at d) (openedBy d)
     unfolding declared put bodyOf trouble
     one-adds (G.res x n) m r h = by-entry _ (owned (R.RES (n .value)) at) refl (omega arith) refl refl refl
@@ -423,7 +428,7 @@ module _ (place : ℕ → ℕ) where
       (declaration-span d at)
 
   pub all-adds : (t : Text) (ks : List Known) (k at : ℕ) (s : Sheet) → Counting s → blocksOf s ≡ k
-      → troubleIn ks (events t) ≡ none → Fewer ks (events t) → AllOf Short (blocks ks k at t)
+      → troubleIn ks (events t) ≡ none → Fewer ks (events t) → AllOf Fair (blocks ks k at t)
       → Adds place s (declaredAll place ks t at s) (declarations ks k at t) (blocks ks k at t)
       × (0 < s .total → declaredAll place ks t at s .first ≡ s .first)
   unfolding declaredAll declarations blocks
@@ -434,7 +439,7 @@ module _ (place : ℕ → ℕ) where
       let zs : List Known = after ks es in
       let x = calm-split ks es (events ts) m in
       let y = fewer-split ks es (events ts) r in
-      let z = all-split Short (W.blocksOf ks k at d) (blocks zs (k + openedBy d) q ts) h in
+      let z = all-split Fair (W.blocksOf ks k at d) (blocks zs (k + openedBy d) q ts) h in
       let a = one-adds ks k at s ts c e d (x .0) (y .0) (z .0) in
       let t : Sheet = declared place ks d at s in
       let b = all-adds ts zs (k + openedBy d) q t (a .0 .counting) (a .2) (x .1) (y .1) (z .1) in

@@ -300,7 +300,7 @@ nested-step {t = t} p (atEnd f c) e = by-line (isCut t) (p .next) (in-row p e en
 nested-step {t = t} p (within f n) e = by-inside (isCut t) (p .next) (in-row p e inside f) n
 
 -- MANY TOKENS.
-still-nested : {b : Bool} {ss : List Symbol} → After b ss → Nested ss ⊎ (ss ≡ [])
+pub still-nested : {b : Bool} {ss : List Symbol} → After b ss → Nested ss ⊎ (ss ≡ [])
 still-nested over = inr refl
 still-nested (still n) = inl n
 still-nested (cut c) = inl (closing c)

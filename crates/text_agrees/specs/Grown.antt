@@ -8,7 +8,9 @@ use mathlib.Core.Bool.{Bool, true, false}
 use mathlib.Core.Option.{none}
 use lib.ListN.{length, length-append}
 use Rattle.semantics.specs.Words.{if_then_else_, any}
-use Rattle.promises.specs.Laws.{no-way, not-true}
+use Rattle.promises.specs.Laws.{no-way, not-true, over-append, once}
+use Rattle.promises.specs.Counted.{groupOf}
+use Rattle.semantics.specs.Kinds as K
 use Rattle.semantics.specs.Model as M
 use Rattle.semantics.specs.Model.{Branch}
 use Rattle.semantics.specs.Record as R
@@ -19,17 +21,21 @@ use Rattle.text_semantics.specs.Grammar as G
 use Rattle.text_semantics.specs.Grammar.{Name, Claim, Kind, Act, Locals, Few, Declaration, Text, spellClaim, toBrace, spellAct}
 use Rattle.text_semantics.specs.Grammar.{declare, spellLocals}
 use Rattle.text_semantics.specs.Names.{Known, named, awaited, embodies, announces, inLocals, inDeclaration, events, after}
-use Rattle.text_semantics.specs.Names.{trouble, troubleIn}
+use Rattle.text_semantics.specs.Names.{knows, trouble, troubleIn}
 use Rattle.text_semantics.specs.Lexing.{sameBytes}
 use Rattle.text_semantics.specs.Meaning.{blocks, blocksOf, declarations, entryOf, bodyBlock, embodied, openedBy, records, toBody}
 use Rattle.text_semantics.specs.Meaning.{Owned, owned, opened, direct, inside, claimOf, toDo, toWhile, toTry, inTokens, inBraces}
+use Rattle.text_semantics.specs.Meaning.{numberOf}
 use Rattle.text_semantics.specs.Meaning as S
+use Rattle.text_promises.specs.Judged.{ofGroup}
 use Rattle.text_promises.specs.Plain.{Plain, act-plain, declare-plain, locals-plain, claimed}
 use Rattle.text_agrees.specs.Events.{after-append}
 use Rattle.text_agrees.specs.Lines.{calm-first, calm-split, wants-nothing}
 use Rattle.text_agrees.specs.Slots.{same-is, same-self, same-turned}
 use Rattle.text_agrees.specs.Lasting.{lasting, lasting-all, lasting-named, class-lasts, announcedBy, stays-unawaited}
 use Rattle.text_agrees.specs.Lasting.{settled, body-settles}
+use Rattle.text_agrees.specs.Tallies.{tally}
+use Rattle.text_agrees.specs.Numbering.{number-all, number-new, class-tally}
 use Rattle.text_agrees.specs.Growing as N
 use Rattle.text_agrees.specs.Growing.{Fresh, New, act, branch, Put, inDo, inWhile, inTry, inBranches, newBranch, inBranch}
 use Rattle.text_agrees.specs.Growing.{moreBranches, newAction, inLast, further, before, lines, ending, ahead, lines-plain}
@@ -351,7 +357,7 @@ pub opened-last : (ds : Text) (d : Declaration) → openedIn (ds ++ (d ∷ [])) 
 opened-last [] d = omega arith
 opened-last (c ∷ ds) d = omega (arith, opened-last ds d)
 
-long-lines : (d : Declaration) (ds : Text) → length (lines (d ∷ ds) []) ≡ length (declare d []) + length (lines ds [])
+pub long-lines : (d : Declaration) (ds : Text) → length (lines (d ∷ ds) []) ≡ length (declare d []) + length (lines ds [])
 long-lines d ds = long (declare d) (declare-plain d) (lines ds [])
 
 pub blocks-last : (ks : List Known) (k at : ℕ) (ds : Text) (d : Declaration) → blocks ks k at (ds ++ (d ∷ []))
@@ -395,7 +401,7 @@ same-entries ks k at (G.class x b) ds es h =
     (ap (λ (n : ℕ). if embodied x (G.class x b) then k else n) (h x (k + openedBy (G.class x b))))
 same-entries ks k at (G.entity x n) ds es h = refl
 
-same-declarations : (ks : List Known) (k at : ℕ) (ds : Text) (y : Name) (l m : Locals) (a b : Act G.actions) →
+pub same-declarations : (ks : List Known) (k at : ℕ) (ds : Text) (y : Name) (l m : Locals) (a b : Act G.actions) →
     declarations ks k at (ending ds y l a) ≡ declarations ks k at (ending ds y m b)
 unfolding declarations
 same-declarations ks k at [] y l m a b = refl
@@ -571,14 +577,17 @@ pub record Filled (k : ℕ) (old new : List Owned) : Type 0 where
   pub was : old ≡ first ++ (owned (R.CLASS No.noBody) owner ∷ rest)
   pub is : new ≡ first ++ (owned (R.CLASS k) owner ∷ rest)
 
-filled-behind : {k : ℕ} (os : List Owned) {old new : List Owned} → Filled k old new → Filled k (os ++ old) (os ++ new)
-filled-behind os f =
+abbrev filled-behind : {k m : ℕ} (os qs : List Owned) {old new : List Owned} → k ≡ m → qs ≡ os → Filled k old new →
+    Filled m (os ++ old) (qs ++ new)
+filled-behind os qs {new = new} e g f =
     record {
       first = os ++ f .first;
       rest = f .rest;
       owner = f .owner;
       was = ap (λ zs. os ++ zs) (f .was) ∙ sym (append-assoc os (f .first) _);
-      is = ap (λ zs. os ++ zs) (f .is) ∙ sym (append-assoc os (f .first) _);
+      is =
+          ap (λ zs. zs ++ new) g ∙ ap (λ zs. os ++ zs) (f .is) ∙ sym (append-assoc os (f .first) _)
+          ∙ ap (λ (n : ℕ). (os ++ f .first) ++ (owned (R.CLASS n) (f .owner) ∷ f .rest)) e;
     }
 
 module _ (x : Name) where
@@ -667,27 +676,32 @@ module _ (x : Name) where
   early-entry ks k at (G.class y (G.body m b)) ds l = rw (same-self y)
   early-entry ks k at (G.entity y n) ds l = refl
 
+  -- The entry is the one of its number among the classes.
   abbrev Fills : (ks : List Known) (k at : ℕ) → Text → Type 0
-  Fills ks k at ds = Filled (k + openedIn ds) (declarations ks k at ds) (declarations ks k at (its ds))
+  Fills ks k at ds =
+      (f : Filled (k + openedIn ds) (declarations ks k at ds) (declarations ks k at (its ds)))
+      × (numberOf (after ks (events ds)) x ≡ tally K.CLASS ks + ofGroup K.CLASS (f .first))
 
   fills-here : (ds : Text) (ks : List Known) (k at : ℕ) → troubleIn ks (events (G.class x G.announced ∷ ds)) ≡ none →
       any (awaited x) (after ks (events (G.class x G.announced ∷ ds))) ≡ true → Fills ks k at (G.class x G.announced ∷ ds)
-  unfolding declarations bodyBlock after trouble
+  unfolding declarations bodyBlock after knows trouble
   fills-here ds ks k at c g =
       let s = calm-first ks (announces x) (events ds) c in
       let n : any (named x) ks ≡ false = not-true (any (named x) ks) (wants-nothing No.AGAIN _ (s .0)) in
       let zs : List Known = after ks (announces x ∷ []) in
       let l = class-lasts x G.announced ks n in
       let b = lacking (k + 0) ds (no-body ds zs l (s .1) g) in
-      let to : ℕ = at + length (declare (G.class x G.announced) []) in
-      record {
-        first = [];
-        rest = declarations zs (k + 0) to ds;
-        owner = at;
-        was = rw (n, b .0);
-        is = rw (n, b .1, rest-same ds zs (k + 0) to l)
-            (ap (λ (m : ℕ). owned (R.CLASS m) at ∷ declarations zs (k + 0) to ds) (omega arith));
-      }
+      let to : ℕ = at + length (declare (G.class x G.announced) []) in (
+        record {
+          first = [];
+          rest = declarations zs (k + 0) to ds;
+          owner = at;
+          was = rw (n, b .0);
+          is = rw (n, b .1, rest-same ds zs (k + 0) to l)
+              (ap (λ (m : ℕ). owned (R.CLASS m) at ∷ declarations zs (k + 0) to ds) (omega arith));
+        },
+        omega (arith, number-all x (tally K.CLASS ks) zs (events ds) (number-new x true ks ks n) .1),
+      )
 
   fills-first : (d : Declaration) (ds : Text) (ks : List Known) (k at : ℕ) → announcedBy x d ≡ true →
       troubleIn ks (events (d ∷ ds)) ≡ none → any (awaited x) (after ks (events (d ∷ ds))) ≡ true → Fills ks k at (d ∷ ds)
@@ -719,19 +733,25 @@ module _ (x : Name) where
       go true e i = fills-first d ds ks k at e c g
       go false e i =
           let os : List Owned = map (λ e. owned e at) (entryOf ks k d ds) in
-          let n : k + openedBy d + openedIn ds ≡ k + openedIn (d ∷ ds) = omega arith in
-          let new : List Owned =
-          declarations (after ks (inDeclaration d)) (k + openedBy d) (at + length (declare d [])) (its ds) in
-          subst₂ (λ (m : ℕ) (qs : List Owned). Filled m (declarations ks k at (d ∷ ds)) (qs ++ new)) n
-          (sym (early-entry ks k at d ds e)) (filled-behind os (i (stays-unawaited x d ks e h)))
+          let zs : List Known = after ks (inDeclaration d) in
+          let f = i (stays-unawaited x d ks e h) in
+          let s = calm-split ks (inDeclaration d) (events ds) c in
+          let m = ap (λ (js : List Known). numberOf js x) (after-append ks (inDeclaration d) (events ds)) in
+          let p = over-append (λ o. once K.CLASS (groupOf (o .entry))) os (f .0 .first) in (
+            filled-behind os _ (omega arith) (early-entry ks k at d ds e) (f .0),
+            omega (arith, m, f .1, class-tally ks k at d ds (s .0), p),
+          )
 
   pub grown-body : (ds : Text) → troubleIn [] (events ds) ≡ none → any (awaited x) (knownIn ds) ≡ true →
-      Filled (openedIn ds) (declared ds) (declared (its ds))
+      (f : Filled (openedIn ds) (declared ds) (declared (its ds)))
       × (built (its ds) ≡ built ds ++ (owned R.BLOCK (length (lines ds [])) ∷ []))
+      × (numberOf (knownIn ds) x ≡ ofGroup K.CLASS (f .first))
   unfolding blocks
   grown-body ds c g =
       let e : 0 + openedIn ds ≡ openedIn ds = omega arith in
-      let f : 0 + length (lines ds []) ≡ length (lines ds []) = omega arith in (
-        subst (λ (k : ℕ). Filled k (declared ds) (declared (its ds))) e (fills ds [] 0 0 c refl g),
+      let f : 0 + length (lines ds []) ≡ length (lines ds []) = omega arith in
+      let i = fills ds [] 0 0 c refl g in (
+        filled-behind [] [] e refl (i .0),
         blocks-last [] 0 0 ds itsLine ∙ ap (λ (n : ℕ). built ds ++ (owned R.BLOCK n ∷ [])) f,
+        omega (arith, i .1),
       )

@@ -80,7 +80,7 @@ quiet-none : Quiet []
 unfolding after
 quiet-none ks = refl
 
-quiet-act : {k : G.Kind} (a : G.Act k) → Quiet (inAct a)
+pub quiet-act : {k : G.Kind} (a : G.Act k) → (ks : List Known) → after ks (inAct a) ≡ ks
 quiet-act a = asked-act Quiet quiet-none quiet-asks quiet-append a
 
 -- LASTING: a name that is known, and no local.

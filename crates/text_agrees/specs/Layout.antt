@@ -12,7 +12,7 @@ use borrow.Author.Tests.{eq-eqb, le-leb}
 use Rattle.semantics.specs.Words.{if_then_else_}
 use Rattle.semantics.specs.Kinds as K
 use Rattle.semantics.specs.Record as R
-use Rattle.promises.specs.Laws.{AllOf, all-map, all-split, only, only-add, only-none, once, over-append}
+use Rattle.promises.specs.Laws.{AllOf, all-map, only, only-add, only-none, once, over-append}
 use Rattle.promises.specs.Counted.{groupOf}
 use Rattle.text_semantics.specs.Grammar as G
 use Rattle.text_semantics.specs.Grammar.{Kind, Act}
@@ -29,7 +29,7 @@ use Rattle.text_agrees.specs.Notes.{file-append}
 use Rattle.text_agrees.specs.Notes.{weight-append, Last, later, lasts}
 use Rattle.text_agrees.specs.Accounts.{Counting, Grew, Lays, level, waiting, heading, lastOf, grew-blocks}
 use Rattle.text_agrees.specs.Accounts.{still-counting}
-use Rattle.text_agrees.specs.Laying.{Short, acts-lie, begun, nested}
+use Rattle.text_agrees.specs.Laying.{Short, Fair, Shorts, block-split, acts-lie, begun, nested}
 
 -- WHAT RECORDS SAY OF NOTES: so many blocks, and these actions.
 abbrev Acting : Owned → Type 0
@@ -266,28 +266,34 @@ module _ (s t : Sheet) (qs : List Piece) (k n : ℕ) (ns : List Note) (os : List
       ∙ blocks-same n k (t .pieces ++ qs) (pieces ns) (λ j l h. laid-at j ∙ ap (λ bs. bs ++ bytesIn j ns) (fresh j l))
       ∙ e)
 
--- WHAT IS WRITTEN from s to t, where qs wait in t: these records, behind the blocks that were there, if there was room.
+-- WHAT IS WRITTEN from s to t, where qs wait in t: these records, behind the blocks that were there, if they are kept and there
+-- was room.
 pub record Writes (place : ℕ → ℕ) (s t : Sheet) (qs : List Piece) (os : List Owned) : Type 0 where
   pub counting : Counting t
   pub counts : (g : ℕ) → getD (t .seen) g 0 ≡ getD (s .seen) g 0 + ofGroup g os
   pub total : t .total ≡ added (s .total) (length (fileOf os))
   pub last : s .lastBlock ≤ blocksOf s → (t .lastLine ≡ lastLine place (s .lastLine) os) × (t .lastBlock ≤ blocksOf t)
   pub besides : heading t ≡ heading s
-  pub blocks : t .full ≡ false → Fresh (blocksOf s) (s .pieces)
+  pub blocks : AllOf Short os → t .full ≡ false → Fresh (blocksOf s) (s .pieces)
       → (s .full ≡ false) × Fresh (blocksOf t) (t .pieces ++ qs)
       × (blocksFrom (blocksOf t) 0 (t .pieces ++ qs) ≡ blocksFrom (blocksOf s) 0 (s .pieces) ++ fileOf os)
 
-pub writes-file : (place : ℕ → ℕ) (s t : Sheet) (os : List Owned) → Writes place s t [] os → t .full ≡ false
-    → Fresh (blocksOf s) (s .pieces) → file t ≡ file s ++ fileOf os
+pub writes-file : (place : ℕ → ℕ) (s t : Sheet) (os : List Owned) → Writes place s t [] os → AllOf Short os
+    → t .full ≡ false → Fresh (blocksOf s) (s .pieces) → file t ≡ file s ++ fileOf os
 unfolding file
-writes-file place s t os w f fresh =
+writes-file place s t os w h f fresh =
     ap₂ (λ ds ps. ds ++ blocksFrom (blocksOf t) 0 ps) (ap (λ x. x .declared) (w .besides)) (sym (append-nil (t .pieces)))
-    ∙ ap (λ bs. s .declared ++ bs) (w .blocks f fresh .2)
+    ∙ ap (λ bs. s .declared ++ bs) (w .blocks h f fresh .2)
     ∙ sym (append-assoc (s .declared) (blocksFrom (blocksOf s) 0 (s .pieces)) (fileOf os))
 
--- The records of a body whose block is k; and their notes.
+-- The records of a body whose block is k: so many are blocks; and their notes.
 abbrev pub body : List Known → Act G.actions → ℕ → ℕ → ℕ → List Owned
 body ks a own k at = owned R.BLOCK own ∷ direct ks a (suc k) at ++ inside ks a own (suc k) at
+
+pub body-blocks : (ks : List Known) (a : Act G.actions) (own k at : ℕ) → ofGroup K.BLOCK (body ks a own k at) ≡ suc (opened a)
+body-blocks ks a own k at =
+    let place : ℕ → ℕ = λ n. n in
+    let x = told-one place ks a own own k at (told-inside place ks a own (suc k) at) .counts K.BLOCK in omega arith
 
 abbrev bodyNotes : List Known → Act G.actions → ℕ → ℕ → List Note
 bodyNotes ks a k at = notes k (direct ks a (suc k) at) ++ inner ks a (suc k) at
@@ -296,7 +302,8 @@ module _ (place : ℕ → ℕ) (ks : List Known) (a : Act G.actions) (own at : �
   written : (t : Sheet) (qs : List Piece)
       → Grew place s t (suc (opened a)) (weight (bodyNotes ks a (blocksOf s) at) + 4 * suc (opened a))
       (bodyNotes ks a (blocksOf s) at)
-      → Lays s [] t qs (bodyNotes ks a (blocksOf s) at) → Writes place s t qs (body ks a own (blocksOf s) at)
+      → (AllOf Short (body ks a own (blocksOf s) at) → Lays s [] t qs (bodyNotes ks a (blocksOf s) at))
+      → Writes place s t qs (body ks a own (blocksOf s) at)
   written t qs g l =
       let k : ℕ = blocksOf s in
       let n : ℕ = suc (opened a) in
@@ -318,32 +325,35 @@ module _ (place : ℕ → ℕ) (ks : List Known) (a : Act G.actions) (own at : �
             let w = u .1 in
             (ap (λ (l : Last). l .1) (g .last) ∙ u .0 ∙ sym (told .line (s .lastLine)), omega arith);
         besides = g .besides;
-        blocks = λ f fresh. (
-          l .came f .0,
-          rw e (still-fresh s t qs k n all (body ks a own k at) l f fresh i),
-          rw e (laid-out s t qs k n all (body ks a own k at) l f fresh i
+        blocks = λ h f fresh. (
+          l h .came f .0,
+          rw e (still-fresh s t qs k n all (body ks a own k at) (l h) f fresh i),
+          rw e (laid-out s t qs k n all (body ks a own k at) (l h) f fresh i
               (out-inside k (opened a) own os (inside ks a own (suc k) at) ns (inner-in ks a (suc k) at)
               (inside-out ks a own (suc k) at))),
         );
       }
 
+  pub kept-in : AllOf Short (body ks a own (blocksOf s) at) → Shorts place ks G.actions a own (suc (blocksOf s)) at
+  kept-in h = block-split Short own (direct ks a (suc (blocksOf s)) at) (inside ks a own (suc (blocksOf s)) at) h
+
   -- A BODY, from the brace that opens its block to the one that closes it.
-  pub body-writes : (p : ℕ) → p ≡ at → AllOf Short (body ks a own (blocksOf s) at)
+  pub body-writes : (p : ℕ) → p ≡ at → AllOf Fair (body ks a own (blocksOf s) at)
       → Writes place s (closed (sheeted place ks a p (braces s))) [] (body ks a own (blocksOf s) at)
       × (closed (sheeted place ks a p (braces s)) .levels ≡ s .levels)
   body-writes p e h =
       let k : ℕ = blocksOf s in
-      let js = all-split Short (owned R.BLOCK own ∷ direct ks a (suc k) at) (inside ks a own (suc k) at) h in
-      let y = nested place ks a (acts-lie place ks a) p at own k s e c refl (js .0 .1) (js .1) in
-      (written (closed (sheeted place ks a p (braces s))) [] (y .grew) (y .lays), y .levels)
+      let js = block-split Fair own (direct ks a (suc k) at) (inside ks a own (suc k) at) h in
+      let y = nested place ks a (acts-lie place ks a) p at own k s e c refl (js .0) (js .1) in
+      (written (closed (sheeted place ks a p (braces s))) [] (y .grew) (λ i. y .lays (kept-in i)), y .levels)
 
   -- .. and where its block is still open: a TRY may wait in it.
-  pub begun-writes : (p : ℕ) → p ≡ at → AllOf Short (body ks a own (blocksOf s) at)
+  pub begun-writes : (p : ℕ) → p ≡ at → AllOf Fair (body ks a own (blocksOf s) at)
       → (now : Option Kept)
       × Writes place s (sheeted place ks a p (braces s)) (waiting (blocksOf s) now) (body ks a own (blocksOf s) at)
       × (sheeted place ks a p (braces s) .levels ≡ level (blocksOf s) now ∷ s .levels)
   begun-writes p e h =
       let k : ℕ = blocksOf s in
-      let js = all-split Short (owned R.BLOCK own ∷ direct ks a (suc k) at) (inside ks a own (suc k) at) h in
-      let y = begun place ks a (acts-lie place ks a) p at own k s e c refl (js .0 .1) (js .1) in
-      (y .now, written (sheeted place ks a p (braces s)) (waiting k (y .now)) (y .grew) (y .lays), y .levels)
+      let js = block-split Fair own (direct ks a (suc k) at) (inside ks a own (suc k) at) h in
+      let y = begun place ks a (acts-lie place ks a) p at own k s e c refl (js .0) (js .1) in
+      (y .now, written (sheeted place ks a p (braces s)) (waiting k (y .now)) (y .grew) (λ i. y .lays (kept-in i)), y .levels)

@@ -33,5 +33,6 @@ pub mod Whole
 pub mod Closing
 pub mod Goodness
 pub mod Lasting
+pub mod Numbering
 pub mod Growing
 pub mod Grown

@@ -30,10 +30,11 @@ use Rattle.text_machine.specs.Sheet as S
 use Rattle.text_machine.specs.Sheet.{Sheet, blocksOf, headed, classBytes, DECLARED, withTotal, withFirst, declaring, classed}
 use Rattle.text_agrees.specs.Notes.{file-append}
 use Rattle.text_agrees.specs.Accounts.{Counting, heading}
-use Rattle.text_agrees.specs.Laying.{Short}
+use Rattle.text_agrees.specs.Laying.{Short, shorts-fair}
 use Rattle.text_agrees.specs.Events.{Fewer, fewer-split, after-append}
-use Rattle.text_agrees.specs.Declared.{remembered, firstAt, declared, declaredAll, quiet-act}
-use Rattle.text_agrees.specs.Lines.{all-known, in-body, calm-first, calm-split, wants-nothing}
+use Rattle.text_agrees.specs.Declared.{remembered, firstAt, declared, declaredAll}
+use Rattle.text_agrees.specs.Lasting.{quiet-act}
+use Rattle.text_agrees.specs.Lines.{in-body, calm-first, calm-split, wants-nothing}
 use Rattle.text_agrees.specs.Adding.{entries, one-adds, by-body, one-on, all-adds}
 use Rattle.text_agrees.specs.Slots.{Slot, plain, has, lacks, nowOf, nows, thens, places, classKnown, knownIn, fill}
 use Rattle.text_agrees.specs.Slots.{same-self, same-turned, nows-append, thens-append, places-append, known-append}
@@ -164,18 +165,14 @@ leaves-still (k ∷ ks) = go (aClass k) (stays k) refl refl (leaves-still ks)
     go false true p q e = rw p e
     go false false p q e = e
 
-body-still : (x : Name) (l : Locals) (b : G.Act G.actions) (ks : List Known) → Fewer ks (inDeclaration (G.class x (G.body l b)))
+pub body-still : (x : Name) (l : Locals) (b : G.Act G.actions) (ks : List Known)
     → keep aClass (after ks (inDeclaration (G.class x (G.body l b)))) ≡ keep aClass (knows ks (embodies x))
 unfolding after knows
-body-still x l b ks r =
+body-still x l b ks =
     let zs : List Known = knows ks (embodies x) in
-    let ys : List Known = after zs (inLocals l) in
-    let f = fewer-split zs (inLocals l ++ inAct b) (leaves ∷ []) (r .1) in
-    let g = fewer-split zs (inLocals l) (inAct b) (f .0) in
-    let q : after ys (inAct b) ≡ ys = sym (all-known ys (inAct b) (g .1)) ∙ quiet-act b ys in
     ap (keep aClass) (after-append zs (inLocals l ++ inAct b) (leaves ∷ []))
     ∙ leaves-still (after zs (inLocals l ++ inAct b))
-    ∙ ap (keep aClass) (after-append zs (inLocals l) (inAct b) ∙ q)
+    ∙ ap (keep aClass) (after-append zs (inLocals l) (inAct b) ∙ quiet-act b (after zs (inLocals l)))
     ∙ locals-still l zs
 
 keep-bodied : (x : Name) (ks : List Known) → keep aClass (map (N.bodied x) ks) ≡ map (N.bodied x) (keep aClass ks)
@@ -342,7 +339,7 @@ module _ (place : ℕ → ℕ) (ks : List Known) (k at : ℕ) (s : Sheet) (ts : 
   body-on x l b true n m r f =
       let d : Declaration = G.class x (G.body l b) in
       let aw : any (awaited x) ks ≡ true = asked (any (awaited x) ks) (any (named x) ks) n (wants-nothing No.AGAIN _ m) in
-      let i = body-still x l b ks r
+      let i = body-still x l b ks
       ∙ ap (λ w. keep aClass (if w then map (N.bodied x) ks else N.oneMore ks K.CLASS x false)) n in (
         fill x (blocksOf u) ss,
         held-body ks (after ks (inDeclaration d)) ss x (blocksOf u) u (held-first (place at) ks ss s held) tidy aw
@@ -356,7 +353,7 @@ module _ (place : ℕ → ℕ) (ks : List Known) (k at : ℕ) (s : Sheet) (ts : 
       asked false q i j = sym (not-true q j) ∙ i
   body-on x l b false n m r f =
       let d : Declaration = G.class x (G.body l b) in
-      let i = body-still x l b ks r
+      let i = body-still x l b ks
       ∙ ap (λ w. keep aClass (if w then map (N.bodied x) ks else N.oneMore ks K.CLASS x false)) n in
       let j : any (named x) (knownIn 0 ss) ≡ false =
       subst (λ ys. any (named x) ys ≡ false) (held .names) (any-keep (named x) aClass ks n) in
@@ -395,9 +392,10 @@ module _ (place : ℕ → ℕ) (ks : List Known) (k at : ℕ) (s : Sheet) (ts : 
   held-on (G.class x (G.body l b)) m r h f =
       let w : Bool = any (named x) ks in
       let y = by-body place ks k at s ts c e x l b 0 w (after ks (embodies x ∷ inLocals l))
-      (remembered ks (embodies x ∷ inLocals l)) (in-body ks x l b r) h .1 in
+      (remembered ks (embodies x ∷ inLocals l)) (in-body ks x l b r)
+      (shorts-fair (W.blocksOf ks k at (G.class x (G.body l b))) h) .1 in
       step-as (G.class x (G.body l b)) (bodiedBy x w) _ (entries place ks k at (G.class x (G.body l b)) ts) (y .0)
-      (body-on x l b w refl (calm-first ks (embodies x) (inLocals l ++ inAct b ++ (leaves ∷ [])) m .0) r (y .1 f))
+      (body-on x l b w refl (calm-first ks (embodies x) (inLocals l ++ inAct b ++ (leaves ∷ [])) m .0) r (y .1 h f))
   held-on (G.entity x n) m r h f =
       plain-on (G.entity x n) _ (R.ENTITY (record { class = numberOf ks x; offset = n .value })) refl (λ y. refl) refl f
 
@@ -415,12 +413,13 @@ all-held place (d ∷ ts) ks k at s ss c e t h m r x f =
     let v = calm-split ks es (events ts) m in
     let y = fewer-split ks es (events ts) r in
     let i = all-split Short (W.blocksOf ks k at d) (blocks zs (k + openedBy d) q ts) x in
-    let a = one-adds place ks k at s ts c e d (v .0) (y .0) (i .0) in
+    let a = one-adds place ks k at s ts c e d (v .0) (y .0) (shorts-fair (W.blocksOf ks k at d) (i .0)) in
     let u : Sheet = declared place ks d at s in
     let o = one-on place d ts ks at s (y .0) in
-    let b = all-adds place ts zs (k + openedBy d) q u (a .0 .counting) (a .2) (v .1) (y .1) (i .1) in
+    let b = all-adds place ts zs (k + openedBy d) q u (a .0 .counting) (a .2) (v .1) (y .1)
+    (shorts-fair (blocks zs (k + openedBy d) q ts) (i .1)) in
     let g : declaredAll place zs ts q u .full ≡ false = sym (ap (λ w. w .full) o) ∙ f in
-    let n = held-on place ks k at s ts ss c e t h d (v .0) (y .0) (i .0) (b .0 .room g .0) in
+    let n = held-on place ks k at s ts ss c e t h d (v .0) (y .0) (i .0) (b .0 .room (i .1) g .0) in
     let l = all-held place ts zs (k + openedBy d) q u (n .0) (a .0 .counting) (a .2) (tidy-all ks es (v .0) t) (n .1)
     (v .1) (y .1) (i .1) g in
     let os : List Owned = entries place ks k at d ts in

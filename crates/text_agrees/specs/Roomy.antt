@@ -179,7 +179,7 @@ two-blocks linesS = two-tested (rows linesS) refl
 two-blocks bodyS = two-tested (rows bodyS) refl
 two-blocks textS = two-tested (rows textS) refl
 
-blocks-append : (ss zs : List Symbol) → blocks (ss ++ zs) ≡ blocks ss + blocks zs
+pub blocks-append : (ss zs : List Symbol) → blocks (ss ++ zs) ≡ blocks ss + blocks zs
 blocks-append [] zs = omega arith
 blocks-append (s ∷ ss) zs = omega (arith, blocks-append ss zs)
 

@@ -43,7 +43,7 @@ tally-more v w x b ks =
     let k : Known = record { name = x; what = w; number = tally w ks; lacks = b } in
     omega (arith, tally-append v ks (k ∷ []), tally-cons v k [])
 
-tally-bodied : (w : ℕ) (x : Name) (ks : List Known) → tally w (map (bodied x) ks) ≡ tally w ks
+pub tally-bodied : (w : ℕ) (x : Name) (ks : List Known) → tally w (map (bodied x) ks) ≡ tally w ks
 tally-bodied w x [] = refl
 tally-bodied w x (k ∷ ks) =
     omega (arith, tally-cons w k ks, tally-cons w (bodied x k) (map (bodied x) ks), tally-bodied w x ks)

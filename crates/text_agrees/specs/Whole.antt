@@ -30,7 +30,7 @@ use Rattle.text_promises.specs.Says.{is-block}
 use Rattle.text_promises.specs.Fitting.{records-declare, records-block}
 use Rattle.text_agrees.specs.Notes.{file-append}
 use Rattle.text_agrees.specs.Accounts.{Counting}
-use Rattle.text_agrees.specs.Laying.{Short}
+use Rattle.text_agrees.specs.Laying.{Short, Fair, shorts-fair}
 use Rattle.text_agrees.specs.Layout.{lastLine, last-append}
 use Rattle.text_agrees.specs.Events.{Fewer, fewer-split}
 use Rattle.text_agrees.specs.Declared.{declared, declaredAll}
@@ -38,7 +38,17 @@ use Rattle.text_agrees.specs.Lines.{calm-split}
 use Rattle.text_agrees.specs.Adding.{Adds, isClass, classLines, lines-append, one-adds, one-on, all-adds}
 use Rattle.text_agrees.specs.Patches.{all-held}
 
--- WHAT A TEXT WRITES on a sheet z: its file if nothing lacked room, and the lines of its classes if they aren't too many.
+-- WHAT A TEXT COUNTS on a sheet z, and the lines of its classes if they aren't too many.
+pub record TextCounts (place : ℕ → ℕ) (t : Text) (z : Sheet) : Type 0 where
+  pub counts : (g : ℕ) → getD (z .seen) g 0 ≡ ofGroup g (records t)
+  pub total : z .total ≡ added 0 (length (fileOf (records t)))
+  pub first : (o : Owned) (os : List Owned) → records t ≡ o ∷ os → z .first ≡ place (o .owner)
+  pub last : z .lastLine ≡ lastLine place 0 (records t)
+  pub classes : ofGroup K.CLASS (records t) ≤ F.mostClasses
+      → (z .classLine ≡ classLines place (records t)) × (length (z .classAt) ≡ ofGroup K.CLASS (records t))
+  pub levels : z .levels ≡ []
+
+-- WHAT IT WRITES: its file, too, if nothing lacked room.
 pub record TextWrites (place : ℕ → ℕ) (t : Text) (z : Sheet) : Type 0 where
   pub counts : (g : ℕ) → getD (z .seen) g 0 ≡ ofGroup g (records t)
   pub total : z .total ≡ added 0 (length (fileOf (records t)))
@@ -75,7 +85,7 @@ none-of (o ∷ os) h =
     let a = once-apart K.CLASS (groupOf (o .entry)) (eqb-false K.CLASS (groupOf (o .entry)) (no-class o (h .0))) in
     let b = none-of os (h .1) in omega arith
 
-in-blocks : (os : List Owned) → Blocks os → AllOf (λ o. J.declares (o .entry) ≡ false) os
+pub in-blocks : (os : List Owned) → Blocks os → AllOf (λ o. J.declares (o .entry) ≡ false) os
 in-blocks [] h = tt
 in-blocks (o ∷ os) h = (is-block (o .entry) (h .0) .1, h .1)
 
@@ -96,7 +106,7 @@ none-seen : (g : ℕ) → getD noneSeen g 0 ≡ 0
 none-seen g = all-get (λ n. n ≡ 0) noneSeen g 0 (all-replicate (λ n. n ≡ 0) K.groups 0 refl) refl
 
 -- It is told where the length is too much.
-told-first : (place : ℕ → ℕ) (t : Text) → troubleIn [] (events t) ≡ none → Fewer [] (events t) → AllOf Short (blocks [] 0 0 t)
+told-first : (place : ℕ → ℕ) (t : Text) → troubleIn [] (events t) ≡ none → Fewer [] (events t) → AllOf Fair (blocks [] 0 0 t)
     → (o : Owned) (os : List Owned) → records t ≡ o ∷ os → declaredAll place [] t 0 blank .first ≡ place (o .owner)
 unfolding records declarations blocks
 told-first place [] m r h o os e = let z : _≡_ {A = ℕ} 0 1 = cc in absurd (omega arith)
@@ -105,7 +115,7 @@ told-first place (d ∷ ts) m r h o os e =
     let y = fewer-split [] (inDeclaration d) (events ts) r in
     let q : ℕ = 0 + length (declare d []) in
     let ks : List Known = after [] (inDeclaration d) in
-    let i = all-split Short (W.blocksOf [] 0 0 d) (blocks ks (0 + openedBy d) q ts) h in
+    let i = all-split Fair (W.blocksOf [] 0 0 d) (blocks ks (0 + openedBy d) q ts) h in
     let a = one-adds place [] 0 0 blank ts nothing-counted refl d (x .0) (y .0) (i .0) in
     let v : Sheet = declared place [] d 0 blank in
     let b = all-adds place ts ks (0 + openedBy d) q v (a .0 .counting) (a .2) (x .1) (y .1) (i .1) in
@@ -123,8 +133,7 @@ told-first place (d ∷ ts) m r h o os e =
     headOwner [] = 0
     headOwner (o ∷ os) = o .owner
 
-module _ (place : ℕ → ℕ) (t : Text) (calm : troubleIn [] (events t) ≡ none) (room : Fewer [] (events t))
-    (short : AllOf Short (records t)) where
+module _ (place : ℕ → ℕ) (t : Text) (calm : troubleIn [] (events t) ≡ none) (room : Fewer [] (events t)) where
   abbrev z : Sheet
   z = declaredAll place [] t 0 blank
 
@@ -134,24 +143,6 @@ module _ (place : ℕ → ℕ) (t : Text) (calm : troubleIn [] (events t) ≡ no
   abbrev bs : List Owned
   bs = blocks [] 0 0 t
 
-  short-blocks : AllOf Short bs
-  unfolding records
-  short-blocks = all-split Short ds bs short .1
-
-  adds : Adds place blank z ds bs
-  adds = all-adds place t [] 0 0 blank nothing-counted refl calm room short-blocks .0
-
-  text-laid : z .full ≡ false → file z ≡ fileOf (records t)
-  unfolding file blocksFrom records
-  text-laid f =
-      let a = all-held place t [] 0 0 blank [] nothing-counted refl (tt, tt)
-      (record { names = refl; bytes = refl; spots = refl }) calm room short-blocks f in
-      let b = adds .blocks f (λ j l. refl) .1 in
-      ap₂ (λ x y. x ++ y) a b ∙ sym (file-append ds bs)
-
-  text-first : (o : Owned) (os : List Owned) → records t ≡ o ∷ os → z .first ≡ place (o .owner)
-  text-first = told-first place t calm room short-blocks
-
   of-group : (g : ℕ) → ofGroup g (records t) ≡ ofGroup g ds + ofGroup g bs
   unfolding records
   of-group g = over-append (λ o. once g (groupOf (o .entry))) ds bs
@@ -159,28 +150,66 @@ module _ (place : ℕ → ℕ) (t : Text) (calm : troubleIn [] (events t) ≡ no
   classes-declared : ofGroup K.CLASS (records t) ≡ ofGroup K.CLASS ds
   classes-declared = let a = of-group K.CLASS in let b = none-of bs (in-blocks bs (records-block t)) in omega arith
 
-  pub text-writes : TextWrites place t z
-  unfolding records
-  text-writes =
-      record {
-        counts = λ g. let a = adds .counts g in let b = none-seen g in let c = of-group g in omega arith;
-        total =
-            let a = adds .total in
-            let b = ap length (file-append ds bs) ∙ length-append (fileOf ds) (fileOf bs) in omega arith;
-        laid = text-laid;
-        first = text-first;
-        last =
-            adds .last (omega arith) .0
-            ∙ ap (λ p. lastLine place p bs) (sym (idle place 0 ds (records-declare t))) ∙ sym (last-append place 0 ds bs);
-        few = λ f. let a = adds .room f .1 (omega arith) in let b = classes-declared in omega arith;
-        classes = λ h.
-            let b = classes-declared in
-            let a = adds .classes (omega arith) in
-            let n = a .1 in (
-              a .0 ∙ sym (append-nil (classLines place ds))
-                  ∙ ap (λ ns. classLines place ds ++ ns) (sym (no-classes place bs (in-blocks bs (records-block t))))
-                  ∙ sym (lines-append place ds bs),
-              omega arith,
-            );
-        levels = adds .levels;
-      }
+  -- Where every TRY is kept but for its last branch.
+  module _ (fair : AllOf Fair (records t)) where
+    fair-blocks : AllOf Fair bs
+    unfolding records
+    fair-blocks = all-split Fair ds bs fair .1
+
+    adds : Adds place blank z ds bs
+    adds = all-adds place t [] 0 0 blank nothing-counted refl calm room fair-blocks .0
+
+    pub text-counts : TextCounts place t z
+    unfolding records
+    text-counts =
+        record {
+          counts = λ g. let a = adds .counts g in let b = none-seen g in let c = of-group g in omega arith;
+          total =
+              let a = adds .total in
+              let b = ap length (file-append ds bs) ∙ length-append (fileOf ds) (fileOf bs) in omega arith;
+          first = told-first place t calm room fair-blocks;
+          last =
+              adds .last (omega arith) .0
+              ∙ ap (λ p. lastLine place p bs) (sym (idle place 0 ds (records-declare t))) ∙ sym (last-append place 0 ds bs);
+          classes = λ h.
+              let b = classes-declared in
+              let a = adds .classes (omega arith) in
+              let n = a .1 in (
+                a .0 ∙ sym (append-nil (classLines place ds))
+                    ∙ ap (λ ns. classLines place ds ++ ns) (sym (no-classes place bs (in-blocks bs (records-block t))))
+                    ∙ sym (lines-append place ds bs),
+                omega arith,
+              );
+          levels = adds .levels;
+        }
+
+  -- Where all records are kept.
+  module _ (short : AllOf Short (records t)) where
+    short-blocks : AllOf Short bs
+    unfolding records
+    short-blocks = all-split Short ds bs short .1
+
+    abbrev fair : AllOf Fair (records t)
+    fair = shorts-fair (records t) short
+
+    text-laid : z .full ≡ false → file z ≡ fileOf (records t)
+    unfolding file blocksFrom records
+    text-laid f =
+        let a = all-held place t [] 0 0 blank [] nothing-counted refl (tt, tt)
+        (record { names = refl; bytes = refl; spots = refl }) calm room short-blocks f in
+        let b = adds fair .blocks short-blocks f (λ j l. refl) .1 in
+        ap₂ (λ x y. x ++ y) a b ∙ sym (file-append ds bs)
+
+    pub text-writes : TextWrites place t z
+    text-writes =
+        let c = text-counts fair in
+        record {
+          counts = c .counts;
+          total = c .total;
+          laid = text-laid;
+          first = c .first;
+          last = c .last;
+          few = λ f. let a = adds fair .room short-blocks f .1 (omega arith) in let b = classes-declared in omega arith;
+          classes = c .classes;
+          levels = c .levels;
+        }

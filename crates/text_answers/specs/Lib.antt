@@ -12,3 +12,6 @@ pub mod Lacking
 pub mod Decoded
 pub mod Ending
 pub mod Machines
+pub mod Tallying
+pub mod Classing
+pub mod Opening
