@@ -412,7 +412,7 @@ pub record LastLine (t : Text) : Type 0 where
 one-heard : {l : List (List Token)} (j n : ℕ) → l ≡ braces j (closers n) ∷ heard (closers n) → l ≡ closers (j + n) ∷ []
 one-heard j n e = e ∙ ap₂ (λ xs ys. xs ∷ ys) (braces-more j n) (closers-heard n)
 
-by-line : (ds : Text) {d : Declaration} {j : ℕ} → Line d j → LastLine (ds ++ (d ∷ []))
+unfoldable by-line : (ds : Text) {d : Declaration} {j : ℕ} → Line d j → LastLine (ds ++ (d ∷ []))
 unfolding closers
 by-line ds {d} {j} i =
     record {
@@ -427,7 +427,7 @@ by-line ds {d} {j} i =
       cut = one-heard j 0 (line-heard i (closers 0));
     }
 
-by-locals : (ds : Text) (y x : Name) (xs : Few No.moreLocals) → LastLine (ending ds y (G.locals x xs) G.noActions)
+unfoldable by-locals : (ds : Text) (y x : Name) (xs : Few No.moreLocals) → LastLine (ending ds y (G.locals x xs) G.noActions)
 unfolding closers
 by-locals ds y x xs =
     let f : List Token → List Token = λ r. lines ds (mark Tk.CLASS ∷ Tk.name y ∷ mark Tk.LB ∷ r) in
@@ -444,7 +444,7 @@ by-locals ds y x xs =
       cut = clean-few xs (mark Tk.SEMI ∷ closers 1) ∙ refl;
     }
 
-by-put : (ds : Text) (y : Name) (l : Locals) {x : New} {n : ℕ} {a b : Act G.actions} → Put G.actions x n a b →
+abbrev by-put : (ds : Text) (y : Name) (l : Locals) {x : New} {n : ℕ} {a b : Act G.actions} → Put G.actions x n a b →
     LastLine (ending ds y l b)
 by-put ds y l {x = x} {n = n} {a = a} p =
     let e = within-spelled ds y l p in
@@ -592,6 +592,30 @@ closers-long : (n : ℕ) → length (closers n) ≡ suc n
 unfolding closers
 closers-long zero = omega arith
 closers-long (suc n) = omega (arith, closers-long n)
+
+-- So many braces are open behind a line.
+abbrev pub opensBy : {old new : Text} → Grows old new → ℕ
+opensBy (declared ds {j = j} i) = j
+opensBy (local ds y x xs) = 1
+opensBy (within ds y l {x = x} {n = n} p) = suc n + opens x
+
+its-line : {old new : Text} (g : Grows old new) → (l : LastLine new) × (l .now ≡ opensBy g)
+unfolding by-line by-locals
+its-line (declared ds {j = j} i) = let e : j + 0 ≡ j = omega arith in (by-line ds i, e)
+its-line (local ds y x xs) = (by-locals ds y x xs, refl)
+its-line (within ds y l {x = x} {n = n} p) = let e : opens x + suc n ≡ suc n + opens x = omega arith in (by-put ds y l p, e)
+
+pub grows-open : {old new : Text} (g : Grows old new) (us : List Token) (c : Token) → isCut c ≡ true → (m : ℕ) →
+    spellText new [] ≡ (us ++ (c ∷ [])) ++ closers m → m ≡ opensBy g
+grows-open g us c h m e =
+    let l = its-line g in
+    let o : heard (c ∷ closers m) ≡ closers m ∷ [] = rw h (ap (λ ys. closers m ∷ ys) (closers-heard m)) in
+    let f : us ++ (c ∷ closers m) ≡ l .0 .head ++ l .0 .line =
+    sym (append-assoc us (c ∷ []) (closers m)) ∙ sym e ∙ l .0 .spelled in
+    let n : closers m ≡ closers (l .0 .now) =
+    sym (last-heard us (c ∷ closers m) [] o) ∙ ap (λ ys. lastOf [] (heard ys)) f
+    ∙ last-heard (l .0 .head) (l .0 .line) [] (l .0 .cut) in
+    omega (arith, ap length n, closers-long m, closers-long (l .0 .now), l .1)
 
 only-braces : (xs : List Token) (n m : ℕ) → xs ++ closers n ≡ closers m → (i : ℕ) × (m ≡ i + n) × (xs ≡ braces i [])
 unfolding closers

@@ -38,7 +38,7 @@ use Rattle.text_promises.specs.Fitting.{InBlock, direct-fits, inside-fits, Bloc
 use Rattle.text_promises.specs.Fitting.{records-block}
 use Rattle.text_agrees.specs.Growing as N
 use Rattle.text_agrees.specs.Growing.{Fresh, New, Put, inDo, inWhile, inTry, inBranches, newBranch, inBranch, moreBranches}
-use Rattle.text_agrees.specs.Growing.{newAction, inLast, further, Line, ending, Grows, declared as aLine, local, within}
+use Rattle.text_agrees.specs.Growing.{newAction, inLast, further, Line, ending, Grows, declared as aLine, local, within, opensBy}
 use Rattle.text_agrees.specs.Lines.{calm-first, calm-split, wants-nothing}
 use Rattle.text_agrees.specs.Laying.{collect-append}
 use Rattle.text_agrees.specs.Grown.{AtBlock, inside-block, openedIn, declared, built, knownIn, grown-body, grown-class}
@@ -712,12 +712,7 @@ line-flat (N.announced x) = (omega arith, λ y l b e. cc)
 line-flat (N.entity x n) = (omega arith, λ y l b e. cc)
 line-flat (N.class x) = (omega arith, λ y l b e. ap nesting (sym (same-body x y G.noLocals l G.noActions b e)))
 
--- WHAT A LINE DOES: so many braces are open behind it.
-abbrev pub opensBy : {old new : Text} → Grows old new → ℕ
-opensBy (aLine ds {j = j} i) = j
-opensBy (local ds y x xs) = 1
-opensBy (within ds y l {x = x} {n = n} p) = suc n + N.opens x
-
+-- WHAT A LINE DOES.
 within-nests : (ds : Text) (y : Name) (l : Locals) {x : New} {n : ℕ} {a b : Act G.actions} (p : Put G.actions x n a b) →
     troubleIn [] (events (ending ds y l b)) ≡ none → Roomy (ending ds y l b) → Shallow (ending ds y l a) →
     (suc (nesting a) ≤ F.deepest) × (suc (nesting b) ≡ max (suc (nesting a)) (suc n + N.opens x))
