@@ -395,11 +395,11 @@ module _ (place : ℕ → ℕ) (ts : List Placed) (old new : List Owned) (j : Jo
         third-is = so-far-passing new short new-passes
 
   -- THE ANSWER, where the model is as deep as the blocks that are open, and there is room for what passes.
-  module _ (shallow : ofGroup K.BLOCK new ≤ F.mostBlocks → length (z .levels) ≤ F.deepest → Shallow m new)
-      (deep : ofGroup K.BLOCK new ≤ F.mostBlocks → F.deepest < length (z .levels)
+  module _ (shallow : Passing noneSeen new → length (z .levels) ≤ F.deepest → Shallow m new)
+      (deep : Passing noneSeen new → F.deepest < length (z .levels)
       → (xs : List Owned) × (c : Owned) × (ys : List Owned) × (new ≡ xs ++ (c ∷ ys)) × Shallow m xs
       × (tooDeep m (c .entry) ≡ true) × (getD (z .classLine) (z .current) 0 ≡ place (c .owner)))
-      (free : length (fileOf new) ≤ F.longestFile → Passing noneSeen new → z .full ≡ false) where
+      (free : f ≡ false → length (fileOf new) ≤ F.longestFile → Passing noneSeen new → z .full ≡ false) where
     -- What the machine looks at last: the depth and the room; and before these, actions and blocks.
     abbrev byDepth : Option ℕ
     byDepth =
@@ -421,13 +421,14 @@ module _ (place : ℕ → ℕ) (ts : List Placed) (old new : List Owned) (j : Jo
       then-depth : ofGroup K.ACTION new ≤ F.mostActions → ofGroup K.BLOCK new ≤ F.mostBlocks → Says byDepth
       then-depth a b =
           let e = third-is short right fewClasses a b in
+          let p = new-passes short right fewClasses a b in
           if-has Says (ltb F.deepest (length (z .levels)))
           (λ h.
-          let x = deep b (ltb-true F.deepest (length (z .levels)) h) in
+          let x = deep p (ltb-true F.deepest (length (z .levels)) h) in
           told-deep place ts new places _ (x .0) (x .1) (x .2) (x .3) (x .6) m e (x .4) (x .5))
           (λ h.
-          if-has Says (z .full) (λ k. no-way (sym (free short (new-passes short right fewClasses a b)) ∙ k))
-          (λ k y. rw (e, third-passes m 0 new (shallow b (ltb-false F.deepest (length (z .levels)) h)))))
+          if-has Says (z .full) (λ k. no-way (sym (free right short p) ∙ k))
+          (λ k y. rw (e, third-passes m 0 new (shallow p (ltb-false F.deepest (length (z .levels)) h)))))
 
       then-counts : Says byCounts
       then-counts =

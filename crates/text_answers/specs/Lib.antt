@@ -15,3 +15,4 @@ pub mod Machines
 pub mod Tallying
 pub mod Classing
 pub mod Opening
+pub mod Agreeing
