@@ -285,7 +285,7 @@ ends G.noActions = noAction
 ends (G.follow a b) = end-follow (ends a) (ends b)
 
 -- CUTS: what is behind each.
-abbrev heard : List Token → List (List Token)
+abbrev pub heard : List Token → List (List Token)
 heard [] = []
 heard (t ∷ ts) = if isCut t then ts ∷ heard ts else heard ts
 
@@ -475,11 +475,11 @@ by-last ds (G.class x G.announced) = by-line ds (announced x)
 by-last ds (G.class x (G.body l b)) = by-class ds x l (ends b)
 by-last ds (G.entity x n) = by-line ds (entity x n)
 
-data Snoc : Text → Type 0 where
+pub data Snoc : Text → Type 0 where
   none-there : Snoc []
   one-last : (ds : Text) (d : Declaration) → Snoc (ds ++ (d ∷ []))
 
-snoc : (t : Text) → Snoc t
+pub snoc : (t : Text) → Snoc t
 snoc [] = none-there
 snoc (d ∷ ds) = go (snoc ds)
   where

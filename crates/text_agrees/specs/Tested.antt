@@ -146,7 +146,7 @@ module _ (place : ℕ → ℕ) where
   unfolding story happens
   body-story n ss r = (_, refl)
 
-  waits : (t : Text) (ts : List Token) → spellText t [] ≡ ts ++ rest (pileOf ts) → waiting (pileOf ts) ≡ 1 →
+  pub waits : (t : Text) (ts : List Token) → spellText t [] ≡ ts ++ rest (pileOf ts) → waiting (pileOf ts) ≡ 1 →
       (fs : List Event) × (events t ≡ storyOf ts ++ embodies (readerOf ts .called) ∷ fs)
   waits t ts e w =
       let b = waiting-body (pileOf ts) w in
@@ -166,7 +166,7 @@ module _ (place : ℕ → ℕ) where
     ahead : spellText x [] ≡ ts ++ t ∷ us
     ahead = e ∙ append-assoc ts (t ∷ []) us
 
-    fits-here : fitsIn (step s t) ≡ true
+    pub fits-here : fitsIn (step s t) ≡ true
     fits-here =
         fits-first t s ss
         (subst (λ (zs : List Symbol). fits (t ∷ []) zs ≡ true) p
@@ -185,7 +185,7 @@ module _ (place : ℕ → ℕ) where
     story-on n = (_, refl)
 
     -- Its events come next in the tree,
-    events-here : (fs : List Event) × (events x ≡ storyOf ts ++ (happens r s t ++ fs))
+    pub events-here : (fs : List Event) × (events x ≡ storyOf ts ++ (happens r s t ++ fs))
     events-here =
         let m = story-on (length ts) in (
           m .0,
@@ -254,7 +254,7 @@ module _ (place : ℕ → ℕ) where
             absurd (omega arith)
 
 -- TOKENS AT THEIR PLACES: how many names there are, and where the last one stands.
-names-length : (ts : List Placed) → length (namesOf ts) ≡ namesIn (kinds ts)
+pub names-length : (ts : List Placed) → length (namesOf ts) ≡ namesIn (kinds ts)
 names-length [] = refl
 names-length (k ∷ ts) = go (k .token) (names-length ts)
   where

@@ -16,3 +16,5 @@ pub mod Tallying
 pub mod Classing
 pub mod Opening
 pub mod Agreeing
+pub mod Shrinking
+pub mod Taking

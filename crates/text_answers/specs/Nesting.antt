@@ -484,7 +484,7 @@ events-append [] es = refl
 events-append (d ∷ ds) es =
     ap (λ xs. inDeclaration d ++ xs) (events-append ds es) ∙ sym (append-assoc (inDeclaration d) (events ds) (events es))
 
-calm-body : {t : Text} → troubleIn [] (events t) ≡ none → (o : Body t) → Calm (o .ds) (o .y)
+pub calm-body : {t : Text} → troubleIn [] (events t) ≡ none → (o : Body t) → Calm (o .ds) (o .y)
 calm-body {t} c o =
     let e = ap events (o .is) ∙ events-append (o .ds) (G.class (o .y) (G.body (o .l) (o .b)) ∷ o .es) in
     let s = calm-split [] (events (o .ds)) _ (subst (λ xs. troubleIn [] xs ≡ none) e c) in
@@ -541,7 +541,7 @@ first-deep m (o ∷ os) = go (tooDeep m (o .entry)) refl (first-deep m os)
     go false e (inr p) = inr (o ∷ p .0, p .1, p .2, ap (λ zs. o ∷ zs) (p .3), (e, p .4), p .5)
 
 -- Where no class is, no body nests too deep.
-body-shallow : {t : Text} → Shallow t → (o : Body t) → Calm (o .ds) (o .y) → openedIn (o .ds) < No.noBody →
+pub body-shallow : {t : Text} → Shallow t → (o : Body t) → Calm (o .ds) (o .y) → openedIn (o .ds) < No.noBody →
     suc (nesting (o .b)) ≤ F.deepest
 unfolding records
 body-shallow {t} h o c n =
@@ -592,7 +592,7 @@ Last d = (y : Name) × (l : Locals) × (b : Act G.actions) × (d ≡ G.class y (
 abbrev Roomy : Text → Type 0
 Roomy t = ofGroup K.BLOCK (records t) ≤ F.mostBlocks
 
-opened-before : {t : Text} → Roomy t → (o : Body t) → openedIn (o .ds) < No.noBody
+pub opened-before : {t : Text} → Roomy t → (o : Body t) → openedIn (o .ds) < No.noBody
 opened-before {t} h o =
     omega (
       arith,
@@ -633,7 +633,7 @@ module _ (ds es : Text) (d : Declaration) (c : troubleIn [] (events (ds ++ (d �
       classes-map (Placed 0 new) Told one-told (records new) (all-classes (Placed 0 new) new (declared-placed [] 0 0 new))
 
   -- So all depends on the last,
-  last-shallow : ((y : Name) (l : Locals) (b : Act G.actions) → d ≡ G.class y (G.body l b) → suc (nesting b) ≤ F.deepest) →
+  pub last-shallow : ((y : Name) (l : Locals) (b : Act G.actions) → d ≡ G.class y (G.body l b) → suc (nesting b) ≤ F.deepest) →
       Shallow new
   last-shallow f = classes-shallow new (classes-map Told (Fine new) go (records new) all-told)
     where
