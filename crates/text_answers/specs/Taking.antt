@@ -47,6 +47,7 @@ use Rattle.text_agrees.specs.Lines.{calm-first, calm-split, wants-nothing}
 use Rattle.text_agrees.specs.Tested.{fits-piled, behind, waits, events-here, fits-here, names-length}
 use Rattle.text_agrees.specs.Closing.{closers, openBraces, cut-spelled}
 use Rattle.text_agrees.specs.Growing.{heard, LastLine, last-line, tree-at, Uncut, Stepped, from-nothing, from-cut, cut-grows}
+use Rattle.text_answers.specs.Cutting.{Accepted}
 use Rattle.text_answers.specs.Shrinking.{less-passes}
 
 -- A NAME THAT MAY BE ANNOUNCED may have its body.
@@ -269,15 +270,11 @@ one-heard (t ∷ ts) zs e = go (isCut t) refl e (λ f. one-heard ts zs f)
 abbrev Passes : Text → Type 0
 Passes t = soFar (fileOf (records t)) ≡ D.accepted passed
 
-abbrev pub AllPass : List Token → Type 0
-AllPass ts =
-    (us : List Token) (c : Token) (vs : List Token) → isCut c ≡ true → ts ≡ (us ++ (c ∷ [])) ++ vs → Passes (treeAt us c)
-
-none-there : (ts : List Token) → Uncut ts → AllPass ts
+none-there : (ts : List Token) → Uncut ts → Accepted ts
 none-there ts u us c vs h e = absurd (no-cut us c vs h (subst Uncut e u))
 
-one-more : (ts : List Token) (t : Token) (zs : List Token) → Uncut zs → Passes (treeAt ts t) → AllPass ts →
-    AllPass ((ts ++ (t ∷ [])) ++ zs)
+one-more : (ts : List Token) (t : Token) (zs : List Token) → Uncut zs → Passes (treeAt ts t) → Accepted ts →
+    Accepted ((ts ++ (t ∷ [])) ++ zs)
 one-more ts t zs u p a us c vs h e = go (last-or-before us c vs ts t zs h u (sym e))
   where
     go : (us ++ (c ∷ []) ≡ ts ++ (t ∷ [])) ⊎ ((rs : List Token) × (ts ≡ (us ++ (c ∷ [])) ++ rs)) → Passes (treeAt us c)
@@ -287,14 +284,14 @@ one-more ts t zs u p a us c vs h e = go (last-or-before us c vs ts t zs h u (sym
 -- From the tree at one cut to those before it,
 module _ (x : Text) (calm : troubleIn [] (events x) ≡ none) where
   passed-before : (n : ℕ) (ts : List Token) (t : Token) (zs : List Token) → isCut t ≡ true →
-      spellText x [] ≡ (ts ++ (t ∷ [])) ++ zs → length ts ≤ n → Passes (treeAt ts t) → AllPass ts
+      spellText x [] ≡ (ts ++ (t ∷ [])) ++ zs → length ts ≤ n → Passes (treeAt ts t) → Accepted ts
   passed-before zero [] t zs h e l p = none-there [] tt
   passed-before zero (s ∷ ts) t zs h e l p = absurd (omega arith)
   passed-before (suc n) ts t zs h e l p =
       go (λ us c vs i f m q. passed-before n us c vs i f m q) (cut-grows ts t _ h (front-piled x (ts ++ (t ∷ [])) zs e))
     where
       go : ((us : List Token) (c : Token) (vs : List Token) → isCut c ≡ true → spellText x [] ≡ (us ++ (c ∷ [])) ++ vs →
-          length us ≤ n → Passes (treeAt us c) → AllPass us) → Stepped ts (treeAt ts t) → AllPass ts
+          length us ≤ n → Passes (treeAt us c) → Accepted us) → Stepped ts (treeAt ts t) → Accepted ts
       go i (from-nothing u g) = none-there ts u
       go i (from-cut us c vs j f u g) =
           let w : spellText x [] ≡ (us ++ (c ∷ [])) ++ (vs ++ (t ∷ zs)) =
@@ -302,20 +299,20 @@ module _ (x : Text) (calm : troubleIn [] (events x) ≡ none) where
           let m : length us ≤ n =
           omega (arith, ap length f, length-append (us ++ (c ∷ [])) vs, length-append us (c ∷ [])) in
           let q = less-passes g (cut-calm x calm us c (vs ++ (t ∷ zs)) j w) (cut-calm x calm ts t zs h e) p in
-          subst AllPass (sym f) (one-more us c vs u q (i us c (vs ++ (t ∷ zs)) j w m q))
+          subst Accepted (sym f) (one-more us c vs u q (i us c (vs ++ (t ∷ zs)) j w m q))
 
   -- beginning with the last, at which the tree is all of it.
   from-last : (ts : List Token) (t : Token) (n : ℕ) → isCut t ≡ true → spellText x [] ≡ (ts ++ (t ∷ [])) ++ closers n →
-      Passes x → AllPass (spellText x [])
+      Passes x → Accepted (spellText x [])
   from-last ts t n h e p =
       let q = subst Passes (tree-at ts t h (front-piled x (ts ++ (t ∷ [])) (closers n) e) x n e) p in
-      subst AllPass (sym e)
+      subst Accepted (sym e)
       (one-more ts t (closers n) (closers-uncut n) q (passed-before (length ts) ts t (closers n) h e (omega arith) q))
 
-  pub every-cut : Passes x → AllPass (spellText x [])
+  pub every-cut : Passes x → Accepted (spellText x [])
   every-cut p = go (last-line x)
     where
-      go : (x ≡ []) ⊎ LastLine x → AllPass (spellText x [])
+      go : (x ≡ []) ⊎ LastLine x → Accepted (spellText x [])
       go (inl n) = none-there (spellText x []) (subst (λ t. Uncut (spellText t [])) (sym n) (refl, tt))
       go (inr l) =
           let a = one-heard (l .line) (closers (l .now)) (l .cut) in
