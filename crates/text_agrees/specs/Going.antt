@@ -67,7 +67,7 @@ bare-happens : (us : List Symbol) (r : Reader) (s : Symbol) (t : Token) → happ
 unfolding happens
 bare-happens us r s t = refl
 
-fewer-append : (ks : List Known) (es fs : List Event) → Fewer ks es → Fewer (N.after ks es) fs → Fewer ks (es ++ fs)
+pub fewer-append : (ks : List Known) (es fs : List Event) → Fewer ks es → Fewer (N.after ks es) fs → Fewer ks (es ++ fs)
 unfolding N.after
 fewer-append ks [] fs g h = h
 fewer-append ks (e ∷ es) fs g h = (g .0, fewer-append (knows ks e) es fs (g .1) h)

@@ -285,7 +285,7 @@ ends G.noActions = noAction
 ends (G.follow a b) = end-follow (ends a) (ends b)
 
 -- CUTS: what is behind each.
-abbrev pub heard : List Token → List (List Token)
+abbrev heard : List Token → List (List Token)
 heard [] = []
 heard (t ∷ ts) = if isCut t then ts ∷ heard ts else heard ts
 
@@ -493,6 +493,43 @@ last-line t = go (snoc t)
     go : {u : Text} → Snoc u → (u ≡ []) ⊎ LastLine u
     go none-there = inl refl
     go (one-last ds d) = inr (by-last ds d)
+
+-- So it has a last cut: behind that braces and the end come.
+pub record LastCut (t : Text) : Type 0 where
+  pub before : List Token
+  pub at : Token
+  pub cut : isCut at ≡ true
+  pub many : ℕ
+  pub parts : spellText t [] ≡ (before ++ (at ∷ [])) ++ closers many
+
+heard-at : (ts zs : List Token) → heard ts ≡ zs ∷ [] →
+    (us : List Token) × (c : Token) × (isCut c ≡ true) × (ts ≡ us ++ (c ∷ zs))
+heard-at [] zs e = let z : _≡_ {A = ℕ} 0 1 = ap length e in absurd (omega arith)
+heard-at (t ∷ ts) zs e = go (isCut t) refl e (λ f. heard-at ts zs f)
+  where
+    go : (b : Bool) → isCut t ≡ b → (if b then ts ∷ heard ts else heard ts) ≡ zs ∷ [] →
+        (heard ts ≡ zs ∷ [] → (us : List Token) × (c : Token) × (isCut c ≡ true) × (ts ≡ us ++ (c ∷ zs))) →
+        (us : List Token) × (c : Token) × (isCut c ≡ true) × (t ∷ ts ≡ us ++ (c ∷ zs))
+    go true h f i = let g : ts ≡ zs = cc in ([], t, h, ap (λ us. t ∷ us) g)
+    go false h f i = let a = i f in (t ∷ a .0, a .1, a .2, ap (λ us. t ∷ us) (a .3))
+
+pub last-cut : (t : Text) → (t ≡ []) ⊎ LastCut t
+last-cut t = go (last-line t)
+  where
+    go : (t ≡ []) ⊎ LastLine t → (t ≡ []) ⊎ LastCut t
+    go (inl e) = inl e
+    go (inr l) =
+        let a = heard-at (l .line) (closers (l .now)) (l .cut) in
+        let us : List Token = l .head ++ a .0 in
+        inr (record {
+          before = us;
+          at = a .1;
+          cut = a .2;
+          many = l .now;
+          parts =
+              l .spelled ∙ ap (λ ts. l .head ++ ts) (a .3) ∙ sym (append-assoc (l .head) (a .0) (a .1 ∷ closers (l .now)))
+              ∙ sym (append-assoc us (a .1 ∷ []) (closers (l .now)));
+        })
 
 -- HOW MANY CUTS there are, and the last.
 abbrev cuts : List Token → ℕ

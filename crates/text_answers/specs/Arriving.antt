@@ -57,7 +57,7 @@ use Rattle.text_agrees.specs.Stages.{Comes, starts, Blocks, outside, acting, tr
 use Rattle.text_agrees.specs.Stages.{Idle, Stage, declared, entity, titled, acts, Held, roomy}
 use Rattle.text_agrees.specs.Roomy.{Free, names-free}
 use Rattle.text_agrees.specs.Closing.{closers, cutTree, cutReader, openBraces, cut-spelled}
-use Rattle.text_agrees.specs.Going.{Goes, rests, passes, tokensOf, Sits, bare, goes-comes, goes-pile, goes-flow, goes-fewer}
+use Rattle.text_agrees.specs.Going.{Goes, rests, passes, tokensOf, Sits, bare, goes-comes, goes-pile, goes-flow, goes-fewer, fewer-append}
 use Rattle.text_agrees.specs.Going.{goes-known}
 use Rattle.text_agrees.specs.Growing.{Grows, Stepped, from-nothing, from-cut, cut-grows}
 use Rattle.text_agrees.specs.Laying.{Short}
@@ -207,11 +207,6 @@ knows-few ks leaves = omega (arith, keep-few stays ks)
 fewer-room : (ks : List Known) (es : List Event) → length ks + total es < mostNames → Fewer ks es
 fewer-room ks [] h = tt
 fewer-room ks (e ∷ es) h = (omega arith, fewer-room (knows ks e) es (omega (arith, knows-few ks e)))
-
-fewer-append : (ks : List Known) (es fs : List Event) → Fewer ks es → Fewer (after ks es) fs → Fewer ks (es ++ fs)
-unfolding after
-fewer-append ks [] fs g h = h
-fewer-append ks (e ∷ es) fs g h = (g .0, fewer-append (knows ks e) es fs (g .1) h)
 
 -- A class line stands alone: no local is known, so there is room for two names more.
 rest-body : {a : Bool} {ss : List Symbol} → Rest a (bodyS ∷ ss) → ⊥

@@ -41,7 +41,7 @@ use Rattle.text_agrees.specs.Tales.{fits-text}
 use Rattle.text_agrees.specs.Tested.{fits-piled}
 use Rattle.text_agrees.specs.Closing.{closers}
 use Rattle.text_agrees.specs.Grown.{openedIn}
-use Rattle.text_agrees.specs.Growing.{LastLine, last-line, tree-at, some-before}
+use Rattle.text_agrees.specs.Growing.{LastCut, last-cut, tree-at, some-before}
 use Rattle.text_answers.specs.Cutting.{Accepted}
 use Rattle.text_answers.specs.Naming.{EntryKnown}
 use Rattle.text_answers.specs.Seconds.{Runs, runs-append, second-passes, second-stops}
@@ -49,51 +49,27 @@ use Rattle.text_answers.specs.Asked.{bound}
 use Rattle.text_answers.specs.Ranges.{Ready, lacksBody, blocks-run, declared-known}
 use Rattle.text_answers.specs.Lacking.{unbodied}
 
--- THE LAST CUT: behind it braces and the end come.
-abbrev heard : List Token → List (List Token)
-heard [] = []
-heard (t ∷ ts) = if isCut t then ts ∷ heard ts else heard ts
-
-record LastCut (ts zs : List Token) : Type 0 where
-  before : List Token
-  at : Token
-  cut : isCut at ≡ true
-  parts : ts ≡ (before ++ (at ∷ [])) ++ zs
-
-last-cut : (ts zs : List Token) → heard ts ≡ zs ∷ [] → LastCut ts zs
-last-cut [] zs e = let z : _≡_ {A = ℕ} 0 1 = cc in absurd (omega arith)
-last-cut (t ∷ ts) zs e = go (isCut t) refl e (λ f. last-cut ts zs f)
-  where
-    go : (b : Bool) → isCut t ≡ b → (if b then ts ∷ heard ts else heard ts) ≡ zs ∷ [] → (heard ts ≡ zs ∷ [] → LastCut ts zs)
-        → LastCut (t ∷ ts) zs
-    go true h f i = let g : ts ≡ zs = cc in record { before = []; at = t; cut = h; parts = ap (λ us. t ∷ us) g }
-    go false h f i =
-        let c = i f in
-        record { before = t ∷ c .before; at = c .at; cut = c .cut; parts = ap (λ us. t ∷ us) (c .parts) }
-
--- So the tree of a whole text is that of its last cut, and what was accepted there is all of it.
+-- The tree of a whole text is that of its last cut, and what was accepted there is all of it.
 none-accepted : soFar (fileOf (records [])) ≡ D.accepted passed
 unfolding soFar records
 none-accepted = refl
 
 module _ (t : Text) (accepted : Accepted (spellText t [])) where
-  by-line : (l : LastLine t) → LastCut (l .line) (closers (l .now)) → soFar (fileOf (records t)) ≡ D.accepted passed
-  by-line l c =
-      let us : List Token = l .head ++ c .before in
-      let zs : List Token = closers (l .now) in
-      let e : spellText t [] ≡ (us ++ (c .at ∷ [])) ++ zs =
-      l .spelled ∙ ap (λ xs. l .head ++ xs) (c .parts) ∙ sym (append-assoc (l .head) (c .before ++ (c .at ∷ [])) zs)
-      ∙ ap (λ xs. xs ++ zs) (sym (append-assoc (l .head) (c .before) (c .at ∷ []))) in
-      let p = some-before (us ++ (c .at ∷ [])) zs
-      (ap (λ xs. piled Of say step xs (textS ∷ [])) (sym e) ∙ fits-piled (spellText t []) (textS ∷ []) (fits-text t)) in
-      ap (λ u. soFar (fileOf (records u))) (tree-at us (c .at) (c .cut) (p .1) t (l .now) e) ∙ accepted us (c .at) zs (c .cut) e
+  by-cut : LastCut t → soFar (fileOf (records t)) ≡ D.accepted passed
+  by-cut l =
+      let us : List Token = l .before ++ (l .at ∷ []) in
+      let zs : List Token = closers (l .many) in
+      let p = some-before us zs
+      (ap (λ xs. piled Of say step xs (textS ∷ [])) (sym (l .parts)) ∙ fits-piled (spellText t []) (textS ∷ []) (fits-text t)) in
+      ap (λ u. soFar (fileOf (records u))) (tree-at (l .before) (l .at) (l .cut) (p .1) t (l .many) (l .parts))
+      ∙ accepted (l .before) (l .at) zs (l .cut) (l .parts)
 
   pub all-accepted : soFar (fileOf (records t)) ≡ D.accepted passed
-  all-accepted = go (last-line t)
+  all-accepted = go (last-cut t)
     where
-      go : (t ≡ []) ⊎ LastLine t → soFar (fileOf (records t)) ≡ D.accepted passed
+      go : (t ≡ []) ⊎ LastCut t → soFar (fileOf (records t)) ≡ D.accepted passed
       go (inl e) = ap (λ u. soFar (fileOf (records u))) e ∙ none-accepted
-      go (inr l) = by-line l (last-cut (l .line) (closers (l .now)) (l .cut))
+      go (inr l) = by-cut l
 
 -- THE FIRST of a list for which a test holds.
 pub record First {A : Type 0} (f : A → Bool) (xs : List A) : Type 0 where

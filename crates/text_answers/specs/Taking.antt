@@ -46,7 +46,7 @@ use Rattle.text_agrees.specs.Named.{opening}
 use Rattle.text_agrees.specs.Lines.{calm-first, calm-split, wants-nothing}
 use Rattle.text_agrees.specs.Tested.{fits-piled, behind, waits, events-here, fits-here, names-length}
 use Rattle.text_agrees.specs.Closing.{closers, openBraces, cut-spelled}
-use Rattle.text_agrees.specs.Growing.{heard, LastLine, last-line, tree-at, Uncut, Stepped, from-nothing, from-cut, cut-grows}
+use Rattle.text_agrees.specs.Growing.{LastCut, last-cut, tree-at, Uncut, Stepped, from-nothing, from-cut, cut-grows}
 use Rattle.text_answers.specs.Cutting.{Accepted}
 use Rattle.text_answers.specs.Shrinking.{less-passes}
 
@@ -255,17 +255,6 @@ unfolding closers
 closers-uncut zero = (refl, tt)
 closers-uncut (suc n) = (refl, closers-uncut n)
 
-one-heard : (ts zs : List Token) → heard ts ≡ zs ∷ [] →
-    (us : List Token) × (c : Token) × (isCut c ≡ true) × (ts ≡ us ++ (c ∷ zs))
-one-heard [] zs e = let z : _≡_ {A = ℕ} 0 1 = ap length e in absurd (omega arith)
-one-heard (t ∷ ts) zs e = go (isCut t) refl e (λ f. one-heard ts zs f)
-  where
-    go : (b : Bool) → isCut t ≡ b → (if b then ts ∷ heard ts else heard ts) ≡ zs ∷ [] →
-        (heard ts ≡ zs ∷ [] → (us : List Token) × (c : Token) × (isCut c ≡ true) × (ts ≡ us ++ (c ∷ zs))) →
-        (us : List Token) × (c : Token) × (isCut c ≡ true) × (t ∷ ts ≡ us ++ (c ∷ zs))
-    go true h f i = let g : ts ≡ zs = cc in ([], t, h, ap (λ us. t ∷ us) g)
-    go false h f i = let a = i f in (t ∷ a .0, a .1, a .2, ap (λ us. t ∷ us) (a .3))
-
 -- EVERY CUT in some tokens passes.
 abbrev Passes : Text → Type 0
 Passes t = soFar (fileOf (records t)) ≡ D.accepted passed
@@ -310,16 +299,11 @@ module _ (x : Text) (calm : troubleIn [] (events x) ≡ none) where
       (one-more ts t (closers n) (closers-uncut n) q (passed-before (length ts) ts t (closers n) h e (omega arith) q))
 
   pub every-cut : Passes x → Accepted (spellText x [])
-  every-cut p = go (last-line x)
+  every-cut p = go (last-cut x)
     where
-      go : (x ≡ []) ⊎ LastLine x → Accepted (spellText x [])
+      go : (x ≡ []) ⊎ LastCut x → Accepted (spellText x [])
       go (inl n) = none-there (spellText x []) (subst (λ t. Uncut (spellText t [])) (sym n) (refl, tt))
-      go (inr l) =
-          let a = one-heard (l .line) (closers (l .now)) (l .cut) in
-          let ts : List Token = l .head ++ a .0 in
-          from-last ts (a .1) (l .now) (a .2)
-          (l .spelled ∙ ap (λ us. l .head ++ us) (a .3) ∙ sym (append-assoc (l .head) (a .0) (a .1 ∷ closers (l .now)))
-          ∙ sym (append-assoc ts (a .1 ∷ []) (closers (l .now)))) p
+      go (inr l) = from-last (l .before) (l .at) (l .many) (l .cut) (l .parts) p
 
 -- WHAT PASSES checks 1 to 10 passes those at a cut.
 accepted-so-far : (os : List Owned) (m : Model) → decode (fileOf os) ≡ D.accepted m → soFar (fileOf os) ≡ D.accepted passed
