@@ -19,7 +19,7 @@ use Rattle.text_semantics.specs.Written.{two}
 use Rattle.text_semantics.specs.Reading.{Symbol, one, the, aName, aNumber, factorS, minusS, more, signedS, relationS, itemS}
 use Rattle.text_semantics.specs.Reading.{claimS, itemsS, givesS, givenS, actionsS, tryS, fewS, linesS, bodyS, textS}
 use Rattle.text_machine.specs.Entry as E
-use Rattle.text_machine.specs.Entry.{Draft, begin, asking, drafted, markIn, nameIn, put}
+use Rattle.text_machine.specs.Entry.{Draft, begin, asking, drafted, markIn, nameIn}
 use Rattle.text_machine.specs.Entry.{atNumber, atItem, atAction, atText}
 use Rattle.text_machine.specs.Sheet as S
 use Rattle.text_machine.specs.Sheet.{Sheet, Kept, keptIn, resumed, declaring, declares, classed, classes, bodied, counts}

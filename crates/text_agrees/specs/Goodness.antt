@@ -38,7 +38,7 @@ use Rattle.text_machine.specs.Sheet.{Sheet, Piece, Kept, Level, blank, headed, 
 use Rattle.text_machine.specs.Sheet.{withTotal, withLevels, blocksOf, innermost, classBytes, DECLARED}
 use Rattle.text_machine.specs.Sheet.{declaring, classed, classes, bodied, counts, stands, acts, settled, braces, tries, opens}
 use Rattle.text_machine.specs.Sheet.{closed}
-use Rattle.text_machine.specs.Machine.{Reader, atFirst, passes, countsFor, faulty, overLimit, cutAt, draftAfter, sheetAfter}
+use Rattle.text_machine.specs.Machine.{Reader, passes, countsFor, faulty, overLimit, cutAt, draftAfter, sheetAfter}
 use Rattle.text_machine.specs.Machine.{after, stops, goes, goneOn, ruled, onPile, turned, eventAt, knownAfter, highestPile}
 use Rattle.text_machine.specs.Machine as M
 use Rattle.text_agrees.specs.Flow.{nextIn}

@@ -29,7 +29,7 @@ use Rattle.text_semantics.specs.Names.{LOCAL, events, troubleIn}
 use Rattle.text_semantics.specs.Meaning.{Owned, owned, declarations, blocks, records}
 use Rattle.text_semantics.specs.Written.{fileOf, ownerAt}
 use Rattle.text_semantics.specs.Reading.{Of, say, step, textS}
-use Rattle.text_semantics.specs.Answer.{refused, isCut, soFar}
+use Rattle.text_semantics.specs.Answer.{refused, soFar}
 use Rattle.text_promises.specs.Tables.{piled}
 use Rattle.text_promises.specs.Cuts.{rawsFrom, so-far-long, decoded}
 use Rattle.text_promises.specs.Owners.{owner-behind}
