@@ -844,7 +844,7 @@ braces-full : (s : Sheet) → braces s .full ≡ s .full
 unfolding braces
 braces-full s = refl
 
-abbrev Numbers : Reader → Type 0
+abbrev pub Numbers : Reader → Type 0
 Numbers r = M.isKnown r ≡ true → numberOf (r .known) (r .called) < length (r .sheet .classAt)
 
 at-body : (r : Reader) (d : Draft) (b : Bool) → Numbers r →
@@ -1018,7 +1018,7 @@ pub record Fine (r : Reader) : Type 0 where
   pub calling : Calling (r .draft .role) (r .known) (r .called) (r .pile)
 
 -- The number of a class that gets its body is one of a class.
-numbers : (r : Reader) {ss : List Symbol} → Sorted (r .known) (length (r .sheet .classAt)) →
+pub numbers : (r : Reader) {ss : List Symbol} → Sorted (r .known) (length (r .sheet .classAt)) →
     Calling (r .draft .role) (r .known) (r .called) (bodyS ∷ ss) → Numbers r
 unfolding trouble
 numbers r h (silent f) e = no-way f

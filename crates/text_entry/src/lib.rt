@@ -1,7 +1,7 @@
 // The record that a reader of texts is writing, a draft: what each token of a declaration or action adds to it.
 use text_tokens::mark;
 
-mod symbol;
+pub mod symbol;
 
 use base_numbers::byte;
 use base_numbers::kind;

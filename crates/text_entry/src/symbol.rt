@@ -26,6 +26,8 @@ pub const LINES: u8 = 61;
 
 pub const BODY: u8 = 62;
 
+pub const TEXT: u8 = 63;
+
 pub const FEW: u8 = 64;
 
 pub const EXPRESSION: u8 = 72;
