@@ -1,6 +1,6 @@
 -- What the actions of a text make of the machine's sheet: the record of each, put where it stands; blocks opened and closed.
 -- Assumes nothing.
-use Prim.Native.Nat.{ℕ, suc, _+_, _≤_}
+use Prim.Native.Nat.{ℕ, zero, suc, _+_, _≤_}
 use native.Mathlib.Omega.{arith}
 use mathlib.Core.Path.{_≡_, refl, sym, _∙_, ap}
 use mathlib.Core.List.{List, [], _∷_, _++_, append-nil}
@@ -17,7 +17,7 @@ use Rattle.text_semantics.specs.Numbers as No
 use Rattle.text_semantics.specs.Token as Tk
 use Rattle.text_semantics.specs.Token.{Token, number, mark}
 use Rattle.text_semantics.specs.Grammar as G
-use Rattle.text_semantics.specs.Grammar.{Name, Kind, Act, spell, spellAct, spellClaim, spellGives}
+use Rattle.text_semantics.specs.Grammar.{Name, Kind, Act, digits, toBrace, spell, spellAct, spellClaim, spellGives}
 use Rattle.text_semantics.specs.Names.{Known, knows, leaves}
 use Rattle.text_semantics.specs.Meaning.{kindOf, numberOf, means, storeIn, claimOf, sharesOf, branch}
 use Rattle.text_semantics.specs.Written.{two, four, counted, claimBytes, shareBytes, nodesOf, actionBody}
@@ -456,54 +456,86 @@ module _ (place : ℕ → ℕ) (r : Reader) where
       × (flow place at (spellAct a ts) (tryS ∷ us) (resheeted r d s)
       ≡ flow place (pastAct a at) ts (tryS ∷ us) (resheeted r e (made a at s)))
 
-  inside-goes : (b : Act G.actions) → Reads G.actions b → Inside b
+  still-open : (s : Sheet) (b : Act G.actions) (at : ℕ) → 2 ≤ deepness s → 1 ≤ deepness (closed (made b at s))
+  still-open s b at h = go (deepness s) refl
+    where
+      go : (n : ℕ) → deepness s ≡ n → 1 ≤ deepness (closed (made b at s))
+      go zero e = absurd (omega arith)
+      go (suc n) e = let a = closed-deep (made b at s) n (made-deep b at s ∙ e) in omega arith
+
+  pub inside-goes : (b : Act G.actions) → Reads G.actions b → Inside b
   inside-goes b reads d s at ts us h =
       let x = reads d s some-actions at (mark Tk.RB ∷ ts) us (omega arith) in
       let m = made-deep b at s in
       let y = brace-goes (x .0) (made b at s) (x .1) (pastAct b at) ts us (omega arith) in
       (y .0, x .2 ∙ y .1)
 
-  repeat-goes : (n : G.Count) (b : Act G.actions) → Reads G.actions b → Acts (G.repeat n b)
-  unfolding flow actionBody sheeted
-  repeat-goes n b reads d s c at ts us l =
+  -- TO ITS BRACE: a do,
+  pub repeat-opens : (n : G.Count) (d : Draft) (s : Sheet) (c : Block) (at : ℕ) (ts : List Token) (us : List Symbol) →
+      let m : Action = M.DO (n .value) (blocksOf (settled s)) in
+      flow place at (mark Tk.DO ∷ digits n (mark Tk.LB ∷ ts)) (symbol c ∷ us) (resheeted r d s)
+      ≡ flow place (suc (suc (suc at))) ts (actionsS ∷ actionsS ∷ us)
+      (resheeted r (wrote (place at) m) (braces (acts (wrote (place at) m) (settled s))))
+  unfolding flow actionBody
+  repeat-opens n d s c at ts us =
       let q : Reader = resheeted r d (settled s) in
       let k : ℕ = blocksOf (settled s) in
-      let m : Action = M.DO (n .value) k in
       let f : Draft = begin (place at) K.DO 0 in
-      let z : Sheet = braces (acts (wrote (place at) m) (settled s)) in
-      let deep : deepness z ≡ suc (deepness s) = braces-deep (acts (wrote (place at) m) (settled s))
-      ∙ ap suc (acts-deep (wrote (place at) m) (settled s) ∙ settled-deep s) in
-      let y = inside-goes b reads (wrote (place at) m) z (suc (suc (suc at))) ts (actionsS ∷ us) (omega arith) in
+      let to : Draft → Reader = λ x. flow place (suc (suc (suc at))) ts (actionsS ∷ actionsS ∷ us)
+      (resheeted r x (braces (acts x (settled s)))) in
       let go =
-      C.number-goes place q No.topCount n f (suc at) (mark Tk.LB ∷ spellAct b (mark Tk.RB ∷ ts))
-      (sign Tk.LB ∷ actionsS ∷ actionsS ∷ us)
-      ∙ ap (λ (x : Draft). flow place (suc (suc (suc at))) (spellAct b (mark Tk.RB ∷ ts)) (actionsS ∷ actionsS ∷ us)
-      (resheeted r x (braces (acts x (settled s))))) (put-put f (two (n .value)) (two k))
-      ∙ y .1 in
-      (y .0, by-block (From (G.repeat n b) d s at ts us (y .0) (made (G.repeat n b) at s)) c go go go)
+      C.number-goes place q No.topCount n f (suc at) (mark Tk.LB ∷ ts) (sign Tk.LB ∷ actionsS ∷ actionsS ∷ us)
+      ∙ ap to (put-put f (two (n .value)) (two k)) in
+      by-block (λ (z : Symbol). flow place at (mark Tk.DO ∷ digits n (mark Tk.LB ∷ ts)) (z ∷ us) (resheeted r d s)
+      ≡ to (wrote (place at) (M.DO (n .value) k))) c go go go
 
-  while-goes : (c : G.Claim) (b : Act G.actions) → Reads G.actions b → Acts (G.while c b)
-  unfolding flow actionBody sheeted
-  while-goes c b reads d s v at ts us l =
+  -- a while,
+  pub while-opens : (c : G.Claim) (d : Draft) (s : Sheet) (v : Block) (at : ℕ) (ts : List Token) (us : List Symbol) →
+      let m : Action = M.WHILE (blocksOf s) (claimOf (r .known) c) in (e : Draft)
+      × (flow place at (mark Tk.WHILE ∷ mark Tk.LS ∷ spellClaim c (mark Tk.LB ∷ ts)) (symbol v ∷ us) (resheeted r d s)
+      ≡ flow place (suc (pastClaim c (suc (suc at)))) ts (actionsS ∷ actionsS ∷ us)
+      (resheeted r e (braces (acts (wrote (place at) m) (settled s)))))
+  unfolding flow actionBody
+  while-opens c d s v at ts us =
       let k : ℕ = blocksOf s in
       let m : Action = M.WHILE k (claimOf (r .known) c) in
       let f : Draft = put (begin (place at) K.WHILE 0) (two k) in
       let g = C.claim-goes place (resheeted r d (settled s)) f (record { sized = λ z. refl }) (plain K.WHILE refl refl) c in
       let h = g .2 in
+      let e : Draft = shaped (wrote (place at) m) (h .role) (h .count) (h .at) (h .aside) in
+      let to : Reader = flow place (suc (pastClaim c (suc (suc at)))) ts (actionsS ∷ actionsS ∷ us)
+      (resheeted r e (braces (acts (wrote (place at) m) (settled s)))) in
+      let go =
+      g .1 (suc at) (mark Tk.LB ∷ ts) (sign Tk.LB ∷ actionsS ∷ actionsS ∷ us)
+      ∙ ap (λ (x : Draft). flow place (pastClaim c (suc (suc at))) (mark Tk.LB ∷ ts)
+      (sign Tk.LB ∷ actionsS ∷ actionsS ∷ us) (resheeted r x (settled s)))
+      (h .is ∙ ap (λ (x : Draft). shaped x (h .role) (h .count) (h .at) (h .aside))
+      (put-put (begin (place at) K.WHILE 0) (two k) (claimBytes (claimOf (r .known) c)))) in (
+        e,
+        by-block (λ (z : Symbol). flow place at (mark Tk.WHILE ∷ mark Tk.LS ∷ spellClaim c (mark Tk.LB ∷ ts)) (z ∷ us)
+            (resheeted r d s) ≡ to) v go go go,
+      )
+
+  repeat-goes : (n : G.Count) (b : Act G.actions) → Reads G.actions b → Acts (G.repeat n b)
+  unfolding sheeted
+  repeat-goes n b reads d s c at ts us l =
+      let m : Action = M.DO (n .value) (blocksOf (settled s)) in
       let z : Sheet = braces (acts (wrote (place at) m) (settled s)) in
       let deep : deepness z ≡ suc (deepness s) = braces-deep (acts (wrote (place at) m) (settled s))
       ∙ ap suc (acts-deep (wrote (place at) m) (settled s) ∙ settled-deep s) in
-      let e : Draft = shaped (wrote (place at) m) (h .role) (h .count) (h .at) (h .aside) in
-      let y = inside-goes b reads e z (suc (pastClaim c (suc (suc at)))) ts (actionsS ∷ us) (omega arith) in
-      let go =
-      g .1 (suc at) (mark Tk.LB ∷ spellAct b (mark Tk.RB ∷ ts)) (sign Tk.LB ∷ actionsS ∷ actionsS ∷ us)
-      ∙ ap (λ (x : Draft). flow place (pastClaim c (suc (suc at))) (mark Tk.LB ∷ spellAct b (mark Tk.RB ∷ ts))
-      (sign Tk.LB ∷ actionsS ∷ actionsS ∷ us)
-      (resheeted r x (settled s)))
-      (h .is ∙ ap (λ (x : Draft). shaped x (h .role) (h .count) (h .at) (h .aside))
-      (put-put (begin (place at) K.WHILE 0) (two k) (claimBytes (claimOf (r .known) c))))
-      ∙ y .1 in
-      (y .0, by-block (From (G.while c b) d s at ts us (y .0) (made (G.while c b) at s)) v go go go)
+      let y = inside-goes b reads (wrote (place at) m) z (suc (suc (suc at))) ts (actionsS ∷ us) (omega arith) in
+      (y .0, repeat-opens n d s c at (spellAct b (mark Tk.RB ∷ ts)) us ∙ y .1)
+
+  while-goes : (c : G.Claim) (b : Act G.actions) → Reads G.actions b → Acts (G.while c b)
+  unfolding sheeted
+  while-goes c b reads d s v at ts us l =
+      let m : Action = M.WHILE (blocksOf s) (claimOf (r .known) c) in
+      let z : Sheet = braces (acts (wrote (place at) m) (settled s)) in
+      let deep : deepness z ≡ suc (deepness s) = braces-deep (acts (wrote (place at) m) (settled s))
+      ∙ ap suc (acts-deep (wrote (place at) m) (settled s) ∙ settled-deep s) in
+      let x = while-opens c d s v at (spellAct b (mark Tk.RB ∷ ts)) us in
+      let y = inside-goes b reads (x .0) z (suc (pastClaim c (suc (suc at)))) ts (actionsS ∷ us) (omega arith) in
+      (y .0, x .1 ∙ y .1)
 
   tries-shaped : (x : Draft) (p j a q : ℕ) (s : Sheet) → tries (shaped x p j a q) s ≡ tries x s
   unfolding tries S.counts
@@ -515,101 +547,131 @@ module _ (place : ℕ → ℕ) (r : Reader) where
       go none = refl
       go (some y) = refl
 
-  -- A branch: its claim behind what the draft f has, its block, and the branches behind it.
-  branch-goes : (c : G.Claim) (b : Act G.actions) (bs : Act G.branches) → Reads G.actions b → Reads G.branches bs →
-      (d f : Draft) (s : Sheet) → Whole f → f .kind ≡ K.TRY → 1 ≤ deepness s →
-      (at : ℕ) (ts : List Token) (us : List Symbol) → (e : Draft)
-      × (flow place at (mark Tk.LS ∷ spellClaim c (mark Tk.THEN ∷ mark Tk.LB ∷ spellAct b (mark Tk.RB ∷ spellAct bs ts)))
+  -- a branch: its claim behind what the draft f has.
+  branch-opens : (c : G.Claim) (d f : Draft) (s : Sheet) → Whole f → f .kind ≡ K.TRY → (at : ℕ) (ts : List Token)
+      (us : List Symbol) → (e : Draft)
+      × (flow place at (mark Tk.LS ∷ spellClaim c (mark Tk.THEN ∷ mark Tk.LB ∷ ts))
       (sign Tk.LS ∷ claimS ∷ sign Tk.THEN ∷ sign Tk.LB ∷ actionsS ∷ tryS ∷ us) (resheeted r f s)
-      ≡ flow place (pastAct bs (suc (pastAct b (suc (suc (pastClaim c (suc at))))))) ts (tryS ∷ us)
-      (resheeted r e (made bs (suc (pastAct b (suc (suc (pastClaim c (suc at))))))
-      (closed (made b (suc (suc (pastClaim c (suc at)))) (braces (tries (put f (claimBytes (claimOf (r .known) c))) s)))))))
+      ≡ flow place (suc (suc (pastClaim c (suc at)))) ts (actionsS ∷ tryS ∷ us)
+      (resheeted r e (braces (tries (put f (claimBytes (claimOf (r .known) c))) s))))
   unfolding flow tries S.counts
-  branch-goes c b bs reads-b reads-bs d f s w k l at ts us =
+  branch-opens c d f s w k at ts us =
       let n : ℕ = pastClaim c (suc at) in
       let g = C.claim-goes place (resheeted r d s) f w (rw k (plain K.TRY refl refl)) c in
       let h = g .2 in
-      let x : Draft = put f (claimBytes (claimOf (r .known) c)) in
-      let e : Draft = shaped x (h .role) (h .count) (h .at) (h .aside) in
-      let z : Sheet = braces (tries x s) in
-      let deep : deepness z ≡ suc (deepness s) = braces-deep (tries x s) ∙ ap suc (tries-deep x s) in
-      let y = inside-goes b reads-b e z (suc (suc n)) (spellAct bs ts) (tryS ∷ us) (omega arith) in
-      let deeper = closed-deep (made b (suc (suc n)) z) (deepness s) (made-deep b (suc (suc n)) z ∙ deep) in
-      let v = reads-bs (y .0) (closed (made b (suc (suc n)) z)) (suc (pastAct b (suc (suc n)))) ts us (omega arith) in (
-        v .0,
-        g .1 at (mark Tk.THEN ∷ mark Tk.LB ∷ spellAct b (mark Tk.RB ∷ spellAct bs ts))
-            (sign Tk.THEN ∷ sign Tk.LB ∷ actionsS ∷ tryS ∷ us)
-            ∙ ap (λ (u : Draft). flow place n (mark Tk.THEN ∷ mark Tk.LB ∷ spellAct b (mark Tk.RB ∷ spellAct bs ts))
+      let x : Draft = put f (claimBytes (claimOf (r .known) c)) in (
+        shaped x (h .role) (h .count) (h .at) (h .aside),
+        g .1 at (mark Tk.THEN ∷ mark Tk.LB ∷ ts) (sign Tk.THEN ∷ sign Tk.LB ∷ actionsS ∷ tryS ∷ us)
+            ∙ ap (λ (u : Draft). flow place n (mark Tk.THEN ∷ mark Tk.LB ∷ ts)
             (sign Tk.THEN ∷ sign Tk.LB ∷ actionsS ∷ tryS ∷ us) (resheeted r u s)) (h .is)
-            ∙ opened x (h .role) (h .count) (h .at) (h .aside) n (kind-put f (claimBytes (claimOf (r .known) c)) ∙ k)
-            ∙ y .1
-            ∙ v .1,
+            ∙ opened x (h .role) (h .count) (h .at) (h .aside) n (kind-put f (claimBytes (claimOf (r .known) c)) ∙ k),
       )
     where
       opened : (x : Draft) (p j a q n : ℕ) → x .kind ≡ K.TRY →
-          flow place n (mark Tk.THEN ∷ mark Tk.LB ∷ spellAct b (mark Tk.RB ∷ spellAct bs ts))
+          flow place n (mark Tk.THEN ∷ mark Tk.LB ∷ ts)
           (sign Tk.THEN ∷ sign Tk.LB ∷ actionsS ∷ tryS ∷ us) (resheeted r (shaped x p j a q) s)
-          ≡ flow place (suc (suc n)) (spellAct b (mark Tk.RB ∷ spellAct bs ts)) (actionsS ∷ tryS ∷ us)
-          (resheeted r (shaped x p j a q) (braces (tries x s)))
+          ≡ flow place (suc (suc n)) ts (actionsS ∷ tryS ∷ us) (resheeted r (shaped x p j a q) (braces (tries x s)))
       opened x p j a q n e =
           let y : Draft = shaped x p j a q in
           let no : eqb (x .kind) K.DO ≡ false = ne-eqb (x .kind) K.DO (λ z. omega arith) in
           let yes : eqb (x .kind) K.TRY ≡ true = eq-eqb (x .kind) K.TRY e in
-          let to : Draft → Sheet → Reader = λ u v. flow place (suc (suc n)) (spellAct b (mark Tk.RB ∷ spellAct bs ts))
-          (actionsS ∷ tryS ∷ us) (resheeted r u v) in
+          let to : Draft → Sheet → Reader = λ u v. flow place (suc (suc n)) ts (actionsS ∷ tryS ∷ us) (resheeted r u v) in
           ap (λ (i : Bool). let u : Draft = if i then put y (two (blocksOf s)) else y in
           to u (braces (if eqb (u .kind) K.TRY then tries u s else acts u s))) no
           ∙ ap (λ (i : Bool). to y (braces (if i then tries y s else acts y s))) yes
           ∙ ap (λ (v : Sheet). to y (braces v)) (tries-shaped x p j a q s)
 
+  -- .. with its block, and the branches behind it.
+  branch-goes : (b : Act G.actions) (bs : Act G.branches) → Reads G.actions b → Reads G.branches bs →
+      (d : Draft) (x : Sheet) → 2 ≤ deepness x → (at : ℕ) (ts : List Token) (us : List Symbol) → (e : Draft)
+      × (flow place at (spellAct b (mark Tk.RB ∷ spellAct bs ts)) (actionsS ∷ tryS ∷ us) (resheeted r d x)
+      ≡ flow place (pastAct bs (suc (pastAct b at))) ts (tryS ∷ us)
+      (resheeted r e (made bs (suc (pastAct b at)) (closed (made b at x)))))
+  branch-goes b bs reads-b reads-bs d x l at ts us =
+      let y = inside-goes b reads-b d x at (spellAct bs ts) (tryS ∷ us) l in
+      let z : Sheet = closed (made b at x) in
+      let deep : 1 ≤ deepness z = still-open x b at l in
+      let v = reads-bs (y .0) z (suc (pastAct b at)) ts us deep in
+      (v .0, y .1 ∙ v .1)
+
   -- The draft of a try with its first branch.
-  try-draft : (p k : ℕ) (c : M.Claim) → put (put (begin p K.TRY 0) (two 1 ++ two k)) (claimBytes c) ≡ wrote p
+  pub try-draft : (p k : ℕ) (c : M.Claim) → put (put (begin p K.TRY 0) (two 1 ++ two k)) (claimBytes c) ≡ wrote p
       (M.TRY (branch k c ∷ []))
   unfolding actionBody
   try-draft p k c =
       put-put (begin p K.TRY 0) (two 1 ++ two k) (claimBytes c)
       ∙ ap (λ (bs : List ℕ). put (begin p K.TRY 0) (two 1 ++ (two k ++ bs))) (sym (append-nil (claimBytes c)))
 
-  try-goes : (c : G.Claim) (b : Act G.actions) (bs : Act G.branches) → Reads G.actions b → Reads G.branches bs →
-      Acts (G.try c b bs)
-  unfolding flow sheeted
-  try-goes c b bs reads-b reads-bs d s v at ts us l =
+  -- a try,
+  pub try-opens : (c : G.Claim) (d : Draft) (s : Sheet) (v : Block) (at : ℕ) (ts : List Token) (us : List Symbol) →
+      let m : Action = M.TRY (branch (blocksOf s) (claimOf (r .known) c) ∷ []) in (e : Draft)
+      × (flow place at (toBrace Tk.TRY c ts) (symbol v ∷ us) (resheeted r d s)
+      ≡ flow place (suc (suc (pastClaim c (suc (suc at))))) ts (actionsS ∷ tryS ∷ us)
+      (resheeted r e (braces (tries (wrote (place at) m) (settled s)))))
+  unfolding flow
+  try-opens c d s v at ts us =
       let k : ℕ = blocksOf s in
       let f : Draft = put (begin (place at) K.TRY 0) (two 1 ++ two k) in
-      let deep = settled-deep s in
-      let y = branch-goes c b bs reads-b reads-bs d f (settled s) (record { sized = λ z. refl }) refl (omega arith)
-      (suc at) ts us in
-      let n : ℕ = suc (suc (pastClaim c (suc (suc at)))) in
-      let go = y .1
-      ∙ ap (λ (x : Draft). flow place (pastAct (G.try c b bs) at) ts (tryS ∷ us)
-      (resheeted r (y .0) (made bs (suc (pastAct b n)) (closed (made b n (braces (tries x (settled s))))))))
-      (try-draft (place at) k (claimOf (r .known) c)) in
-      (y .0, by-block (From (G.try c b bs) d s at ts us (y .0) (made (G.try c b bs) at s)) v go go go)
+      let y = branch-opens c d f (settled s) (record { sized = λ z. refl }) refl (suc at) ts us in
+      let to : Draft → Reader = λ x. flow place (suc (suc (pastClaim c (suc (suc at))))) ts (actionsS ∷ tryS ∷ us)
+      (resheeted r (y .0) (braces (tries x (settled s)))) in
+      let go = y .1 ∙ ap to (try-draft (place at) k (claimOf (r .known) c)) in (
+        y .0,
+        by-block (λ (z : Symbol). flow place at (toBrace Tk.TRY c ts) (z ∷ us) (resheeted r d s)
+            ≡ to (wrote (place at) (M.TRY (branch k (claimOf (r .known) c) ∷ [])))) v go go go,
+      )
 
-  whole-branching : (o : Option S.Kept) → Whole (branching (resumed o))
+  try-goes : (c : G.Claim) (b : Act G.actions) (bs : Act G.branches) → Reads G.actions b → Reads G.branches bs →
+      Acts (G.try c b bs)
+  unfolding sheeted
+  try-goes c b bs reads-b reads-bs d s v at ts us l =
+      let n : ℕ = suc (suc (pastClaim c (suc (suc at)))) in
+      let m : Draft = wrote (place at) (M.TRY (branch (blocksOf s) (claimOf (r .known) c) ∷ [])) in
+      let z : Sheet = braces (tries m (settled s)) in
+      let deep : deepness z ≡ suc (deepness s) =
+      braces-deep (tries m (settled s)) ∙ ap suc (tries-deep m (settled s) ∙ settled-deep s) in
+      let x = try-opens c d s v at (spellAct b (mark Tk.RB ∷ spellAct bs ts)) us in
+      let y = branch-goes b bs reads-b reads-bs (x .0) z (omega arith) n ts us in
+      (y .0, x .1 ∙ y .1)
+
+  pub whole-branching : (o : Option S.Kept) → Whole (branching (resumed o))
   whole-branching none = record { sized = λ z. refl }
   whole-branching (some x) = record { sized = λ z. length-set (x .body) 0 _ }
 
-  kind-branching : (o : Option S.Kept) → branching (resumed o) .kind ≡ K.TRY
+  pub kind-branching : (o : Option S.Kept) → branching (resumed o) .kind ≡ K.TRY
   kind-branching none = refl
   kind-branching (some x) = refl
 
-  etry-goes : (c : G.Claim) (b : Act G.actions) (bs : Act G.branches) → Reads G.actions b → Reads G.branches bs →
-      Reads G.branches (G.etry c b bs)
-  unfolding flow sheeted
-  etry-goes c b bs reads-b reads-bs d s at ts us l =
+  -- and one more branch of a try.
+  pub etry-opens : (c : G.Claim) (d : Draft) (s : Sheet) (at : ℕ) (ts : List Token) (us : List Symbol) → (e : Draft)
+      × (flow place at (toBrace Tk.ETRY c ts) (tryS ∷ us) (resheeted r d s)
+      ≡ flow place (suc (suc (pastClaim c (suc (suc at))))) ts (actionsS ∷ tryS ∷ us)
+      (resheeted r e (braces (tries (goesOn s (claimOf (r .known) c)) s))))
+  unfolding flow
+  etry-opens c d s at ts us =
       let o : Option S.Kept = keptIn (s .levels) in
       let base : Draft = branching (resumed o) in
       let f : Draft = put base (two (blocksOf s)) in
-      let y = branch-goes c b bs reads-b reads-bs d f s (whole-put base (two (blocksOf s)) (whole-branching o))
-      (kind-put base (two (blocksOf s)) ∙ kind-branching o) l (suc at) ts us in
-      let n : ℕ = suc (suc (pastClaim c (suc (suc at)))) in (
+      let y = branch-opens c d f s (whole-put base (two (blocksOf s)) (whole-branching o))
+      (kind-put base (two (blocksOf s)) ∙ kind-branching o) (suc at) ts us in (
         y .0,
         y .1
-            ∙ ap (λ (x : Draft). flow place (pastAct (G.etry c b bs) at) ts (tryS ∷ us)
-            (resheeted r (y .0) (made bs (suc (pastAct b n)) (closed (made b n (braces (tries x s)))))))
+            ∙ ap (λ (x : Draft). flow place (suc (suc (pastClaim c (suc (suc at))))) ts (actionsS ∷ tryS ∷ us)
+            (resheeted r (y .0) (braces (tries x s))))
             (put-put base (two (blocksOf s)) (claimBytes (claimOf (r .known) c))),
       )
+
+  etry-goes : (c : G.Claim) (b : Act G.actions) (bs : Act G.branches) → Reads G.actions b → Reads G.branches bs →
+      Reads G.branches (G.etry c b bs)
+  unfolding sheeted
+  etry-goes c b bs reads-b reads-bs d s at ts us l =
+      let n : ℕ = suc (suc (pastClaim c (suc (suc at)))) in
+      let m : Draft = goesOn s (claimOf (r .known) c) in
+      let z : Sheet = braces (tries m s) in
+      let deep : deepness z ≡ suc (deepness s) = braces-deep (tries m s) ∙ ap suc (tries-deep m s) in
+      let x = etry-opens c d s at (spellAct b (mark Tk.RB ∷ spellAct bs ts)) us in
+      let y = branch-goes b bs reads-b reads-bs (x .0) z (omega arith) n ts us in
+      (y .0, x .1 ∙ y .1)
 
   -- ALL ACTIONS.
   pub acts-go : {k : Kind} (a : Act k) → Reads k a

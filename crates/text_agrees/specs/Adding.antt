@@ -346,13 +346,13 @@ module _ (place : ℕ → ℕ) where
         let a = adds-join f (declares-adds d u o (f .counting) n i x j l) in
         (a, declares-first d u ∙ first-begins at s, (let m = a .counts K.BLOCK in omega arith))
 
-    by-class : (j b : ℕ) → One (S.classes (place at) b u) (owned (R.CLASS j) at ∷ []) [] 0
+    pub by-class : (j b : ℕ) → One (S.classes (place at) b u) (owned (R.CLASS j) at ∷ []) [] 0
     by-class j b =
         let f = first-adds (place at) s c in
         let a = adds-join f (classes-adds (place at) b j at u (f .counting) refl) in
         (a, classes-first (place at) b u ∙ first-begins at s, (let m = a .counts K.BLOCK in omega arith))
 
-    by-patch : (j b : ℕ) → One (bodied j b u) [] [] 0
+    pub by-patch : (j b : ℕ) → One (bodied j b u) [] [] 0
     unfolding bodied
     by-patch j b =
         let f = first-adds (place at) s c in

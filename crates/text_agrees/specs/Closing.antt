@@ -564,10 +564,10 @@ sign-counted d s false true e = opens-counted d s
 sign-counted d s false false e = no-way e
 
 -- Of what follows a factor only a semicolon is a cut.
-abbrev Semicolon : Token → Type 0
+abbrev pub Semicolon : Token → Type 0
 Semicolon t = isCut t ≡ true → eqb (markIn t) K.SEMI ≡ true
 
-more-cut : (n : ℕ) (c : Closer) → Each (λ t ns. Semicolon t) (rows (more n c))
+pub more-cut : (n : ℕ) (c : Closer) → Each (λ t ns. Semicolon t) (rows (more n c))
 more-cut n round = (λ v q. no-way q, (λ v q. no-way q, (λ v q. no-way q, (λ v q. no-way q, tt))))
 more-cut n comma = (λ v q. no-way q, (λ v q. no-way q, (λ v q. no-way q, (λ v q. no-way q, tt))))
 more-cut n semi = (λ v q. no-way q, (λ v q. no-way q, (λ v q. no-way q, (λ v q. refl, tt))))

@@ -76,6 +76,11 @@ pastDeclaration (G.class x G.announced) at = suc (suc (suc at))
 pastDeclaration (G.class x (G.body l b)) at = suc (pastAct b (pastLocals l (suc (suc (suc at)))))
 pastDeclaration (G.entity x n) at = suc (suc (suc (suc (suc (suc (suc at))))))
 
+-- What is to come behind the locals of a class body.
+abbrev pub behindLocals : Locals → Block
+behindLocals G.noLocals = first-lines
+behindLocals (G.locals x xs) = some-actions
+
 -- THE SHEET after a declaration that begins with the token `at`, where ks are known.
 module _ (place : ℕ → ℕ) where
   unfoldable pub declared : List Known → Declaration → ℕ → Sheet → Sheet
@@ -100,7 +105,7 @@ module _ (place : ℕ → ℕ) where
   declaredAll ks (d ∷ ds) at s =
       declaredAll (remembered ks (inDeclaration d)) ds (pastDeclaration d at) (declared ks d at s)
 
-remembered-append : (ks : List Known) (es fs : List Event) → remembered ks (es ++ fs) ≡ remembered (remembered ks es) fs
+pub remembered-append : (ks : List Known) (es fs : List Event) → remembered ks (es ++ fs) ≡ remembered (remembered ks es) fs
 unfolding remembered
 remembered-append ks [] fs = refl
 remembered-append ks (e ∷ es) fs = remembered-append (remembers ks e) es fs
@@ -220,7 +225,7 @@ module _ (place : ℕ → ℕ) where
   unfolding flow declared remembered
   announced-reads z ks x p d s at ts l = (z, place (suc at), begin (place at) K.CLASS K.CLASS, refl)
 
-  local-name : (y : Name) (ks : List Known) (x : Name) (p : ℕ) (d : Draft) (s : Sheet) (at : ℕ) (ts : List Token)
+  pub local-name : (y : Name) (ks : List Known) (x : Name) (p : ℕ) (d : Draft) (s : Sheet) (at : ℕ) (ts : List Token)
       (us : List Symbol) →
       d .role ≡ LOCAL →
       flow place at (name y ∷ ts) (nameS ∷ us) (reader ks x p d s)
@@ -245,17 +250,16 @@ module _ (place : ℕ → ℕ) where
   abbrev fresh : Sheet → Sheet
   fresh t = braces t
 
-  locals-read : (ls : Locals) (ks : List Known) (x : Name) (p : ℕ) (d : Draft) (t : Sheet) (at : ℕ) (ts : List Token)
+  pub locals-read : (ls : Locals) (ks : List Known) (x : Name) (p : ℕ) (d : Draft) (t : Sheet) (at : ℕ) (ts : List Token)
       (us : List Symbol) →
-      (f : Draft) × (b : Block)
+      (f : Draft)
       × (flow place at (spellLocals ls ts) (linesS ∷ us) (reader ks x p d (fresh t))
-      ≡ flow place (pastLocals ls at) ts (symbol b ∷ us) (reader (remembered ks (inLocals ls)) x p f (fresh t)))
+      ≡ flow place (pastLocals ls at) ts (symbol (behindLocals ls) ∷ us) (reader (remembered ks (inLocals ls)) x p f (fresh t)))
   unfolding flow remembered S.settled braces
-  locals-read G.noLocals ks x p d t at ts us = (d, first-lines, refl)
+  locals-read G.noLocals ks x p d t at ts us = (d, refl)
   locals-read (G.locals y ys) ks x p d t at ts us =
       let f : Draft = begin (place at) 0 LOCAL in (
         f,
-        some-actions,
         local-name y ks x p f (fresh t) (suc at) (spellFew ys (mark Tk.SEMI ∷ ts)) (fewS No.moreLocals ∷ actionsS ∷ us) refl
             ∙ few-read ys (keeps ks (declares LOCAL y)) x p f (fresh t) (suc (suc at)) ts (actionsS ∷ us) refl,
       )
@@ -286,14 +290,15 @@ module _ (place : ℕ → ℕ) where
       let one = locals-read ls (keeps ks (embodies z)) z (place (suc at)) f t k (spellAct b (mark Tk.RB ∷ ts)) (textS ∷ []) in
       let q : Reader = reader inBody z (place (suc at)) (one .0) (fresh t) in
       let deep : deepness (fresh t) ≡ 1 = braces-deep t ∙ ap suc (no-deep ks z (place at) s l) in
-      let two' = acts-go place q b (one .0) (fresh t) (one .1) (pastLocals ls k) (mark Tk.RB ∷ ts) (textS ∷ []) (omega arith) in
+      let two' = acts-go place q b (one .0) (fresh t) (behindLocals ls) (pastLocals ls k) (mark Tk.RB ∷ ts) (textS ∷ [])
+      (omega arith) in
       let y : Sheet = sheeted place inBody b (pastLocals ls k) (fresh t) in
       let three = last-brace inBody z (place (suc at)) (two' .0) y (two' .1) (pastAct b (pastLocals ls k)) ts (textS ∷ [])
       (made-deep place q b (pastLocals ls k) (fresh t) ∙ deep) in (
         z,
         place (suc at),
         three .0,
-        one .2 ∙ two' .2 ∙ three .1
+        one .1 ∙ two' .2 ∙ three .1
             ∙ ap (λ (zs : List Known). flow place (suc (pastAct b (pastLocals ls k))) ts (textS ∷ [])
             (reader zs z (place (suc at)) (three .0) (closed y)))
             (sym (remembered-append (keeps ks (embodies z)) (inLocals ls ++ inAct b) (leaves ∷ [])
@@ -310,7 +315,7 @@ module _ (place : ℕ → ℕ) where
           either (any (named z) ks) (bodied (numberOf ks z) (blocksOf t) t) (classes p (blocksOf t) t) 0
           (bodied-deep (numberOf ks z) (blocksOf t) t ∙ first) (classes-deep p (blocksOf t) t ∙ first)
 
-  declaration-reads : (e : Declaration) → Reads e
+  pub declaration-reads : (e : Declaration) → Reads e
   declaration-reads (G.res z n) = res-reads z n
   declaration-reads (G.bin z n) = bin-reads z n
   declaration-reads (G.sync z) = sync-reads z
@@ -321,14 +326,14 @@ module _ (place : ℕ → ℕ) where
   declaration-reads (G.entity z n) = entity-reads z n
 
   -- Behind a declaration no block is open.
-  nothing-open : {A : Type 0} (xs : List A) → length xs ≡ 0 → xs ≡ []
+  pub nothing-open : {A : Type 0} (xs : List A) → length xs ≡ 0 → xs ≡ []
   nothing-open [] e = refl
   nothing-open (x ∷ xs) e = absurd (omega arith)
 
   first-open : (p : ℕ) (s : Sheet) → deepness s ≡ 0 → deepness (firstAt p s) ≡ 0
   first-open p s e = either (eqb (s .total) 0) (withFirst s p) s 0 e e
 
-  declared-open : (e : Declaration) (ks : List Known) (at : ℕ) (s : Sheet) → deepness s ≡ 0 →
+  pub declared-open : (e : Declaration) (ks : List Known) (at : ℕ) (s : Sheet) → deepness s ≡ 0 →
       deepness (declared place ks e at s) ≡ 0
   unfolding declared
   declared-open (G.res z n) ks at s h = declares-deep _ (firstAt (place at) s) ∙ first-open (place at) s h

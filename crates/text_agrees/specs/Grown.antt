@@ -73,6 +73,10 @@ abbrev pub openedAt : ℕ → ℕ → List Owned
 openedAt zero at = []
 openedAt (suc j) at = owned R.BLOCK at ∷ openedAt j at
 
+-- A try: its branches, and the token that it begins with.
+abbrev pub Try : Type 0
+Try = List Branch × ℕ
+
 abbrev pub tried : List Branch → ℕ → Owned
 tried bs o = owned (R.ACTION (M.TRY bs)) o
 
@@ -100,31 +104,33 @@ module _ (ks : List Known) where
       at-block (inside ks a own k at) _ (inside-block a own k at) (inside-block b own (k + opened a) (at + inTokens a))
 
   -- WHAT CHANGES for what is put where the next block is k and at the next token: old records, the new ones instead, and more at
-  -- the end.
-  pub data Patch : New → ℕ → ℕ → List Owned → List Owned → List Owned → Type 0 where
-    adds : {a : Act G.action} {j k at : ℕ} (f : Fresh a j) → Patch (act f) k at [] (direct ks a k at ∷ []) (openedAt j at)
-    extends : {k at : ℕ} (c : Claim) (bs : List Branch) (o : ℕ) →
-        Patch (branch c) k at (tried bs o ∷ []) (tried (bs ++ (S.branch k (claimOf ks c) ∷ [])) o ∷ []) (owned R.BLOCK o ∷ [])
+  -- the end. A branch goes on with the try w.
+  pub data Change : Try → New → ℕ → ℕ → List Owned → List Owned → List Owned → Type 0 where
+    comes : {w : Try} {a : Act G.action} {j k at : ℕ} (f : Fresh a j) →
+        Change w (act f) k at [] (direct ks a k at ∷ []) (openedAt j at)
+    goesOn : {k at : ℕ} (c : Claim) (bs : List Branch) (o : ℕ) →
+        Change (bs, o) (branch c) k at (tried bs o ∷ []) (tried (bs ++ (S.branch k (claimOf ks c) ∷ [])) o ∷ [])
+        (owned R.BLOCK o ∷ [])
 
   -- In a list.
-  pub record Patched (x : New) (k at : ℕ) (old new : List Owned) : Type 0 where
+  pub record Changed (w : Try) (x : New) (k at : ℕ) (old new : List Owned) : Type 0 where
     pub first : List Owned
     pub rest : List Owned
     pub ps : List Owned
     pub qs : List Owned
     pub more : List Owned
-    pub law : Patch x k at ps qs more
+    pub law : Change w x k at ps qs more
     pub was : old ≡ first ++ (ps ++ rest)
     pub is : new ≡ first ++ (qs ++ (rest ++ more))
     pub behind : AtBlock rest
 
   -- In the actions of a block, and behind what is inside of them.
-  record Top (x : New) (k at : ℕ) (old new inner outer : List Owned) : Type 0 where
+  record Top (w : Try) (x : New) (k at : ℕ) (old new inner outer : List Owned) : Type 0 where
     first : List Owned
     ps : List Owned
     qs : List Owned
     more : List Owned
-    law : Patch x k at ps qs more
+    law : Change w x k at ps qs more
     was : old ≡ first ++ ps
     is : new ≡ first ++ qs
     behind : outer ≡ inner ++ more
@@ -134,20 +140,21 @@ module _ (ks : List Known) where
         inside ks b own k at ≡ inside ks a own k at ++ (owned R.BLOCK own ∷ []) → Longer own k at a b (branch c)
 
   -- So many tokens are before it.
-  abbrev Effect : (j : Kind) → New → ℕ → ℕ → (own k at : ℕ) → Act j → Act j → Type 0
-  Effect G.action x zero l own k at a b =
-      Top x (k + opened a) (at + l) (direct ks a k at ∷ []) (direct ks b k at ∷ []) (inside ks a own k at) (inside ks b own k at)
-  Effect G.actions x zero l own k at a b =
-      Top x (k + opened a) (at + l) (direct ks a k at) (direct ks b k at) (inside ks a own k at) (inside ks b own k at)
-  Effect G.branches x zero l own k at a b = Longer own k at a b x
-  Effect j x (suc n) l own k at a b =
+  abbrev Effect : Try → (j : Kind) → New → ℕ → ℕ → (own k at : ℕ) → Act j → Act j → Type 0
+  Effect w G.action x zero l own k at a b =
+      Top w x (k + opened a) (at + l) (direct ks a k at ∷ []) (direct ks b k at ∷ []) (inside ks a own k at)
+      (inside ks b own k at)
+  Effect w G.actions x zero l own k at a b =
+      Top w x (k + opened a) (at + l) (direct ks a k at) (direct ks b k at) (inside ks a own k at) (inside ks b own k at)
+  Effect w G.branches x zero l own k at a b = Longer own k at a b x
+  Effect w j x (suc n) l own k at a b =
       (direct ks b k at ≡ direct ks a k at)
-      × Patched x (k + opened a) (at + l) (inside ks a own k at) (inside ks b own k at)
+      × Changed w x (k + opened a) (at + l) (inside ks a own k at) (inside ks b own k at)
 
   -- Behind other records; and what stands in a block with what is inside.
-  patched-behind : {x : New} {k at : ℕ} (os : List Owned) {old new : List Owned} → Patched x k at old new →
-      Patched x k at (os ++ old) (os ++ new)
-  patched-behind os p =
+  changed-behind : {w : Try} {x : New} {k at : ℕ} (os : List Owned) {old new : List Owned} → Changed w x k at old new →
+      Changed w x k at (os ++ old) (os ++ new)
+  changed-behind os p =
       record {
         first = os ++ p .first;
         rest = p .rest;
@@ -161,17 +168,18 @@ module _ (ks : List Known) where
       }
 
   -- From elsewhere.
-  patched-at : {x : New} {k m at to : ℕ} {old new : List Owned} → k ≡ m → at ≡ to → Patched x k at old new →
-      Patched x m to old new
-  patched-at {x} {old = old} {new = new} e f p = subst₂ (λ (k at : ℕ). Patched x k at old new) e f p
+  changed-at : {w : Try} {x : New} {k m at to : ℕ} {old new : List Owned} → k ≡ m → at ≡ to → Changed w x k at old new →
+      Changed w x m to old new
+  changed-at {w} {x} {old = old} {new = new} e f p = subst₂ (λ (k at : ℕ). Changed w x k at old new) e f p
 
-  patched-as : {x : New} {k at : ℕ} {old new ps qs : List Owned} → old ≡ ps → new ≡ qs → Patched x k at old new →
-      Patched x k at ps qs
-  patched-as {x} {k} {at} e f p = subst₂ (λ (zs ys : List Owned). Patched x k at zs ys) e f p
+  changed-as : {w : Try} {x : New} {k at : ℕ} {old new ps qs : List Owned} → old ≡ ps → new ≡ qs → Changed w x k at old new →
+      Changed w x k at ps qs
+  changed-as {w} {x} {k} {at} e f p = subst₂ (λ (zs ys : List Owned). Changed w x k at zs ys) e f p
 
-  top-patched : {x : New} {k at : ℕ} {old new inner outer : List Owned} → AtBlock inner → Top x k at old new inner outer →
-      Patched x k at (old ++ inner) (new ++ outer)
-  top-patched {inner = inner} h t =
+  top-changed : {w : Try} {x : New} {k at : ℕ} {old new inner outer : List Owned} → AtBlock inner →
+      Top w x k at old new inner outer →
+      Changed w x k at (old ++ inner) (new ++ outer)
+  top-changed {inner = inner} h t =
       record {
         first = t .first;
         rest = inner;
@@ -184,23 +192,24 @@ module _ (ks : List Known) where
         behind = h;
       }
 
-  in-block : {x : New} (n l own k at : ℕ) (a b : Act G.actions) → Effect G.actions x n l own k at a b →
-      Patched x (k + opened a) (at + l) (direct ks a k at ++ inside ks a own k at) (direct ks b k at ++ inside ks b own k at)
-  in-block zero l own k at a b t = top-patched (inside-block a own k at) t
-  in-block (suc n) l own k at a b t = rw (t .0) (patched-behind (direct ks a k at) (t .1))
+  in-block : {w : Try} {x : New} (n l own k at : ℕ) (a b : Act G.actions) → Effect w G.actions x n l own k at a b →
+      Changed w x (k + opened a) (at + l) (direct ks a k at ++ inside ks a own k at) (direct ks b k at ++ inside ks b own k at)
+  in-block zero l own k at a b t = top-changed (inside-block a own k at) t
+  in-block (suc n) l own k at a b t = rw (t .0) (changed-behind (direct ks a k at) (t .1))
 
   -- WHERE SOMETHING IS PUT right at the end.
-  top-at : {x : New} {k m at to : ℕ} {old new inner outer : List Owned} → k ≡ m → at ≡ to → Top x k at old new inner outer →
-      Top x m to old new inner outer
-  top-at {x} {old = old} {new = new} {inner = inner} {outer = outer} e f t =
-      subst₂ (λ (k at : ℕ). Top x k at old new inner outer) e f t
+  top-at : {w : Try} {x : New} {k m at to : ℕ} {old new inner outer : List Owned} → k ≡ m → at ≡ to →
+      Top w x k at old new inner outer →
+      Top w x m to old new inner outer
+  top-at {w} {x} {old = old} {new = new} {inner = inner} {outer = outer} e f t =
+      subst₂ (λ (k at : ℕ). Top w x k at old new inner outer) e f t
 
-  top-as : {x : New} {k at : ℕ} {old new inner outer is os : List Owned} → inner ≡ is → outer ≡ os →
-      Top x k at old new inner outer → Top x k at old new is os
-  top-as {x} {k} {at} {old} {new} e f t = subst₂ (λ (zs ys : List Owned). Top x k at old new zs ys) e f t
+  top-as : {w : Try} {x : New} {k at : ℕ} {old new inner outer is os : List Owned} → inner ≡ is → outer ≡ os →
+      Top w x k at old new inner outer → Top w x k at old new is os
+  top-as {w} {x} {k} {at} {old} {new} e f t = subst₂ (λ (zs ys : List Owned). Top w x k at old new zs ys) e f t
 
-  top-behind : {x : New} {k at : ℕ} (os : List Owned) (is : List Owned) {old new inner outer : List Owned} →
-      Top x k at old new inner outer → Top x k at (os ++ old) (os ++ new) (is ++ inner) (is ++ outer)
+  top-behind : {w : Try} {x : New} {k at : ℕ} (os : List Owned) (is : List Owned) {old new inner outer : List Owned} →
+      Top w x k at old new inner outer → Top w x k at (os ++ old) (os ++ new) (is ++ inner) (is ++ outer)
   top-behind os is {inner = inner} t =
       record {
         first = os ++ t .first;
@@ -230,9 +239,9 @@ module _ (ks : List Known) where
   fresh-inside (N.try c) own k at = refl
   fresh-inside (N.while c) own k at = refl
 
-  action-put : {a : Act G.action} {j : ℕ} (f : Fresh a j) (own k at : ℕ) →
-      Top (act f) (k + 0) (at + 0) [] (direct ks a k at ∷ []) [] (inside ks a own k at ++ [])
-  action-put {a} {j} f own k at =
+  action-put : {w : Try} {a : Act G.action} {j : ℕ} (f : Fresh a j) (own k at : ℕ) →
+      Top w (act f) (k + 0) (at + 0) [] (direct ks a k at ∷ []) [] (inside ks a own k at ++ [])
+  action-put {a = a} {j = j} f own k at =
       let e : k ≡ k + 0 = omega arith in
       let g : at ≡ at + 0 = omega arith in
       record {
@@ -240,7 +249,7 @@ module _ (ks : List Known) where
         ps = [];
         qs = direct ks a (k + 0) (at + 0) ∷ [];
         more = openedAt j (at + 0);
-        law = adds f;
+        law = comes f;
         was = refl;
         is = ap₂ (λ (m n : ℕ). direct ks a m n ∷ []) e g;
         behind = append-nil _ ∙ fresh-inside f own k at ∙ ap (λ (n : ℕ). openedAt j n) g;
@@ -249,7 +258,8 @@ module _ (ks : List Known) where
   -- Branches behind the first.
   module _ (c : Claim) (d : Act G.actions) {a b : Act G.branches} (k at : ℕ) where
     try-put : {x : New} (own to : ℕ) → Longer at (suc k + opened d) (at + toTry c + inBraces d) a b x →
-        Top x (k + opened (G.try c d a)) to (direct ks (G.try c d a) k at ∷ []) (direct ks (G.try c d b) k at ∷ [])
+        Top (S.branch k (claimOf ks c) ∷ direct ks a (suc k + opened d) (at + toTry c + inBraces d), at) x
+        (k + opened (G.try c d a)) to (direct ks (G.try c d a) k at ∷ []) (direct ks (G.try c d b) k at ∷ [])
         (inside ks (G.try c d a) own k at) (inside ks (G.try c d b) own k at)
     unfolding inside direct opened
     try-put own to (longer {c = e} f g) =
@@ -263,7 +273,7 @@ module _ (ks : List Known) where
           ps = tried old at ∷ [];
           qs = tried (old ++ (S.branch n (claimOf ks e) ∷ [])) at ∷ [];
           more = owned R.BLOCK at ∷ [];
-          law = extends e old at;
+          law = goesOn e old at;
           was = refl;
           is = ap (λ bs. tried (S.branch k (claimOf ks c) ∷ bs) at ∷ [])
               (f
@@ -284,69 +294,134 @@ module _ (ks : List Known) where
         (f ∙ ap (λ (m : ℕ). direct ks a (suc k + opened d) (at + toTry c + inBraces d) ++ (S.branch m (claimOf ks e) ∷ [])) h))
         (ap (λ zs. os ++ zs) g ∙ sym (append-assoc os _ _))
 
-  effect : {j : Kind} {x : New} {n : ℕ} {a b : Act j} (p : Put j x n a b) (own k at : ℕ) →
-      Effect j x n (length (before p [])) own k at a b
+  -- The try that a branch goes on with, by its branches and the token that it begins with; before these branches are xs.
+  abbrev pub lastTry : {j : Kind} {x : New} {n : ℕ} {a b : Act j} → Put j x n a b → (own k at : ℕ) → List Branch → Try
+  lastTry (inDo m p) own k at xs = lastTry p own (suc k) (at + toDo m) xs
+  lastTry (inWhile c p) own k at xs = lastTry p own (suc k) (at + toWhile c) xs
+  lastTry (inTry c p) own k at xs = lastTry p own (suc k) (at + toTry c) xs
+  lastTry (inBranches c d p) own k at xs =
+      lastTry p at (suc k + opened d) (at + toTry c + inBraces d) (S.branch k (claimOf ks c) ∷ [])
+  lastTry (newBranch c) own k at xs = (xs, own)
+  lastTry (inBranch c p) own k at xs = lastTry p own (suc k) (at + toTry c) xs
+  lastTry (moreBranches c d p) own k at xs =
+      lastTry p own (suc k + opened d) (at + toTry c + inBraces d) (xs ++ (S.branch k (claimOf ks c) ∷ []))
+  lastTry (newAction f) own k at xs = ([], 0)
+  lastTry (inLast p) own k at xs = lastTry p own k at xs
+  lastTry (further c p) own k at xs = lastTry p own (k + opened c) (at + inTokens c) xs
+
+  branches-try : {x : New} {a b : Act G.branches} (p : Put G.branches x zero a b) (own k at : ℕ) (xs : List Branch) →
+      lastTry p own k at xs ≡ (xs ++ direct ks a k at, own)
+  unfolding direct
+  branches-try (newBranch c) own k at xs = ap (λ bs. (bs, own)) (sym (append-nil xs))
+  branches-try (moreBranches c d p) own k at xs =
+      branches-try p own (suc k + opened d) (at + toTry c + inBraces d) (xs ++ (S.branch k (claimOf ks c) ∷ []))
+      ∙ ap (λ bs. (bs, own)) (append-assoc xs (S.branch k (claimOf ks c) ∷ []) _)
+
+  top-try : {w v : Try} {x : New} {k at : ℕ} {old new inner outer : List Owned} → w ≡ v → Top v x k at old new inner outer →
+      Top w x k at old new inner outer
+  top-try {x = x} {k = k} {at = at} {old = old} {new = new} {inner = inner} {outer = outer} e t =
+      subst (λ (w : Try). Top w x k at old new inner outer) (sym e) t
+
+  effect : {j : Kind} {x : New} {n : ℕ} {a b : Act j} (p : Put j x n a b) (own k at : ℕ) (xs : List Branch) →
+      Effect (lastTry p own k at xs) j x n (length (before p [])) own k at a b
   unfolding inside direct opened before
-  effect (inDo {n = n} {a = a} {b = b} m p) own k at = (
+  effect (inDo {n = n} {a = a} {b = b} m p) own k at xs = (
     refl,
-    patched-at (omega arith) (omega arith) (patched-behind (owned R.BLOCK at ∷ [])
-        (in-block n _ own (suc k) (at + toDo m) a b (effect p own (suc k) (at + toDo m)))),
+    changed-at (omega arith) (omega arith) (changed-behind (owned R.BLOCK at ∷ [])
+        (in-block n _ own (suc k) (at + toDo m) a b (effect p own (suc k) (at + toDo m) xs))),
   )
-  effect (inWhile {n = n} {a = a} {b = b} c p) own k at = (
+  effect (inWhile {n = n} {a = a} {b = b} c p) own k at xs = (
     refl,
-    patched-at (omega arith) (omega (arith, to-while c (before p []))) (patched-behind (owned R.BLOCK at ∷ [])
-        (in-block n _ own (suc k) (at + toWhile c) a b (effect p own (suc k) (at + toWhile c)))),
+    changed-at (omega arith) (omega (arith, to-while c (before p []))) (changed-behind (owned R.BLOCK at ∷ [])
+        (in-block n _ own (suc k) (at + toWhile c) a b (effect p own (suc k) (at + toWhile c) xs))),
   )
-  effect (inTry {n = n} {a = a} {b = b} c p) own k at = (
+  effect (inTry {n = n} {a = a} {b = b} c p) own k at xs = (
     refl,
-    patched-at (omega arith) (omega (arith, to-try Tk.TRY c (before p [])))
-        (patched-as (sym (append-nil _)) (sym (append-nil _)) (patched-behind (owned R.BLOCK at ∷ [])
-        (in-block n _ own (suc k) (at + toTry c) a b (effect p own (suc k) (at + toTry c))))),
+    changed-at (omega arith) (omega (arith, to-try Tk.TRY c (before p [])))
+        (changed-as (sym (append-nil _)) (sym (append-nil _)) (changed-behind (owned R.BLOCK at ∷ [])
+        (in-block n _ own (suc k) (at + toTry c) a b (effect p own (suc k) (at + toTry c) xs)))),
   )
-  effect (inBranches {n = zero} c d p) own k at =
-      try-put c d k at own _ (effect p at (suc k + opened d) (at + toTry c + inBraces d))
-  effect (inBranches {n = suc n} c d p) own k at =
-      let e = effect p at (suc k + opened d) (at + toTry c + inBraces d) in (
+  effect (inBranches {n = zero} c d p) own k at xs =
+      top-try (branches-try p at (suc k + opened d) (at + toTry c + inBraces d) (S.branch k (claimOf ks c) ∷ []))
+      (try-put c d k at own _ (effect p at (suc k + opened d) (at + toTry c + inBraces d) (S.branch k (claimOf ks c) ∷ [])))
+  effect (inBranches {n = suc n} c d p) own k at xs =
+      let e = effect p at (suc k + opened d) (at + toTry c + inBraces d) (S.branch k (claimOf ks c) ∷ []) in (
         ap (λ bs. tried (S.branch k (claimOf ks c) ∷ bs) at) (e .0),
-        patched-at (omega arith)
+        changed-at (omega arith)
             (omega (arith, to-try Tk.TRY c (spellAct d (mark Tk.RB ∷ before p [])), in-braces d (before p [])))
-            (patched-behind (owned R.BLOCK at ∷ direct ks d (suc k) (at + toTry c) ++ inside ks d own (suc k) (at + toTry c))
+            (changed-behind (owned R.BLOCK at ∷ direct ks d (suc k) (at + toTry c) ++ inside ks d own (suc k) (at + toTry c))
             (e .1)),
       )
-  effect (newBranch c) own k at = longer (ap (λ (m : ℕ). S.branch m (claimOf ks c) ∷ []) (omega arith)) refl
-  effect (inBranch {n = n} {a = a} {b = b} c p) own k at = (
+  effect (newBranch c) own k at xs = longer (ap (λ (m : ℕ). S.branch m (claimOf ks c) ∷ []) (omega arith)) refl
+  effect (inBranch {n = n} {a = a} {b = b} c p) own k at xs = (
     refl,
-    patched-at (omega arith) (omega (arith, to-try Tk.ETRY c (before p [])))
-        (patched-as (sym (append-nil _)) (sym (append-nil _)) (patched-behind (owned R.BLOCK own ∷ [])
-        (in-block n _ own (suc k) (at + toTry c) a b (effect p own (suc k) (at + toTry c))))),
+    changed-at (omega arith) (omega (arith, to-try Tk.ETRY c (before p [])))
+        (changed-as (sym (append-nil _)) (sym (append-nil _)) (changed-behind (owned R.BLOCK own ∷ [])
+        (in-block n _ own (suc k) (at + toTry c) a b (effect p own (suc k) (at + toTry c) xs)))),
   )
-  effect (moreBranches {n = zero} c d p) own k at =
-      etry-put c d k at own (effect p own (suc k + opened d) (at + toTry c + inBraces d))
-  effect (moreBranches {n = suc n} c d p) own k at =
-      let e = effect p own (suc k + opened d) (at + toTry c + inBraces d) in (
+  effect (moreBranches {n = zero} c d p) own k at xs =
+      etry-put c d k at own
+      (effect p own (suc k + opened d) (at + toTry c + inBraces d) (xs ++ (S.branch k (claimOf ks c) ∷ [])))
+  effect (moreBranches {n = suc n} c d p) own k at xs =
+      let e = effect p own (suc k + opened d) (at + toTry c + inBraces d) (xs ++ (S.branch k (claimOf ks c) ∷ [])) in (
         ap (λ (bs : List Branch). S.branch k (claimOf ks c) ∷ bs) (e .0),
-        patched-at (omega arith)
+        changed-at (omega arith)
             (omega (arith, to-try Tk.ETRY c (spellAct d (mark Tk.RB ∷ before p [])), in-braces d (before p [])))
-            (patched-behind (owned R.BLOCK own ∷ direct ks d (suc k) (at + toTry c) ++ inside ks d own (suc k) (at + toTry c))
+            (changed-behind (owned R.BLOCK own ∷ direct ks d (suc k) (at + toTry c) ++ inside ks d own (suc k) (at + toTry c))
             (e .1)),
       )
-  effect (newAction f) own k at = action-put f own k at
-  effect (inLast {n = zero} p) own k at =
-      top-as (sym (append-nil _)) (sym (append-nil _)) (top-at (omega arith) refl (effect p own k at))
-  effect (inLast {n = suc n} p) own k at =
-      let e = effect p own k at in (
+  effect (newAction f) own k at xs = action-put f own k at
+  effect (inLast {n = zero} p) own k at xs =
+      top-as (sym (append-nil _)) (sym (append-nil _)) (top-at (omega arith) refl (effect p own k at xs))
+  effect (inLast {n = suc n} p) own k at xs =
+      let e = effect p own k at xs in (
         ap (λ o. o ∷ []) (e .0),
-        patched-as (sym (append-nil _)) (sym (append-nil _)) (patched-at (omega arith) refl (e .1)),
+        changed-as (sym (append-nil _)) (sym (append-nil _)) (changed-at (omega arith) refl (e .1)),
       )
-  effect (further {n = zero} c p) own k at =
+  effect (further {n = zero} c p) own k at xs =
       top-at (omega arith) (omega (arith, in-tokens c (before p [])))
-      (top-behind (direct ks c k at ∷ []) (inside ks c own k at) (effect p own (k + opened c) (at + inTokens c)))
-  effect (further {n = suc n} c p) own k at =
-      let e = effect p own (k + opened c) (at + inTokens c) in (
+      (top-behind (direct ks c k at ∷ []) (inside ks c own k at) (effect p own (k + opened c) (at + inTokens c) xs))
+  effect (further {n = suc n} c p) own k at xs =
+      let e = effect p own (k + opened c) (at + inTokens c) xs in (
         ap (λ os. direct ks c k at ∷ os) (e .0),
-        patched-at (omega arith) (omega (arith, in-tokens c (before p [])))
-            (patched-behind (inside ks c own k at) (e .1)),
+        changed-at (omega arith) (omega (arith, in-tokens c (before p [])))
+            (changed-behind (inside ks c own k at) (e .1)),
       )
+
+  -- .. whatever try it is.
+  pub data Patch : New → ℕ → ℕ → List Owned → List Owned → List Owned → Type 0 where
+    adds : {a : Act G.action} {j k at : ℕ} (f : Fresh a j) → Patch (act f) k at [] (direct ks a k at ∷ []) (openedAt j at)
+    extends : {k at : ℕ} (c : Claim) (bs : List Branch) (o : ℕ) →
+        Patch (branch c) k at (tried bs o ∷ []) (tried (bs ++ (S.branch k (claimOf ks c) ∷ [])) o ∷ []) (owned R.BLOCK o ∷ [])
+
+  pub record Patched (x : New) (k at : ℕ) (old new : List Owned) : Type 0 where
+    pub first : List Owned
+    pub rest : List Owned
+    pub ps : List Owned
+    pub qs : List Owned
+    pub more : List Owned
+    pub law : Patch x k at ps qs more
+    pub was : old ≡ first ++ (ps ++ rest)
+    pub is : new ≡ first ++ (qs ++ (rest ++ more))
+    pub behind : AtBlock rest
+
+  patch : {w : Try} {x : New} {k at : ℕ} {ps qs more : List Owned} → Change w x k at ps qs more → Patch x k at ps qs more
+  patch (comes f) = adds f
+  patch (goesOn c bs o) = extends c bs o
+
+  patched : {w : Try} {x : New} {k at : ℕ} {old new : List Owned} → Changed w x k at old new → Patched x k at old new
+  patched c =
+      record {
+        first = c .first;
+        rest = c .rest;
+        ps = c .ps;
+        qs = c .qs;
+        more = c .more;
+        law = patch (c .law);
+        was = c .was;
+        is = c .is;
+        behind = c .behind;
+      }
 
 -- A TEXT: so many blocks are opened.
 abbrev pub openedIn : Text → ℕ
@@ -424,26 +499,34 @@ module _ (ds : Text) (y : Name) (l : Locals) where
   abbrev pub inScope : List Known
   inScope = after (after [] (events ds)) (embodies y ∷ inLocals l)
 
-  pub grown-within : {x : New} {n : ℕ} {a b : Act G.actions} (p : Put G.actions x n a b) →
-      Patched inScope x (openedIn (ending ds y l a)) (length (ahead ds y l p []))
+  pub changed-within : {x : New} {n : ℕ} {a b : Act G.actions} (p : Put G.actions x n a b) →
+      Changed inScope (lastTry inScope p (length (lines ds [])) (suc (openedIn ds)) (length (lines ds []) + toBody l) []) x
+      (openedIn (ending ds y l a)) (length (ahead ds y l p []))
       (records (ending ds y l a)) (records (ending ds y l b))
   unfolding records blocks
-  grown-within {n = n} {a = a} {b = b} p =
+  changed-within {x = x} {n = n} {a = a} {b = b} p =
       let k : ℕ = 0 + openedIn ds in
       let at : ℕ = 0 + length (lines ds []) in
       let to : ℕ = at + toBody l in
       let e = opened-last ds (G.class y (G.body l a)) in
       let f = long (lines ds) (lines-plain ds) (mark Tk.CLASS ∷ Tk.name y ∷ mark Tk.LB ∷ spellLocals l (before p [])) in
       let g = long (spellLocals l) (locals-plain l) (before p []) in
-      patched-at inScope (omega arith) (omega arith)
-      (patched-as inScope refl
+      subst₂ (λ (i j : ℕ). Changed inScope (lastTry inScope p i (suc j) (i + toBody l) []) x (openedIn (ending ds y l a))
+      (length (ahead ds y l p [])) (records (ending ds y l a)) (records (ending ds y l b))) (omega arith) (omega arith)
+      (changed-at inScope (omega arith) (omega arith)
+      (changed-as inScope refl
       (ap (λ os. os ++ blocks [] 0 0 (ending ds y l b)) (same-declarations [] 0 0 ds y l l a b))
-      (patched-behind inScope (declarations [] 0 0 (ending ds y l a))
-      (patched-as inScope (sym (blocks-last [] 0 0 ds (G.class y (G.body l a))))
+      (changed-behind inScope (declarations [] 0 0 (ending ds y l a))
+      (changed-as inScope (sym (blocks-last [] 0 0 ds (G.class y (G.body l a))))
       (sym (blocks-last [] 0 0 ds (G.class y (G.body l b))))
-      (patched-behind inScope (blocks [] 0 0 ds)
-      (patched-behind inScope (owned R.BLOCK at ∷ [])
-      (in-block inScope n (length (before p [])) at (suc k) to a b (effect inScope p at (suc k) to)))))))
+      (changed-behind inScope (blocks [] 0 0 ds)
+      (changed-behind inScope (owned R.BLOCK at ∷ [])
+      (in-block inScope n (length (before p [])) at (suc k) to a b (effect inScope p at (suc k) to []))))))))
+
+  pub grown-within : {x : New} {n : ℕ} {a b : Act G.actions} (p : Put G.actions x n a b) →
+      Patched inScope x (openedIn (ending ds y l a)) (length (ahead ds y l p []))
+      (records (ending ds y l a)) (records (ending ds y l b))
+  grown-within p = patched inScope (changed-within p)
 
 -- A DECLARATION MORE. It changes no body that is found before it,
 body-last : (x : Name) (k : ℕ) (ds : Text) (d : Declaration) → embodied x d ≡ false →

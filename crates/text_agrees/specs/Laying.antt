@@ -52,11 +52,11 @@ put-short : (d : Draft) (bs : List ℕ) → d .over ≡ false → d .size + leng
 unfolding put
 put-short d bs e h = rw (e, le-ltb KEPT (d .size + length bs) h)
 
-wrote-short : (p : ℕ) (a : Action) → length (actionBody a) ≤ KEPT
+pub wrote-short : (p : ℕ) (a : Action) → length (actionBody a) ≤ KEPT
     → wrote p a .body ≡ actionBody a
 wrote-short p a h = put-short (begin p (M.kindOf a) 0) (actionBody a) refl (omega arith)
 
-wrote-size : (p : ℕ) (a : Action) → wrote p a .size ≡ min FULL (length (actionBody a))
+pub wrote-size : (p : ℕ) (a : Action) → wrote p a .size ≡ min FULL (length (actionBody a))
 unfolding put
 wrote-size p a = omega arith
 
@@ -64,11 +64,11 @@ action-bytes : (a : Action) → headed (M.kindOf a) (actionBody a) ≡ bytesOf (
 unfolding bytesOf
 action-bytes a = refl
 
-action-size : (a : Action) → length (bodyOf (R.ACTION a)) ≡ length (actionBody a)
+pub action-size : (a : Action) → length (bodyOf (R.ACTION a)) ≡ length (actionBody a)
 unfolding bodyOf
 action-size a = refl
 
-wrote-kind : (p : ℕ) (a : Action) → (wrote p a .kind ≡ M.kindOf a) × (wrote p a .line ≡ p)
+pub wrote-kind : (p : ℕ) (a : Action) → (wrote p a .kind ≡ M.kindOf a) × (wrote p a .line ≡ p)
 unfolding put
 wrote-kind p a = (refl, refl)
 
@@ -83,7 +83,7 @@ branches-long [] = omega arith
 branches-long (b ∷ bs) =
     let ih = branches-long bs in let l = length-append (branchBytes b) (collect branchBytes bs) in omega arith
 
-try-long : (bs : List Branch) → length (actionBody (M.TRY bs)) ≡ 2 + length (collect branchBytes bs)
+pub try-long : (bs : List Branch) → length (actionBody (M.TRY bs)) ≡ 2 + length (collect branchBytes bs)
 unfolding actionBody
 try-long bs = omega arith
 
@@ -104,7 +104,7 @@ module _ (bs : List Branch) (b : Branch) where
   abbrev more : List Branch
   more = bs ++ (b ∷ [])
 
-  more-long : length (actionBody (M.TRY more)) ≡ length (actionBody (M.TRY bs)) + length (branchBytes b)
+  pub more-long : length (actionBody (M.TRY more)) ≡ length (actionBody (M.TRY bs)) + length (branchBytes b)
   more-long =
       let x = try-long bs in
       let y = try-long more in
@@ -134,11 +134,11 @@ module _ (bs : List Branch) (b : Branch) where
     on-kept : goesOn s (b .claim) ≡ put (branching (resumed (some x))) came
     on-kept = ap (λ o. put (branching (resumed o)) came) e
 
-    more-size : goesOn s (b .claim) .size ≡ min FULL (length (actionBody (M.TRY bs)) + length (branchBytes b))
+    pub more-size : goesOn s (b .claim) .size ≡ min FULL (length (actionBody (M.TRY bs)) + length (branchBytes b))
     unfolding put
     more-size = ap (λ u. u .size) on-kept ∙ ap (λ cs. min FULL (length cs + length came)) f
 
-    more-draft : blocksOf s ≡ b .block → length (actionBody (M.TRY more)) ≤ KEPT
+    pub more-draft : blocksOf s ≡ b .block → length (actionBody (M.TRY more)) ≤ KEPT
         → goesOn s (b .claim) .body ≡ actionBody (M.TRY more)
     more-draft g h =
         let y = more-long in
@@ -165,11 +165,11 @@ pub record Laid (place : ℕ → ℕ) (P : Type 0) (s : Sheet) (b : ℕ) (o : Op
   pub grew : Grew place s t n (weight ns + 4 * n) ns
   pub lays : P → Lays s (waiting b o) t (waiting b now) ns
 
-record Done (place : ℕ → ℕ) (P : Type 0) (s : Sheet) (b : ℕ) (o : Option Kept) (ls : List Level) (t : Sheet) (n : ℕ)
+pub record Done (place : ℕ → ℕ) (P : Type 0) (s : Sheet) (b : ℕ) (o : Option Kept) (ls : List Level) (t : Sheet) (n : ℕ)
     (ns : List Note) : Type 0 where
-  levels : t .levels ≡ level b none ∷ ls
-  grew : Grew place s t n (weight ns + 4 * n) ns
-  lays : P → Lays s (waiting b o) t [] ns
+  pub levels : t .levels ≡ level b none ∷ ls
+  pub grew : Grew place s t n (weight ns + 4 * n) ns
+  pub lays : P → Lays s (waiting b o) t [] ns
 
 pub record Begun (place : ℕ → ℕ) (P : Type 0) (s : Sheet) (k : ℕ) (t : Sheet) (n : ℕ) (ns : List Note) : Type 0 where
   pub now : Option Kept
@@ -286,7 +286,7 @@ module _ (place : ℕ → ℕ) (n : Note) (k hi : ℕ) (ns ms rs : List Note) (i
 
 module _ (place : ℕ → ℕ) where
   -- STEP BY STEP. A simple action.
-  simple-done : (a : Action) (p at : ℕ) (s : Sheet) (b : ℕ) (o : Option Kept) (ls : List Level) (k : ℕ) → p ≡ at
+  pub simple-done : (a : Action) (p at : ℕ) (s : Sheet) (b : ℕ) (o : Option Kept) (ls : List Level) (k : ℕ) → p ≡ at
       → From s b o ls k
       → Done place (Short (owned (R.ACTION a) at)) s b o ls (acts (wrote (place p) a) (settled s)) 0
       (note b (owned (R.ACTION a) at) ∷ [])

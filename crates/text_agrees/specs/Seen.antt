@@ -183,7 +183,7 @@ saw-stands k bs z =
     saw-if (leb F.mostActions (length (z .pieces)) || ltb F.longestFile (z .staged + length (S.headed k bs))) _ _
     (record { is = refl }) (record { is = refl })
 
-saw-acts : (d : Draft) (z : Sheet) → Saw (acts d z) (W.more (z .seen) K.ACTION 1)
+pub saw-acts : (d : Draft) (z : Sheet) → Saw (acts d z) (W.more (z .seen) K.ACTION 1)
 unfolding acts
 saw-acts d z = record { is = saw-stands (d .kind) (d .body) (counts d z) .is ∙ saw-counts d z .is }
 

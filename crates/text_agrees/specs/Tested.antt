@@ -100,7 +100,7 @@ behind ts h =
     go (wrong n v) e = e
 
 -- Where the pile of tokens is a class line's body, the next event of that tree is the body's.
-is-body : (s : Symbol) → isBody s ≡ true → s ≡ bodyS
+pub is-body : (s : Symbol) → isBody s ≡ true → s ≡ bodyS
 is-body (one x) h = never h
 is-body (factorS n) h = never h
 is-body (minusS n) h = never h

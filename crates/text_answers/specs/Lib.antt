@@ -18,3 +18,16 @@ pub mod Opening
 pub mod Agreeing
 pub mod Shrinking
 pub mod Taking
+pub mod Drawn
+pub mod Acted
+pub mod Stated
+pub mod Halted
+pub mod Lined
+pub mod Begun
+pub mod Founds
+pub mod Decided
+pub mod Classed
+pub mod Bodied
+pub mod Sunk
+pub mod Within
+pub mod Findings

@@ -14,7 +14,7 @@ abbrev pub Plain : (List Token → List Token) → Type 0
 Plain f = (r : List Token) → f r ≡ f [] ++ r
 
 -- One behind the other, behind tokens, and before tokens.
-two : (f g : List Token → List Token) → Plain f → Plain g → Plain (λ r. f (g r))
+pub two : (f g : List Token → List Token) → Plain f → Plain g → Plain (λ r. f (g r))
 two f g p q r =
     p (g r) ∙ ap (λ l. f [] ++ l) (q r) ∙ sym (append-assoc (f []) (g []) r) ∙ ap (λ l. l ++ r) (sym (p (g [])))
 
@@ -26,7 +26,7 @@ before f ks p r =
     p (ks ++ r) ∙ sym (append-assoc (f []) ks r)
     ∙ ap (λ l. l ++ r) (sym (p (ks ++ []) ∙ ap (λ l. f [] ++ l) (append-nil ks)))
 
-ex-plain : {p : Part} (v : Ex p) → Plain (spell v)
+pub ex-plain : {p : Part} (v : Ex p) → Plain (spell v)
 ex-plain (G.sum t ts) = two (spell t) (spell ts) (ex-plain t) (ex-plain ts)
 ex-plain G.noTerms = λ r. refl
 ex-plain (G.plus t ts) =
@@ -55,7 +55,7 @@ ex-plain (G.greater a b) =
     (two (λ r. spell a (mark K.COMMA ∷ r)) (λ r. spell b (mark K.RP ∷ r))
     (before (spell a) (mark K.COMMA ∷ []) (ex-plain a)) (before (spell b) (mark K.RP ∷ []) (ex-plain b)))
 
-signed-plain : (n : Signed) → Plain (spellSigned n)
+pub signed-plain : (n : Signed) → Plain (spellSigned n)
 signed-plain (G.upward n) = λ r. refl
 signed-plain (G.downward n) = λ r. refl
 
@@ -81,7 +81,7 @@ given-plain : (gs : List Give) → Plain (spellGiven gs)
 given-plain [] = λ r. refl
 given-plain (G.give x n ∷ gs) = behind (mark K.COMMA ∷ pair x n []) (spellGiven gs) (given-plain gs)
 
-gives-plain : (g : Gives) → Plain (spellGives g)
+pub gives-plain : (g : Gives) → Plain (spellGives g)
 gives-plain G.noGives = λ r. refl
 gives-plain (G.gives x n gs) =
     behind (mark K.COMMA ∷ mark K.LS ∷ pair x n []) (λ r. spellGiven gs (mark K.RS ∷ r))
@@ -128,7 +128,7 @@ act-plain (G.etry c b bs) =
 act-plain G.noActions = λ r. refl
 act-plain (G.follow a b) = two (spellAct a) (spellAct b) (act-plain a) (act-plain b)
 
-few-plain : {k : ℕ} (xs : Few k) → Plain (spellFew xs)
+pub few-plain : {k : ℕ} (xs : Few k) → Plain (spellFew xs)
 few-plain G.noNames = λ r. refl
 few-plain (G.also x xs) = behind (mark K.COMMA ∷ name x ∷ []) (spellFew xs) (few-plain xs)
 
