@@ -2,20 +2,19 @@
 -- Assumes nothing.
 use Prim.Native.Nat.{ℕ, _≤_, _<_}
 use native.Mathlib.Omega.{arith}
-use mathlib.Core.Path.{_≡_, refl, sym, _∙_, ap, subst}
+use mathlib.Core.Path.{_≡_, refl, sym, _∙_, ap, ap₂}
 use mathlib.Core.List.{List, [], _∷_, _++_}
 use mathlib.Core.Bool.{Bool, true, false}
-use mathlib.Core.Option.{Option, none, some}
+use mathlib.Core.Option.{none, some}
 use mathlib.Core.Logic.{_⊎_, inl, inr}
 use lib.ListN.{length, getD}
 use Rattle.semantics.specs.Words.{if_then_else_, passed}
 use Rattle.semantics.specs.Numbers as F
 use Rattle.semantics.specs.Kinds as K
-use Rattle.semantics.specs.Record as R
 use Rattle.semantics.specs.Decode as D
-use Rattle.semantics.specs.Decode.{noneSeen, gather}
+use Rattle.semantics.specs.Decode.{noneSeen}
 use Rattle.promises.specs.Laws.{AllOf}
-use Rattle.promises.specs.Counted.{groupOf, limits}
+use Rattle.promises.specs.Counted.{limits}
 use Rattle.text_semantics.specs.Token.{Token}
 use Rattle.text_semantics.specs.Lexing.{Placed}
 use Rattle.text_semantics.specs.Grammar.{Text}
@@ -25,20 +24,20 @@ use Rattle.text_semantics.specs.Written.{fileOf}
 use Rattle.text_semantics.specs.Reading.{Symbol, Of, say, step, bodyS, textS}
 use Rattle.text_semantics.specs.Answer.{Answer, isCut, soFar, told, atCut, answer}
 use Rattle.text_machine.specs.Entry.{Draft}
-use Rattle.text_machine.specs.Sheet.{Sheet, added}
-use Rattle.text_machine.specs.Machine.{Reader, atFirst, eventAt, draftAfter, sheetAfter, cutAt, faulty, overLimit, machine}
+use Rattle.text_machine.specs.Sheet.{Sheet}
+use Rattle.text_machine.specs.Machine.{Reader, atFirst, eventAt, draftAfter, sheetAfter, cutAt, faulty, machine}
 use Rattle.text_promises.specs.Tables.{piled}
 use Rattle.text_promises.specs.Met.{inHand}
-use Rattle.text_promises.specs.Cuts.{rawsFrom}
 use Rattle.text_promises.specs.Judged.{ofGroup, Passing}
 use Rattle.text_promises.specs.Says.{tooDeep}
-use Rattle.text_agrees.specs.Closing.{cutTree, cutReader, openBraces, cut-spelled}
+use Rattle.text_agrees.specs.Closing.{openBraces, cut-spelled}
 use Rattle.text_agrees.specs.Events.{Fewer}
 use Rattle.text_agrees.specs.Laying.{Fair}
-use Rattle.text_agrees.specs.Going.{Goes, tokensOf}
+use Rattle.text_agrees.specs.Going.{Goes, tokensOf, goes-flow}
 use Rattle.text_agrees.specs.Growing.{Grows, opensBy, grows-open}
-use Rattle.text_agrees.specs.Tested.{Arrived}
-use Rattle.text_answers.specs.Cutting.{Accepted, checked, CutAgrees, Joined, Found, Tallied}
+use Rattle.text_agrees.specs.Counts.{isBody}
+use Rattle.text_agrees.specs.Tested.{Arrived, is-body}
+use Rattle.text_answers.specs.Cutting.{Accepted, checked, Tallied}
 use Rattle.text_answers.specs.Arriving as A
 use Rattle.text_answers.specs.Grading as G
 use Rattle.text_answers.specs.Nesting as N
@@ -46,13 +45,10 @@ use Rattle.text_answers.specs.Spare.{cut-free, never-full}
 use Rattle.text_answers.specs.Tallying.{grown-fair, tallied}
 use Rattle.text_answers.specs.Opening.{levels-open}
 use Rattle.text_answers.specs.Classing.{class-line}
+use Rattle.text_answers.specs.Halted.{faultAt, local-uncut}
+use Rattle.text_answers.specs.Decided.{Decided, unlooked, looked, cut-looks}
+use Rattle.text_answers.specs.Findings.{rule-at, cut-found}
 use Rattle.text_answers.specs.Machines.{machine-answers}
-
--- What the line before a cut wrote, and how the machine tests it: nothing, or a record.
-pub data Written (place : ℕ → ℕ) (old new : List Owned) (s : Symbol) (r : Reader) (d : Draft) (o : Option ℕ) (z : Sheet) : Type 0 where
-  nothing : new ≡ old → o ≡ none → Written place old new s r d o z
-  a-record : (f : Bool) (j : Joined old new) → Found place old new j d f → (j .ps ≡ [] → groupOf (j .o .entry) ≡ K.BLOCK → ⊥) →
-      o ≡ overLimit z d f → (f ≡ false → (s ≡ bodyS) ⊎ (faulty (r .sheet) d ≡ false)) → Written place old new s r d o z
 
 module _ (place : ℕ → ℕ) (ts : List Placed) (k : Placed) (r : Reader) (s : Symbol) (ss : List Symbol)
     (h : Arrived place ts k s ss) (g : Goes atFirst ts r) (i : r .pile ≡ s ∷ ss) (m : place (length ts) ≡ k .place)
@@ -63,11 +59,11 @@ module _ (place : ℕ → ℕ) (ts : List Placed) (k : Placed) (r : Reader) (s :
   abbrev us : List Placed
   us = ts ++ (k ∷ [])
 
-  abbrev d : Draft
-  d = draftAfter r s t (k .place)
+  abbrev zs : List Symbol
+  zs = A.piled-here place ts k r s ss h g i m n c acc .0
 
-  abbrev z : Sheet
-  z = sheetAfter r d s t (k .place)
+  abbrev piles : piled Of say step (tokensOf ts ++ (t ∷ [])) (textS ∷ []) ≡ some zs
+  piles = A.piled-here place ts k r s ss h g i m n c acc .1
 
   abbrev tree : Text
   tree = A.tree place ts k r s ss h g i m n c acc
@@ -75,14 +71,15 @@ module _ (place : ℕ → ℕ) (ts : List Placed) (k : Placed) (r : Reader) (s :
   abbrev new : List Owned
   new = records tree
 
-  abbrev cutHere : Option ℕ
-  cutHere = cutAt r d s t z
+  -- The draft and the sheet with the cut, and the reader before it, which is the machine's but for the pile.
+  abbrev d : Draft
+  d = A.behindIt place ts k r s ss h g i m n c acc .draft
 
-  abbrev zs : List Symbol
-  zs = A.piled-here place ts k r s ss h g i m n c acc .0
+  abbrev z : Sheet
+  z = A.behindIt place ts k r s ss h g i m n c acc .sheet
 
-  abbrev piles : piled Of say step (tokensOf ts ++ (t ∷ [])) (textS ∷ []) ≡ some zs
-  piles = A.piled-here place ts k r s ss h g i m n c acc .1
+  abbrev before : Reader
+  before = A.beforeIt place ts k r s ss h g i m n c acc
 
   calm : troubleIn [] (events tree) ≡ none
   calm = A.calm-cut place ts k r s ss h g i m n c acc
@@ -90,8 +87,8 @@ module _ (place : ℕ → ℕ) (ts : List Placed) (k : Placed) (r : Reader) (s :
   room : Fewer [] (events tree)
   room = A.room-cut place ts k r s ss h g i m n c acc
 
-  sheet-is : z ≡ cutReader place (tokensOf ts) t zs c piles .sheet
-  sheet-is = A.sheet-is place ts k r s ss h g i m n c acc
+  same-sheet : before .sheet ≡ r .sheet
+  same-sheet = ap (λ (x : Reader). x .sheet) (goes-flow place g (A.sits place ts k r s ss h g i m n c acc))
 
   within : {os : List Owned} → Passing noneSeen os → (x : ℕ) → ofGroup x os ≤ getD limits x 0
   within p x = let a = p .roomy x in omega arith
@@ -102,15 +99,16 @@ module _ (place : ℕ → ℕ) (ts : List Placed) (k : Placed) (r : Reader) (s :
     fair = grown-fair grows (A.short-old old ok)
 
     counted : Tallied place new z
-    counted =
-        subst (λ y. Tallied place new y) (sym sheet-is)
-        (tallied place (tokensOf ts) t zs c piles calm room fair)
+    counted = tallied place (tokensOf ts) t zs c piles calm room fair
 
     open-blocks : length (z .levels) ≡ opensBy grows
     open-blocks =
-        ap (λ y. length (y .levels)) sheet-is ∙ levels-open place (tokensOf ts) t zs c piles
+        levels-open place (tokensOf ts) t zs c piles
         ∙ grows-open grows (tokensOf ts) t c (openBraces place (tokensOf ts) t zs c piles)
         (cut-spelled place (tokensOf ts) t zs c piles)
+
+    old-passes : Passing noneSeen (records old)
+    old-passes = G.accepted-old (records old) ok .0
 
     old-shallow : N.Shallow old
     old-shallow = G.accepted-old (records old) ok .1
@@ -122,33 +120,62 @@ module _ (place : ℕ → ℕ) (ts : List Placed) (k : Placed) (r : Reader) (s :
         (xs : List Owned) × (o : Owned) × (ys : List Owned) × (new ≡ xs ++ (o ∷ ys)) × G.Shallow (N.modelOf tree) xs
         × (tooDeep (N.modelOf tree) (o .entry) ≡ true) × (getD (z .classLine) (z .current) 0 ≡ place (o .owner))
     deep p l =
-        let x = N.deep-on grows calm (within p K.BLOCK) old-shallow (omega (arith, open-blocks)) in
-        (
+        let x = N.deep-on grows calm (within p K.BLOCK) old-shallow (omega (arith, open-blocks)) in (
           x .5,
           x .6,
           x .7,
           x .8,
           x .10,
           x .11,
-          ap (λ y. getD (y .classLine) (y .current) 0) sheet-is
-              ∙ class-line place (tokensOf ts) t zs c piles calm room fair (x .0) (x .1) (x .2) (x .3) (x .4) (within p K.CLASS)
+          class-line place (tokensOf ts) t zs c piles calm room fair (x .0) (x .1) (x .2) (x .3) (x .4) (within p K.CLASS)
               (within p K.BLOCK) (x .5) (x .6) (x .7) (x .8) (x .9),
         )
 
-    free : (s ≡ bodyS) ⊎ (faulty (r .sheet) d ≡ false) → length (fileOf new) ≤ F.longestFile → Passing noneSeen new →
-        z .full ≡ false
+    free : (s ≡ bodyS) ⊎ (faulty (r .sheet) (draftAfter r s t (k .place)) ≡ false) → length (fileOf new) ≤ F.longestFile →
+        Passing noneSeen new → z .full ≡ false
     free f l p =
-        let a = counted .total in
-        let few : (x : ℕ) → getD (z .seen) x 0 ≤ getD limits x 0 = λ x. let b = counted .counts x in omega (arith, within p x) in
-        cut-free (A.comes place ts k r s ss h g i m n c acc) s t (k .place) f (omega arith) (few K.ACTION) (few K.CLASS)
-        (few K.BLOCK) (λ x a b c. few x)
+        let e = A.sheet-is place ts k r s ss h g i m n c acc in
+        let y : Sheet = sheetAfter r (draftAfter r s t (k .place)) s t (k .place) in
+        let few : (x : ℕ) → getD (y .seen) x 0 ≤ getD limits x 0 =
+        λ x. omega (arith, within p x, ap (λ w. getD (w .seen) x 0) e, counted .counts x) in
+        sym (ap (λ w. w .full) e)
+        ∙ cut-free (A.comes place ts k r s ss h g i m n c acc) s t (k .place) f
+        (omega (arith, ap (λ w. w .total) e, counted .total)) (few K.ACTION) (few K.CLASS) (few K.BLOCK) (λ x a b c. few x)
 
-    agrees : Written place (records old) new s r d cutHere z → (a : Answer) →
-        told us new (soFar (fileOf new)) (λ x. a) ≡ checked cutHere a
-    agrees (nothing e o) a =
-        ap (λ x. told us new x (λ y. a)) (ap (λ os. soFar (fileOf os)) e ∙ ok) ∙ sym (ap (λ q. checked q a) o)
-    agrees (a-record f j w apart o sound) a =
-        G.graded place us (records old) new j d f z counted w (G.accepted-old (records old) ok .0)
-        (A.placed-cut place ts k r s ss h g i m n c acc) (A.owners-placed place ts k r s ss h g i m n c acc) apart shallow deep
-        (λ e. free (sound e)) a
-        ∙ sym (ap (λ q. checked q a) o)
+    not-faulty : faultAt s (before .sheet) d ≡ false →
+        (s ≡ bodyS) ⊎ (faulty (r .sheet) (draftAfter r s t (k .place)) ≡ false)
+    not-faulty = go (isBody s) refl
+      where
+        go : (b : Bool) → isBody s ≡ b → (if b then false else faulty (before .sheet) d) ≡ false →
+            (s ≡ bodyS) ⊎ (faulty (r .sheet) (draftAfter r s t (k .place)) ≡ false)
+        go true e f = inl (is-body s e)
+        go false e f = inr (ap₂ faulty (sym same-sheet) (A.draft-is place ts k r s ss h g i m n c acc) ∙ f)
+
+    agrees : Decided place (tokensOf ts) t c s ss (A.pile-is place ts k r s ss h g i m n c acc)
+        (rule-at place (tokensOf ts) t zs c piles s ss (A.pile-is place ts k r s ss h g i m n c acc) .0)
+        (rule-at place (tokensOf ts) t zs c piles s ss (A.pile-is place ts k r s ss h g i m n c acc) .1) (records old) new →
+        (a : Answer) → told us new (soFar (fileOf new)) (λ x. a) ≡ checked (cutAt before d s t z) a
+    agrees (unlooked q e f) a =
+        ap (λ x. told us new x (λ y. a)) (ap (λ os. soFar (fileOf os)) f ∙ ok)
+        ∙ sym (ap (λ x. checked x a) (ap (λ x. cutAt before d x t z) e ∙ local-uncut before d q t z))
+    agrees (looked q j w) a =
+        G.graded place us (records old) new j d (faultAt s (before .sheet) d) z counted w old-passes
+        (A.placed-cut place ts k r s ss h g i m n c acc) (A.owners-placed place ts k r s ss h g i m n c acc) shallow deep
+        (λ e. free (not-faulty e)) a
+        ∙ sym (ap (λ x. checked x a) (cut-looks place (tokensOf ts) t c s ss (A.pile-is place ts k r s ss h g i m n c acc)
+        (rule-at place (tokensOf ts) t zs c piles s ss (A.pile-is place ts k r s ss h g i m n c acc) .0)
+        (rule-at place (tokensOf ts) t zs c piles s ss (A.pile-is place ts k r s ss h g i m n c acc) .1) q z))
+
+  cuts-agree : (a : Answer) → atCut us t (inHand us) a
+      ≡ checked (cutAt r (draftAfter r s t (k .place)) s t (sheetAfter r (draftAfter r s t (k .place)) s t (k .place))) a
+  cuts-agree a =
+      let o = A.before-it place ts k r s ss h g i m n c acc in
+      A.told-cut place ts k r s ss h g i m n c acc a
+      ∙ agrees (o .0) (o .1) (o .2)
+      (cut-found place (tokensOf ts) t zs c piles s ss (A.pile-is place ts k r s ss h g i m n c acc) (o .0) (o .1) calm room
+      (old-passes (o .0) (o .1) (o .2))) a
+      ∙ sym (ap (λ x. checked x a) (A.cut-same place ts k r s ss h g i m n c acc))
+
+-- THE MACHINE ANSWERS what the definitions say, to every text, with whatever room.
+pub machine-is-answer : (bs : List ℕ) (room : ℕ) → machine bs room ≡ answer bs room
+machine-is-answer = machine-answers (λ r c. never-full c) cuts-agree

@@ -71,6 +71,8 @@ pub record Tallied (place : ℕ → ℕ) (new : List Owned) (z : Sheet) : Type 0
   pub last : z .lastLine ≡ lastLine place 0 new
 
 pub record Found (place : ℕ → ℕ) (old new : List Owned) (j : Joined old new) (d : Draft) (f : Bool) : Type 0 where
+  -- The record is a declaration or an action.
+  pub apart : groupOf (j .o .entry) ≡ K.BLOCK → ⊥
   -- Where nothing is found, the record is good, and neither are there too many of what is declared, classes apart.
   pub sound : f ≡ false → good (j .o .entry) ≡ true
   pub few : f ≡ false → (g : ℕ) → (g ≡ K.CLASS → ⊥) → (g ≡ K.ACTION → ⊥) → (g ≡ K.BLOCK → ⊥) → ofGroup g new ≤ getD limits g 0

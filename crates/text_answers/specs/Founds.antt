@@ -88,6 +88,7 @@ module _ {old new : List Owned} (j : Joined old new) where
         Found place old new j d f
     found-action f e k l =
         record {
+          apart = λ b. omega (arith, b, k);
           sound = λ h. not-is (good (j .o .entry)) (sym e ∙ h);
           few = λ h g a b c. (let x = as-before g c (λ i. b (i ∙ k)) in let y = roomy g in omega arith);
           at-fault = λ h. (l, inl (is-not (good (j .o .entry)) (sym e ∙ h)));
@@ -101,6 +102,7 @@ module _ {old new : List Owned} (j : Joined old new) where
         d .line ≡ place (j .o .owner) → Found place old new j d f
     found-declaration f e nc nb ps last l =
         record {
+          apart = λ b. nb (sym b);
           sound = λ h. parts h .1;
           few = λ h g a b c. go h g c (its g) refl;
           at-fault = λ h.
@@ -135,6 +137,7 @@ module _ {old new : List Owned} (j : Joined old new) where
         Found place old new j d false
     found-class k g h =
         record {
+          apart = λ b. omega (arith, b, k);
           sound = λ e. g;
           few = λ e i a b c. (let x = as-before i c (λ q. a (q ∙ k)) in let y = roomy i in omega arith);
           at-fault = λ e. no-way e;

@@ -186,11 +186,11 @@ module _ {old new : List Owned} (j : Joined old new) where
       rw (j .is) (all-append Good (j .first) (j .o ∷ (j .rest ++ j .more)) (a .0) (g, c))
 
   -- No more blocks than before, without the one that was opened; and of no group more than one more.
-  same-blocks : (j .ps ≡ [] → groupOf (j .o .entry) ≡ K.BLOCK → ⊥) → ofGroup K.BLOCK front ≤ ofGroup K.BLOCK old
+  same-blocks : (groupOf (j .o .entry) ≡ K.BLOCK → ⊥) → ofGroup K.BLOCK front ≤ ofGroup K.BLOCK old
   same-blocks h =
       ⊎-elim
       (λ e.
-      let n = once-apart K.BLOCK (groupOf (j .o .entry)) (λ b. h e (sym b)) in omega (arith, front-count K.BLOCK))
+      let n = once-apart K.BLOCK (groupOf (j .o .entry)) (λ b. h (sym b)) in omega (arith, front-count K.BLOCK))
       (λ p.
       let c = ap (ofGroup K.BLOCK) (p .1) in let o = ap (once K.BLOCK) (p .2) in omega (arith, front-count K.BLOCK))
       (j .before)
@@ -248,8 +248,7 @@ module _ (place : ℕ → ℕ) (ts : List Placed) (new : List Owned)
 -- THE CHECKS AND THE LIMITS, one after the other.
 module _ (place : ℕ → ℕ) (ts : List Placed) (old new : List Owned) (j : Joined old new) (d : Draft) (f : Bool) (z : Sheet)
     (t : Tallied place new z) (w : Found place old new j d f) (passing : Passing noneSeen old) (inPlace : InPlace 0 new)
-    (places : AllOf (λ (o : Owned). placeAt ts (o .owner) ≡ place (o .owner)) new)
-    (apart : j .ps ≡ [] → groupOf (j .o .entry) ≡ K.BLOCK → ⊥) where
+    (places : AllOf (λ (o : Owned). placeAt ts (o .owner) ≡ place (o .owner)) new) where
   abbrev m : Model
   m = gather (rawsFrom 0 new) .model
 
@@ -263,7 +262,7 @@ module _ (place : ℕ → ℕ) (ts : List Placed) (old new : List Owned) (j : Jo
   old-few g = omega (arith, passing .roomy g, none-seen g)
 
   front-blocks : ofGroup K.BLOCK (front j) ≤ F.mostBlocks
-  front-blocks = omega (arith, same-blocks j apart, old-few K.BLOCK)
+  front-blocks = omega (arith, same-blocks j (w .apart), old-few K.BLOCK)
 
   front-actions : ofGroup K.ACTION (front j) ≡ ofGroup K.ACTION new
   front-actions = let b = what-opens j .0 in omega (arith, new-count j K.ACTION)

@@ -15,7 +15,6 @@ pub mod Machines
 pub mod Tallying
 pub mod Classing
 pub mod Opening
-pub mod Agreeing
 pub mod Shrinking
 pub mod Taking
 pub mod Drawn
@@ -31,3 +30,4 @@ pub mod Bodied
 pub mod Sunk
 pub mod Within
 pub mod Findings
+pub mod Agreeing
