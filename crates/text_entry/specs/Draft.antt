@@ -119,8 +119,8 @@ isComma semi = false
 abbrev pub storeOf : ℕ → ℕ
 storeOf w = if eqb w K.VAR then K.SET else K.LSET
 
--- What a token has to be where it is read: a count has two bytes, and one more branch of the try that goes on has a number of
--- one byte.
+-- What a token has to be where it is read: a count has two bytes, and one more branch of the try that goes on, which is no sign
+-- that had to come, has a number of one byte.
 pub record Read (s kind value : ℕ) (d : Draft) (bs : List ℕ) : Type 0 where
   pub count : s ≡ C.COUNT → kind ≡ C.NUMBER → value < TWO
-  pub branches : kind ≡ T.ETRY → getD (bodyIn (d .over) (d .size) bs) 0 0 < MOST
+  pub branches : T.END < s → kind ≡ T.ETRY → getD (bodyIn (d .over) (d .size) bs) 0 0 < MOST

@@ -365,7 +365,7 @@ pub fn bodied(
 // ---- blocks: the records that stand in them, the open ones, and the try that may go on in each
 
 // The block that actions stand in, or 0; and how many bytes of a try are kept in it, or 0.
-fn innermost(levels: usize, level_block: &[u32; limit::DEPTH]) -> u32
+pub fn innermost(levels: usize, level_block: &[u32; limit::DEPTH]) -> u32
     requires { ⌜ levels ≤ No.deepest ⌝ }
     ensures { λ r. ⌜ r ≡ Numbers.lastOf levels (now («level_block» .entry)) ⌝ }
 {
@@ -375,7 +375,7 @@ fn innermost(levels: usize, level_block: &[u32; limit::DEPTH]) -> u32
     level_block[levels - 1]
 }
 
-fn kept_in(levels: usize, kept_size: &[usize; limit::DEPTH]) -> usize
+pub fn kept_in(levels: usize, kept_size: &[usize; limit::DEPTH]) -> usize
     requires { ⌜ levels ≤ No.deepest ⌝ }
     ensures { λ r. ⌜ r ≡ Numbers.lastOf levels (now («kept_size» .entry)) ⌝ }
 {
@@ -610,7 +610,7 @@ pub fn opens(
     kept_size: &mut [usize; limit::DEPTH],
     kept_body: &mut [u8; room::BODIES],
 ) -> Sheet
-    requires { ⌜ Open s × (kind < Byte.TWO) × (0 < size) × (size ≤ Numbers.ROOM) × (s .levels < No.deepest) ⌝ }
+    requires { ⌜ Open s × (kind < Byte.TWO) × (kind ≡ K.TRY → 0 < size) × (size ≤ Numbers.ROOM) × (s .levels < No.deepest) ⌝ }
     ensures { λ r. ⌜ ((m : Lent) → Writes (M.opens (entry line kind size (partOf 0 size (now (body .entry)))))
         s (withBlocks m (now (stage .entry)) (now (ends .entry)) (now (blocks .entry)) (now («level_block» .entry))
         (now («kept_line» .entry)) (now («kept_size» .entry)) (now («kept_body» .entry)))

@@ -59,13 +59,16 @@ at-item-requires-2 : tie.Need-at-item-requires-2
 at-item-requires-2 c κs = search needs
 
 at-action-requires : tie.Need-at-action-requires
-at-action-requires c κs = search needs
+at-action-requires c κs = let p = c .before .before .pre in
+    (p .1 .0, (p .1 .1 .0, p .1 .1 .1 .branches (p .0 .0)))
 
 at-action-requires-2 : tie.Need-at-action-requires-2
-at-action-requires-2 c κs = search needs
+at-action-requires-2 c κs = let p = c .before .before .pre in
+    (p .1 .0, (p .1 .1 .0, p .1 .1 .1 .branches (p .0 .0)))
 
 at-action-requires-3 : tie.Need-at-action-requires-3
-at-action-requires-3 c κs = search needs
+at-action-requires-3 c κs = let p = c .before .before .pre in
+    (p .1 .0, (p .1 .1 .0, p .1 .1 .1 .branches (p .0 .0)))
 
 at-text-requires : tie.Need-at-text-requires
 at-text-requires c κs = search needs

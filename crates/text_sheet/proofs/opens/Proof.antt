@@ -13,7 +13,8 @@ use Rattle.text_sheet.proofs.opens.Statement.{statement}
 use Rattle.text_sheet.proofs.opens.Tie as tie
 
 tries-requires : tie.Need-tries-requires
-tries-requires c κs = search needs
+tries-requires c κs = let p = c .before .before .before .before .before .pre in
+    (p .0, p .2 (c .before .before .before .before .if1 .taken), p .3)
 
 braces-requires : tie.Need-braces-requires
 braces-requires c κs = let a = c .before .before .before .before .before .before .before .before .args in
