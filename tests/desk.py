@@ -82,7 +82,7 @@ class Desk:
 
     def asks(self, *words):
         done = subprocess.run([*self.command, *words], capture_output=True, check=False)
-        return done.returncode, done.stdout.decode(), done.stderr.decode()
+        return done.returncode, done.stdout.decode(), done.stderr.decode(errors='replace')
 
     def tells(self, command, model):
         """The status, and what was told of these bytes."""
@@ -221,13 +221,17 @@ def draws(desk):
 
 
 def checks(desk):
-    """Every case: each refusal at its place from both commands, and each bound."""
+    """Every case: each refusal at its place from both commands, and each bound. A file without a 0 among its first four bytes is
+    taken for a text, and refused as one; an empty file is accepted either way."""
     seen = set()
     for name, records, answer in cases.CASES:
         expected = cases.line(records, answer)
         refused = expected.startswith('refused')
-        seen |= {int(expected.split()[1])} if refused else set()
         model = b''.join(records)
+        if model and 0 not in model[:4]:
+            desk.same('check of ' + name, (refused, desk.tells('check', model)[1][:10]), (True, 'refused 51'))
+            continue
+        seen |= {int(expected.split()[1])} if refused else set()
         status, told = desk.tells('check', model)
         desk.same('check of ' + name, (status, refusal(told)), (1, expected) if refused else (0, 'accepted\n'))
         status, told = desk.tells('bound', model)
@@ -247,7 +251,7 @@ def usage(desk):
     for words in ([], ['check'], ['run'], ['plan', grade], ['check', grade, '1'], ['bound', grade, '1'],
                   ['run', grade, '1', '1'], ['run', grade, ''], ['run', grade, '-1'], ['run', grade, '1x'],
                   ['moves', grade], ['moves', grade, '0'], ['run', grade, '4294967296'], ['run', grade, '99999999999999999999'],
-                  ['waits'], ['waits', grade, '-1'], ['waits', grade, '1', '1']):
+                  ['waits'], ['waits', grade, '-1'], ['waits', grade, '1', '1'], ['records'], ['records', grade, '1']):
         status, told, complaint = desk.asks(*words)
         desk.same('words %s' % words, (status, told, complaint[:6]), (2, '', 'usage:'))
     for name, reason in ((str(desk.file) + '.none', 'No such file or directory'), (str(desk.file.parent), 'Is a directory')):

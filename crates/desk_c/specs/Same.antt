@@ -2,8 +2,11 @@
 use Prim.Native.Nat.{ℕ}
 use mathlib.Core.Path.{_≡_, sym, _∙_}
 use mathlib.Core.List.{List}
+use lib.ListN.{length}
 use Rattle.semantics.specs.Journal.{written}
 use Rattle.semantics.specs.Desk.{checkFile, boundFile, runFile}
+use Rattle.text_semantics.specs.Answer.{answer}
+use Rattle.text_reader.specs.Answer.{answeredOf, left}
 use Rattle.run_file.specs.Whole.{journalAfter}
 use Rattle.run_row.specs.Open.{openRow}
 use Rattle.run_row.specs.Call.{asked, callRow}
@@ -12,6 +15,15 @@ use Rattle.desk_c.specs.Word.{checkWord, boundWord, runWord, openWord, m
 module _ (file : List ℕ) where
   pub same-desk-check : (r r′ : ℕ) → r ≡ checkWord (checkFile file) → r′ ≡ checkWord (checkFile file) → r ≡ r′
   same-desk-check r r′ h k = h ∙ sym k
+
+  pub same-desk-text : (out : List ℕ) (r r′ p p′ : ℕ) (x x′ : List ℕ)
+      → (r ≡ answeredOf (answer file (length out)) .number) × ((p ≡ answeredOf (answer file (length out)) .place)
+      × (x ≡ left (answer file (length out)) out))
+      → (r′ ≡ answeredOf (answer file (length out)) .number) × ((p′ ≡ answeredOf (answer file (length out)) .place)
+      × (x′ ≡ left (answer file (length out)) out))
+      → (r ≡ r′) × ((p ≡ p′) × (x ≡ x′))
+  same-desk-text out r r′ p p′ x x′ h i =
+      (h .0 ∙ sym (i .0), (h .1 .0 ∙ sym (i .1 .0), h .1 .1 ∙ sym (i .1 .1)))
 
   pub same-desk-bound : (r r′ : ℕ) → r ≡ boundWord (boundFile file) → r′ ≡ boundWord (boundFile file) → r ≡ r′
   same-desk-bound r r′ h k = h ∙ sym k

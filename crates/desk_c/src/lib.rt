@@ -6,8 +6,11 @@ use run_file::Whole;
 use run_limit::Answer;
 ghost use mathlib.Core.Path.{_≡_};
 ghost use Prim.Native.Nat.{_≤_};
+ghost use lib.ListN.{length};
 ghost use Rattle.semantics.specs.Numbers as No;
 ghost use Rattle.semantics.specs.Desk.{checkFile, boundFile, runFile};
+ghost use Rattle.text_semantics.specs.Answer.{answer as answerTo};
+ghost use Rattle.text_reader.specs.Answer.{answeredOf, left};
 ghost use Rattle.run_limit.specs.Ran.{answerOf};
 ghost use Rattle.semantics.specs.Journal.{written};
 ghost use Rattle.run_file.specs.Whole.{journalAfter};
@@ -42,6 +45,18 @@ pub extern "C" fn desk_check(file: &[u8]) -> u32
 {
     let r = file_check::check(file);
     refusal(r.number, r.place)
+}
+
+#[no_mangle]
+pub extern "C" fn desk_text<'a>(text: &'a [u8], records: &'a mut [u8], place: &'a mut usize) -> u32
+    ensures { λ r. ⌜ r ≡ answeredOf (answerTo (now (text .entry)) (length (now (records .entry)))) .number ⌝ }
+    ensures { λ _. ⌜ now (place .exit) ≡ answeredOf (answerTo (now (text .entry)) (length (now (records .entry)))) .place ⌝ }
+    ensures { λ _. ⌜ now (records .exit)
+        ≡ left (answerTo (now (text .entry)) (length (now (records .entry)))) (now (records .entry)) ⌝ }
+{
+    let r = text_reader::read(text, records);
+    *place = r.place;
+    r.number
 }
 
 #[no_mangle]

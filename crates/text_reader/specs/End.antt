@@ -2,7 +2,7 @@
 -- Assumes nothing.
 use Prim.Native.Nat.{ℕ, zero, suc, _≤_, _<_}
 use native.Mathlib.Omega.{arith}
-use mathlib.Core.Path.{_≡_, refl, sym, _∙_, ap}
+use mathlib.Core.Path.{_≡_, refl, sym, _∙_, ap, subst}
 use mathlib.Core.List.{List, [], _∷_, _++_}
 use mathlib.Core.Bool.{Bool, true, false}
 use lib.Dec.{eqb, leb, ltb}
@@ -14,9 +14,10 @@ use Rattle.semantics.specs.Numbers as F
 use Rattle.semantics.specs.Kinds as K
 use Rattle.text_semantics.specs.Numbers as No
 use Rattle.text_semantics.specs.Names.{Known}
-use Rattle.text_semantics.specs.Answer.{Answer, refused, written}
+use Rattle.text_semantics.specs.Answer.{Answer, refused, written, answer}
 use Rattle.text_machine.specs.Sheet.{file}
 use Rattle.text_machine.specs.Machine.{mostNames, lacking, ended, machine}
+use Rattle.text_answers.specs.Agreeing.{machine-is-answer}
 use Rattle.text_names.specs.Table.{knownAt, lackingOf, lackingIn}
 use Rattle.text_names.specs.Lacking.{lacking-known, lacks-any}
 use Rattle.text_names.specs.Span.{span-length}
@@ -171,7 +172,7 @@ module _ {r : Turned} {what : List ℕ} {lacks : List Bool} {lines declared stag
                     (record { answer = rw j; bytes = k ∙ rw j });
               }
 
--- BEHIND THE TOKENS: what is asked there is so, and what is answered is what the machine answers.
+-- BEHIND THE TOKENS: what is asked there is so, and what is answered is what the machine answers, and so what is to be answered.
 wider : {ends : List ℕ} {n a b : ℕ} → a ≤ b → Rising ends n a → Rising ends n b
 wider h x = record { rises = x .rises; within = λ k l. omega (arith, x .within k l) }
 
@@ -181,13 +182,13 @@ module _ {bs : List ℕ} {r : Turned} {m : Memory} (d : Done bs r m) (e : m .she
   unfolding sheetOf file
   closes =
       record {
-        few = λ z. omega (arith, d .ready z .table .few);
-        small = λ z. rw (sym e) (d .ready z .sheet .small);
-        rising = λ z. rw (sym e) (wider (d .ready z .sheet .small .staged) (d .ready z .sheet .rising));
+        few = λ z. omega (arith, d .ready z .names .fine .few);
+        small = λ z. rw (sym e) (d .ready z .sheet .fine .small);
+        rising = λ z. rw (sym e) (wider (d .ready z .sheet .fine .small .staged) (d .ready z .sheet .fine .rising));
         fits = λ z. rw (sym e) (file-fits (d .counts z));
       }
 
-  pub answers-machine : {out after : List ℕ} {a : Answered}
+  answers-machine : {out after : List ℕ} {a : Answered}
       → Answers r (m .names .what) (m .names .lacks) (m .lent .classLine) (m .lent .declared) (m .lent .stage) (m .lent .ends)
       (m .lent .blocks) (length bs) out a after → Says (machine bs (length out)) a out after
   unfolding answerOf
@@ -199,5 +200,11 @@ module _ {bs : List ℕ} {r : Turned} {m : Memory} (d : Done bs r m) (e : m .she
           else refused (r .number) (r .place)) a out after → Says (machine bs (length out)) a out after
       go true g y =
           let z = eqb-true (r .number) 0 g in
-          rw (d .over z (length out), ended-by bs m (d .ready z .table .few) (length bs) (length out), e, f) y
+          rw (d .over z (length out), ended-by bs m (d .ready z .names .fine .few) (length bs) (length out), e, f) y
       go false g y = rw (d .stopped (eqb-false (r .number) 0 g) (length out)) y
+
+  pub answers-text : {out after : List ℕ} {a : Answered}
+      → Answers r (m .names .what) (m .names .lacks) (m .lent .classLine) (m .lent .declared) (m .lent .stage) (m .lent .ends)
+      (m .lent .blocks) (length bs) out a after → Says (answer bs (length out)) a out after
+  answers-text {out} {after} {a} x =
+      subst (λ (y : Answer). Says y a out after) (machine-is-answer bs (length out)) (answers-machine x)

@@ -24,7 +24,8 @@ use Rattle.text_entry.specs.Draft.{draftOf}
 use Rattle.text_sheet.specs.Shown.{Lent, sheetOf}
 use Rattle.text_sheet.specs.Fine.{Sized, Fine}
 use Rattle.text_turn.specs.declared.State.{State}
-use Rattle.text_turn.specs.Shown.{Memory, Names, readerOf, Ready, memoryOf, knownIn}
+use Rattle.text_turn.specs.Shown.{Memory, Names, readerOf, Ready, knownIn}
+use Rattle.text_turn.specs.Turn.{memoryOf}
 use Rattle.text_reader.specs.Length.{Counts, counts-first}
 use Rattle.text_reader.specs.Going.{Reads}
 
@@ -40,6 +41,7 @@ pub record Begins (s : State) : Type 0 where
   pub draft : s .draft ≡ noDraft
   pub blank : (m : Lent) → Sized m → (sheetOf (s .sheet) m ≡ M.blank) × Fine (s .sheet) m
   pub nothing : s .sheet .total ≡ 0
+  pub closed : s .sheet .levels ≡ 0
 
 -- The arrays have their lengths; what is in them is never read.
 pub record Empty (pile at len key what number : List ℕ) (lacks : List Bool)
@@ -86,7 +88,8 @@ same-reader f g h i j k = cc
 module _ (bs : List ℕ) (m : Memory) (top : getD (m .pile) 0 0 ≡ C.TEXT) (height : m .height ≡ 1) (many : m .names .many ≡ 0)
     (at : m .calledAt ≡ 0) (end : m .calledEnd ≡ 0) (none : m .draft ≡ noDraft) (places : length (m .pile) ≡ highestPile)
     (room : Room (m .names .at) (m .names .len) (m .names .key) (m .names .what) (m .names .number) (m .names .lacks))
-    (blank : (sheetOf (m .sheet) (m .lent) ≡ M.blank) × Fine (m .sheet) (m .lent)) (nothing : m .sheet .total ≡ 0) where
+    (blank : (sheetOf (m .sheet) (m .lent) ≡ M.blank) × Fine (m .sheet) (m .lent)) (nothing : m .sheet .total ≡ 0)
+    (closed : m .sheet .levels ≡ 0) where
   reader-first : readerOf bs m ≡ atFirst
   reader-first =
       same-reader (pile-first (m .pile) (m .height) top height) (none-known bs (m .names) many)
@@ -101,12 +104,14 @@ module _ (bs : List ℕ) (m : Memory) (top : getD (m .pile) 0 0 ≡ C.TEXT) (hei
           low = omega arith;
           known = λ i h. rw (let z : i ≡ 0 = omega arith in z) (omega (arith, top));
         };
-        table = record {
-          few = omega arith;
-          inside = λ i h. absurd (omega arith);
-          keyed = λ i h. absurd (omega arith);
+        names = record {
+          fine = record {
+            few = omega arith;
+            inside = λ i h. absurd (omega arith);
+            keyed = λ i h. absurd (omega arith);
+          };
+          room = room;
         };
-        room = room;
         begun = omega arith;
         within = omega arith;
         draft = rw none (record {
@@ -117,8 +122,7 @@ module _ (bs : List ℕ) (m : Memory) (top : getD (m .pile) 0 0 ≡ C.TEXT) (hei
           named = omega arith;
           nested = omega arith;
         });
-        sheet = blank .1;
-        roomy = omega arith;
+        sheet = record { fine = blank .1; roomy = omega arith; short = λ i h. absurd (omega arith) };
       }
 
   reads-from : Reads bs 0 m
@@ -139,3 +143,4 @@ pub reads-first : (bs : List ℕ) {s : State} {pile at len key what number : Lis
 reads-first bs {pile = pile} body ws b e =
     reads-from bs _ (getD-set-same pile 0 C.TEXT 0 (omega (arith, e .places))) (b .height) (b .many) (b .called-at)
     (b .called-end) (b .draft) (length-set pile 0 C.TEXT ∙ e .places) (e .names) (b .blank _ (e .sheet)) (b .nothing)
+    (b .closed)

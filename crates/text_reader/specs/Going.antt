@@ -71,7 +71,7 @@ module _ {bs : List ℕ} {at : ℕ} {t : Token} {m n : Memory} {r : Code.Turned}
   counts-on e =
       counts-turn (readerOf bs m) (readerOf bs n) (placedOf bs t) (x .ready .comes) (z .go e)
       (drafted-short (n .draft) (n .body) (n .starts))
-      (omega (arith, shown-total n bs, z .ready e .roomy)) (x .counts)
+      (omega (arith, shown-total n bs, z .ready e .sheet .roomy)) (x .counts)
 
   -- It stops the reader, or the reader goes on; behind the last one nothing comes.
   reads-stopped : (r .number ≡ 0 → ⊥) → (room : ℕ) → machine bs room ≡ refused (r .number) (r .place)

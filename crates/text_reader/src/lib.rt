@@ -11,8 +11,8 @@ ghost use mathlib.Core.Path.{_≡_};
 ghost use Prim.Native.Nat.{_≤_};
 ghost use lib.ListN.{length};
 ghost use Rattle.semantics.specs.Numbers as F;
-ghost use Rattle.text_machine.specs.Machine.{machine};
-ghost use Rattle.text_turn.specs.Shown.{memoryOf};
+ghost use Rattle.text_semantics.specs.Answer.{answer as answerTo};
+ghost use Rattle.text_turn.specs.Turn.{memoryOf};
 ghost use Rattle.text_reader.specs.Answer.{answeredOf, left, Says};
 ghost use Rattle.text_reader.specs.Going.{Reads, Done};
 ghost use Rattle.text_reader.specs.End.{lineOf, Closed, Answers};
@@ -215,7 +215,7 @@ fn read_with<'a>(
     requires { ⌜ Empty (now pile) (now at) (now len) (now key) (now what) (now number) (now lacks) (now declared)
         (now «class_at») (now «class_line») (now stage) (now ends) (now blocks) (now «level_block») (now «kept_line»)
         (now «kept_size») (now «kept_body») ⌝ }
-    ensures { λ r. ⌜ Says (machine (now (text .entry)) (length (now (out .entry)))) r (now (out .entry)) (now (out .exit)) ⌝ }
+    ensures { λ r. ⌜ Says (answerTo (now (text .entry)) (length (now (out .entry)))) r (now (out .entry)) (now (out .exit)) ⌝ }
 {
     pile[0] = symbol::TEXT;
     let r = all_tokens(
@@ -257,8 +257,8 @@ fn read_with<'a>(
 
 // Reads a text: writes the records of its model into `out`, or refuses it and writes nothing.
 pub fn read(text: &[u8], out: &mut [u8]) -> Answered
-    ensures { λ r. ⌜ r ≡ answeredOf (machine (now (text .entry)) (length (now (out .entry)))) ⌝ }
-    ensures { λ _. ⌜ now (out .exit) ≡ left (machine (now (text .entry)) (length (now (out .entry)))) (now (out .entry)) ⌝ }
+    ensures { λ r. ⌜ r ≡ answeredOf (answerTo (now (text .entry)) (length (now (out .entry)))) ⌝ }
+    ensures { λ _. ⌜ now (out .exit) ≡ left (answerTo (now (text .entry)) (length (now (out .entry)))) (now (out .entry)) ⌝ }
 {
     read_with(
         text,

@@ -1,11 +1,11 @@
--- What the reader's struct and arrays show: the machine's reader.
+-- What the reader's structs and arrays show: the machine's reader.
 -- Assumes nothing.
-use Prim.Native.Nat.{ℕ, _≤_, _<_}
+use Prim.Native.Nat.{ℕ, _≤_}
+use mathlib.Core.Path.{_≡_}
 use mathlib.Core.List.{List}
 use mathlib.Core.Bool.{Bool}
 use lib.ListN.{length}
 use Rattle.text_semantics.specs.Names.{Known}
-use Rattle.text_machine.specs.Entry.{FULL}
 use Rattle.text_machine.specs.Machine.{Reader}
 use Rattle.text_agrees.specs.Stages.{Comes}
 use Rattle.text_pile.specs.Pile.{pileOf, Piled}
@@ -16,8 +16,7 @@ use Rattle.text_entry.specs.Draft.{draftOf}
 use Rattle.text_entry.specs.Draft as Entry
 use Rattle.text_sheet.specs.declared.Sheet.{Sheet}
 use Rattle.text_sheet.specs.Shown.{Lent, sheetOf}
-use Rattle.text_sheet.specs.Fine as Written
-use Rattle.text_turn.specs.declared.State.{State}
+use Rattle.text_turn.specs.Sheets.{Sound}
 
 -- THE MEMORY of the reader: the pile; the table of names; where the name of the class line stands that is being read; the draft
 -- with its bytes and its starts; and the sheet with its arrays.
@@ -42,37 +41,22 @@ pub record Memory : Type 0 where
   pub sheet : Sheet
   pub lent : Lent
 
--- The memory that a struct of numbers and the arrays lent beside it are.
-abbrev pub memoryOf : State → List ℕ → (at len key what number : List ℕ) → List Bool → (body starts : List ℕ) →
-    (declared classAt classLine stage ends blocks levelBlock keptLine keptSize keptBody : List ℕ) → Memory
-memoryOf s pile at len key what number lacks body starts declared classAt classLine stage ends blocks levelBlock keptLine
-    keptSize keptBody =
-    record {
-      pile = pile;
-      height = s .height;
-      names = record { many = s .many; at = at; len = len; key = key; what = what; number = number; lacks = lacks };
-      calledAt = s .«called_at»;
-      calledEnd = s .«called_end»;
-      draft = s .draft;
-      body = body;
-      starts = starts;
-      sheet = s .sheet;
-      lent = record {
-        declared = declared;
-        classAt = classAt;
-        classLine = classLine;
-        stage = stage;
-        ends = ends;
-        blocks = blocks;
-        levelBlock = levelBlock;
-        keptLine = keptLine;
-        keptSize = keptSize;
-        keptBody = keptBody;
-      };
-    }
+abbrev pub namesOf : ℕ → List ℕ → List ℕ → List ℕ → List ℕ → List ℕ → List Bool → Names
+namesOf n at len key what number lacks =
+    record { many = n; at = at; len = len; key = key; what = what; number = number; lacks = lacks }
 
 abbrev pub knownIn : List ℕ → Names → List Known
 knownIn bs t = knownOf bs (t .many) (t .at) (t .len) (t .what) (t .number) (t .lacks)
+
+-- What is asked of the table.
+pub record Tabled (bs : List ℕ) (t : Names) : Type 0 where
+  pub fine : Table.Fine bs (t .many) (t .at) (t .len) (t .key)
+  pub room : Room (t .at) (t .len) (t .key) (t .what) (t .number) (t .lacks)
+
+-- A table in which this is known.
+pub record Knowing (bs : List ℕ) (t : Names) (ks : List Known) : Type 0 where
+  pub tabled : Tabled bs t
+  pub same : knownIn bs t ≡ ks
 
 -- The machine's reader that it shows, of the text bs.
 abbrev pub readerOf : List ℕ → Memory → Reader
@@ -90,10 +74,8 @@ readerOf bs m =
 pub record Ready (bs : List ℕ) (m : Memory) : Type 0 where
   pub comes : Comes (readerOf bs m)
   pub piled : Piled (m .pile) (m .height)
-  pub table : Table.Fine bs (m .names .many) (m .names .at) (m .names .len) (m .names .key)
-  pub room : Room (m .names .at) (m .names .len) (m .names .key) (m .names .what) (m .names .number) (m .names .lacks)
+  pub names : Tabled bs (m .names)
   pub begun : m .calledAt ≤ m .calledEnd
   pub within : m .calledEnd ≤ length bs
   pub draft : Entry.Fine (m .draft)
-  pub sheet : Written.Fine (m .sheet) (m .lent)
-  pub roomy : m .sheet .total < FULL
+  pub sheet : Sound (m .sheet) (m .lent)

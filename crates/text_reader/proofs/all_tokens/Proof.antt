@@ -3,8 +3,7 @@
 use Prim.Native.Nat.{_-_}
 use native.Mathlib.Omega.{arith}
 use lib.ListN.{length}
-use Rattle.text_turn.specs.Shown.{memoryOf}
-use Rattle.text_turn.specs.Turn.{Pending}
+use Rattle.text_turn.specs.Turn.{memoryOf}
 use Rattle.text_reader.specs.Going.{Reads, reads-done, reads-on, last-token, more-tokens}
 use Rattle.text_reader.proofs.all_tokens.Statement.{statement}
 use Rattle.text_reader.proofs.all_tokens.Tie as tie
@@ -34,12 +33,8 @@ abbrev next-of : tie.After-turn-arg19 Inv-loop μ-loop → tie.After-next Inv-lo
 next-of c = let a = c .before .before .before .before .before .before .before .before .before .before in
     a .before .before .before .before .before .before .before .before .before
 
--- This falls away with `Pending`, when `turn` is written.
-pending : Pending
-pending = ?
-
 turn-requires : tie.Need-turn-requires Inv-loop μ-loop
-turn-requires c κs = let n = next-of c in (n .before .loop .inv .ready, ((_, n .next .ensures), pending))
+turn-requires c κs = let n = next-of c in (n .before .loop .inv .ready, (_, n .next .ensures))
 
 returns : tie.Need-returns Inv-loop μ-loop
 returns c = let t = c .before .before .before in

@@ -1,7 +1,7 @@
 -- `text_reader::read_with` meets its contract. Assumes nothing.
 use mathlib.Core.Path.{refl}
 use borrow.Author.Needs.{needs}
-use Rattle.text_reader.specs.End.{closes, answers-machine}
+use Rattle.text_reader.specs.End.{closes, answers-text}
 use Rattle.text_reader.specs.First.{reads-first}
 use Rattle.text_reader.proofs.read_with.Statement.{statement}
 use Rattle.text_reader.proofs.read_with.Tie as tie
@@ -30,7 +30,7 @@ same-length c = search needs
 returns : tie.Need-returns
 returns c = let a = c .before .before in
     let t = a .before .before .before .before .before .before .before .before .before in
-    answers-machine (t .all-tokens .ensures) refl refl (a .answer .ensures)
+    answers-text (t .all-tokens .ensures) refl refl (a .answer .ensures)
 
 pub read-with-spec : {M : Type 1} → statement M
 read-with-spec =

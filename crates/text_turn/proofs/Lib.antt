@@ -1,0 +1,10 @@
+pub mod Troubles
+pub mod Drafts
+pub mod Cuts
+pub mod Opens
+pub mod Judges
+pub mod Bodies
+pub mod Fitting
+pub mod Ready
+pub mod Steps
+pub mod Before
