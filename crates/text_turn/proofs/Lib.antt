@@ -8,3 +8,4 @@ pub mod Fitting
 pub mod Ready
 pub mod Steps
 pub mod Before
+pub mod Onward

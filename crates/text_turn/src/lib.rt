@@ -30,7 +30,7 @@ ghost use Rattle.semantics.specs.Numbers as F;
 ghost use Rattle.text_machine.specs.Entry.{KEPT, FULL, drafted, nameIn};
 ghost use Rattle.text_machine.specs.Entry as Drafting;
 ghost use Rattle.text_machine.specs.Sheet as M;
-ghost use Rattle.text_machine.specs.Machine.{asked, overLimit};
+ghost use Rattle.text_machine.specs.Machine.{Reader, asked, overLimit, mostNames, ended};
 ghost use Rattle.text_machine.specs.Machine as Machine;
 ghost use Rattle.text_pile.specs.Pile.{SYMBOLS, Piled, pileOf};
 ghost use Rattle.text_pile.specs.Laws.{topOf};
@@ -39,7 +39,8 @@ ghost use Rattle.file_check_record.specs.Rows.{numberOf};
 ghost use Rattle.text_entry.specs.Draft as Entry;
 ghost use Rattle.text_sheet.specs.Numbers as Numbers;
 ghost use Rattle.text_sheet.specs.Shown.{levelsOf, Lent, sheetOf, withBlocks, withClasses};
-ghost use Rattle.text_sheet.specs.Fine.{Open};
+ghost use Rattle.text_sheet.specs.Fine.{Small, Open, Rising};
+ghost use Rattle.text_sheet.specs.Told.{filed};
 ghost use Rattle.text_turn.specs.Cut.{countsOf, limitOf};
 ghost use Rattle.text_turn.specs.Sorts.{sortOf, eventBy, knownBy, bodyBy, sheetBy, cutBy, troublePlace};
 ghost use Rattle.text_turn.specs.Sorts.{callsBy};
@@ -963,13 +964,15 @@ fn state_of(r: Moved) -> State
     ensures { λ s. ⌜ s ≡ record { height = r .height; many = r .names; «called_at» = r .«called_at»; «called_end» = r .«called_end»;
         draft = r .draft; sheet = r .sheet } ⌝ }
 {
+    let draft = r.draft;
+    let sheet = r.sheet;
     State {
         height: r.height,
         many: r.names,
         called_at: r.called_at,
         called_end: r.called_end,
-        draft: r.draft,
-        sheet: r.sheet,
+        draft,
+        sheet,
     }
 }
 
@@ -1012,6 +1015,8 @@ pub fn turn<'a>(
         (now («class_at» .exit)) (now («class_line» .exit)) (now (stage .exit)) (now (ends .exit)) (now (blocks .exit))
         (now («level_block» .exit)) (now («kept_line» .exit)) (now («kept_size» .exit)) (now («kept_body» .exit))) ⌝ }
 {
+    let draft = state.draft;
+    let sheet = state.sheet;
     let r = step(
         text,
         token.kind,
@@ -1029,10 +1034,10 @@ pub fn turn<'a>(
         lacks,
         state.called_at,
         state.called_end,
-        state.draft,
+        draft,
         body,
         starts,
-        state.sheet,
+        sheet,
         declared,
         class_at,
         class_line,
