@@ -25,8 +25,8 @@ use Rattle.text_sheet.specs.declared.Sheet.{Sheet}
 use Rattle.text_sheet.specs.Shown.{sheetOf}
 use Rattle.text_sheet.specs.Fine.{Small, Rising}
 use Rattle.text_sheet.specs.Told.{filed}
-use Rattle.text_turn.specs.declared.Turned.{Turned}
-use Rattle.text_turn.specs.Shown.{Memory, readerOf, knownIn}
+use Rattle.text_reader.specs.declared.Turned.{Turned}
+use Rattle.text_reader.specs.Shown.{Memory, readerOf, knownIn}
 use Rattle.text_reader.specs.declared.Answered.{Answered}
 use Rattle.text_reader.specs.Answer.{Says}
 use Rattle.text_reader.specs.Length.{file-fits}

@@ -23,9 +23,9 @@ use Rattle.text_entry.specs.declared.Draft.{Draft}
 use Rattle.text_entry.specs.Draft.{draftOf}
 use Rattle.text_sheet.specs.Shown.{Lent, sheetOf}
 use Rattle.text_sheet.specs.Fine.{Sized, Fine}
-use Rattle.text_turn.specs.declared.State.{State}
-use Rattle.text_turn.specs.Shown.{Memory, Names, readerOf, Ready, knownIn}
-use Rattle.text_turn.specs.Turn.{memoryOf}
+use Rattle.text_reader.specs.declared.State.{State}
+use Rattle.text_reader.specs.Shown.{Memory, Names, readerOf, Ready, knownIn}
+use Rattle.text_reader.specs.Turn.{memoryIn}
 use Rattle.text_reader.specs.Length.{Counts, counts-first}
 use Rattle.text_reader.specs.Going.{Reads}
 
@@ -138,7 +138,7 @@ module _ (bs : List ℕ) (m : Memory) (top : getD (m .pile) 0 0 ≡ C.TEXT) (hei
 pub reads-first : (bs : List ℕ) {s : State} {pile at len key what number : List ℕ} {lacks : List Bool} (body ws : List ℕ)
     {declared classAt classLine stage ends blocks levelBlock keptLine keptSize keptBody : List ℕ} → Begins s
     → Empty pile at len key what number lacks declared classAt classLine stage ends blocks levelBlock keptLine keptSize keptBody
-    → Reads bs 0 (memoryOf s (set pile 0 C.TEXT) at len key what number lacks body ws declared classAt classLine stage ends
+    → Reads bs 0 (memoryIn s (set pile 0 C.TEXT) at len key what number lacks body ws declared classAt classLine stage ends
     blocks levelBlock keptLine keptSize keptBody)
 reads-first bs {pile = pile} body ws b e =
     reads-from bs _ (getD-set-same pile 0 C.TEXT 0 (omega (arith, e .places))) (b .height) (b .many) (b .called-at)

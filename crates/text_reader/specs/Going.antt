@@ -18,9 +18,9 @@ use Rattle.text_tokens.specs.Next.{Next, behind}
 use Rattle.text_entry.specs.declared.Draft.{Draft}
 use Rattle.text_entry.specs.Draft.{bodyIn, draftOf}
 use Rattle.text_sheet.specs.Shown.{sheetOf}
-use Rattle.text_turn.specs.declared.Turned as Code
-use Rattle.text_turn.specs.Shown.{Memory, readerOf, Ready}
-use Rattle.text_turn.specs.Turn.{Turns, placedOf}
+use Rattle.text_reader.specs.declared.Turned as Code
+use Rattle.text_reader.specs.Shown.{Memory, readerOf, Ready}
+use Rattle.text_reader.specs.Turn.{Turns, placedOf}
 use Rattle.text_reader.specs.Length.{Counts, counts-turn}
 
 -- Before the token from `at` on, the memory m shows a reader that answers, with what is still to come, what the machine does.

@@ -3,7 +3,7 @@
 use Prim.Native.Nat.{_-_}
 use native.Mathlib.Omega.{arith}
 use lib.ListN.{length}
-use Rattle.text_turn.specs.Turn.{memoryOf}
+use Rattle.text_reader.specs.Turn.{memoryIn}
 use Rattle.text_reader.specs.Going.{Reads, reads-done, reads-on, last-token, more-tokens}
 use Rattle.text_reader.proofs.all_tokens.Statement.{statement}
 use Rattle.text_reader.proofs.all_tokens.Tie as tie
@@ -13,7 +13,7 @@ Inv-loop text pile₀ at₀ len₀ key₀ what₀ number₀ lacks₀ body₀ sta
     level-block₀ kept-line₀ kept-size₀ kept-body₀ state₀ place₀ pile at len key what number lacks body starts declared class-at
     class-line stage ends blocks level-block kept-line kept-size kept-body state place =
     Reads text place
-    (memoryOf state pile at len key what number lacks body starts declared class-at class-line stage ends blocks level-block
+    (memoryIn state pile at len key what number lacks body starts declared class-at class-line stage ends blocks level-block
     kept-line kept-size kept-body)
 
 abbrev μ-loop : tie.MeasureT-loop

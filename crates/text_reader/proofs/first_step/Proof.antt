@@ -1,0 +1,37 @@
+use native.Mathlib.Omega.{arith}
+use mathlib.Core.Path.{_≡_, refl, sym, _∙_, ap}
+use lib.ListN.{getD}
+use lib.Dec.{eqb}
+use borrow.Author.Tests.{eq-eqb, ne-eqb}
+use Rattle.semantics.specs.Kinds as K
+use Rattle.semantics.specs.Words.{if_then_else_}
+use Rattle.text_semantics.specs.Token as T
+use Rattle.text_machine.specs.Sheet as M
+use Rattle.text_sheet.specs.Shown.{sheetOf}
+use Rattle.text_reader.specs.Sheets.{Steps, Turns, withBodies}
+use Rattle.text_reader.proofs.Troubles.{no-mark}
+use borrow.Author.Needs.{needs}
+use Rattle.text_reader.proofs.first_step.Statement.{statement}
+use Rattle.text_reader.proofs.first_step.Tie as tie
+use Rattle.text_reader.proofs.first_step.Reads as reads
+use Rattle.text_reader.proofs.first_step.Lts as lts
+use Rattle.text_sheet.proofs.with_first.Reads as with-first-reads
+
+-- src/lib.rt:666:9
+with-first-requires : tie.Need-with-first-requires
+with-first-requires c κs = search needs
+
+-- src/lib.rt:666:9
+returns : tie.Need-returns
+returns c = let a = c .before .before .before .args in
+    λ m h. let w = c .with-first .ensures in
+    let v = w .0 m (h .fine) in
+    rw (eq-eqb (a .s .total) 0 (c .before .if1 .taken)) (record { same = v .same; sound = record { fine = v .fine; roomy = omega (arith, ap (λ u. u .total) (w .1), h .roomy); short = λ k l. h .short k (omega (arith, l, ap (λ u. u .levels) (w .1))) } })
+
+-- src/lib.rt:662:1
+returns-2 : tie.Need-returns-2
+returns-2 c = let a = c .before .before .args in
+    λ m h. rw (ne-eqb (a .s .total) 0 (c .if1 .left)) (record { same = refl; sound = h })
+
+pub first-step-spec : {M : Type 1} → statement M
+first-step-spec = tie.close (tie.spec with-first-requires returns returns-2)
