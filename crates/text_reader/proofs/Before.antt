@@ -64,7 +64,8 @@ sign-not false false n f g h e = h e
 
 pub is-named : (s : Symbol) → sortOf s ≡ Sort.NAMED → s ≡ one aName
 is-named (one (the k)) e =
-    absurd (sign-not (eqb k T.SEMI) (eqb k T.LB) Sort.NAMED (λ q. omega (arith, q)) (λ q. omega (arith, q)) (λ q. omega (arith, q)) e)
+    absurd (sign-not (eqb k T.SEMI) (eqb k T.LB) Sort.NAMED (λ q. omega (arith, q)) (λ q. omega (arith, q)) (λ q. omega (arith,
+    q)) e)
 is-named (one aName) e = refl
 is-named (one (aNumber b)) e = absurd (omega (arith, e))
 is-named (factorS n) e = absurd (omega (arith, e))
@@ -86,7 +87,8 @@ is-named textS e = absurd (omega (arith, e))
 
 pub is-body : (s : Symbol) → sortOf s ≡ Sort.BODY → s ≡ bodyS
 is-body (one (the k)) e =
-    absurd (sign-not (eqb k T.SEMI) (eqb k T.LB) Sort.BODY (λ q. omega (arith, q)) (λ q. omega (arith, q)) (λ q. omega (arith, q)) e)
+    absurd (sign-not (eqb k T.SEMI) (eqb k T.LB) Sort.BODY (λ q. omega (arith, q)) (λ q. omega (arith, q)) (λ q. omega (arith,
+    q)) e)
 is-body (one aName) e = absurd (omega (arith, e))
 is-body (one (aNumber b)) e = absurd (omega (arith, e))
 is-body (factorS n) e = absurd (omega (arith, e))
@@ -165,7 +167,8 @@ module _ (bs : List ℕ) (m : Memory) (h : Ready bs m) where
 
   pub ready-name : (s kind value : ℕ) (x : List ℕ) {zs : List Symbol}
       → symbolOf s ≡ topOf (pileOf (m .pile) (m .height))
-      → turnedOf (pileOf (m .pile) (m .height)) (tokenOf kind value x) ≡ some zs → sortOf (symbolOf s) ≡ Sort.NAMED → kind ≡ C.NAME
+      → turnedOf (pileOf (m .pile) (m .height)) (tokenOf kind value x) ≡ some zs → sortOf (symbolOf s) ≡ Sort.NAMED → kind ≡
+      C.NAME
   ready-name s kind value x e f n =
       takes-name kind value x
       (subst (λ (y : Symbol). Takes y (tokenOf kind value x)) (sym e ∙ is-named (symbolOf s) n)
@@ -224,8 +227,10 @@ module _ (bs : List ℕ) (m : Memory) (h : Ready bs m) (s : ℕ) (e : symbolOf s
       let deep = stage-body (subst (λ (us : List Symbol). Stage (readerOf bs m .draft .role) (readerOf bs m .draft .kind)
       (deepness (readerOf bs m .sheet)) (roomy (h .comes) .held .q) (roomy (h .comes) .held .l) us) (p .1) st) in
       let fl : m .sheet .levels ≡ 0 =
-      sym (levels-length (m .lent .levelBlock) (m .lent .keptLine) (m .lent .keptSize) (m .lent .keptBody) (m .sheet .levels)) ∙ deep in
-      let c = subst (λ (us : List Symbol). Calling (readerOf bs m .draft .role) (knownIn bs (m .names)) (readerOf bs m .called) us)
+      sym (levels-length (m .lent .levelBlock) (m .lent .keptLine) (m .lent .keptSize) (m .lent .keptBody) (m .sheet .levels))
+      ∙ deep in
+      let c = subst (λ (us : List Symbol). Calling (readerOf bs m .draft .role) (knownIn bs (m .names)) (readerOf bs m .called)
+      us)
       (p .1) (fine (h .comes) .calling) in
       let has : isKnown (readerOf bs m) ≡ true
       → numberOf (knownIn bs (m .names)) (readerOf bs m .called) < m .sheet .classes =

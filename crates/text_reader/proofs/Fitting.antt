@@ -37,7 +37,8 @@ takes (s ∷ ss) t {zs} e = go (nextOf (step s t)) (chosen (rows s) t) e
     go (some ns) f g = ap isSome (sym f)
 
 -- A NAME that has to come is one.
-plain-by : (k v : ℕ) (a b : Bool) → isSome (nextIn (rows (one aName)) (if a then mark k else if b then number v else bad)) ≡ false
+plain-by : (k v : ℕ) (a b : Bool) → isSome (nextIn (rows (one aName)) (if a then mark k else if b then number v else bad))
+    ≡ false
 unfolding nextIn
 plain-by k v true b = refl
 plain-by k v false true = refl
@@ -70,14 +71,16 @@ unfolding nextIn
 etries zero = true
 etries (suc n) = (not (isSome (nextIn (rows (symbolOf n)) (mark T.ETRY))) || (eqb n C.TRY || eqb n T.ETRY)) && etries n
 
-etry-at : (n s : ℕ) → etries n ≡ true → s < n → (not (isSome (nextIn (rows (symbolOf s)) (mark T.ETRY))) || (eqb s C.TRY || eqb s T.ETRY)) ≡ true
+etry-at : (n s : ℕ) → etries n ≡ true → s < n → (not (isSome (nextIn (rows (symbolOf s)) (mark T.ETRY))) || (eqb s C.TRY || eqb
+    s T.ETRY)) ≡ true
 unfolding etries
 etry-at zero s e h = absurd (omega arith)
 etry-at (suc n) s e h =
     let b = and-true (not (isSome (nextIn (rows (symbolOf n)) (mark T.ETRY))) || (eqb n C.TRY || eqb n T.ETRY)) (etries n) e in
     go (eqb s n) refl (b .0) (λ l. etry-at n s (b .1) l)
   where
-    go : (t : Bool) → eqb s n ≡ t → (not (isSome (nextIn (rows (symbolOf n)) (mark T.ETRY))) || (eqb n C.TRY || eqb n T.ETRY)) ≡ true
+    go : (t : Bool) → eqb s n ≡ t → (not (isSome (nextIn (rows (symbolOf n)) (mark T.ETRY))) || (eqb n C.TRY || eqb n T.ETRY))
+        ≡ true
         → (s < n → (not (isSome (nextIn (rows (symbolOf s)) (mark T.ETRY))) || (eqb s C.TRY || eqb s T.ETRY)) ≡ true)
         → (not (isSome (nextIn (rows (symbolOf s)) (mark T.ETRY))) || (eqb s C.TRY || eqb s T.ETRY)) ≡ true
     go true f b r = rw (eqb-true s n f) b

@@ -126,8 +126,10 @@ right-judged seen d bs r o l e =
 
     more : r ≡ false → d .kind ≡ K.TRY → 0 < d .size
     more f k =
-        let j = not-faulty (M.withTotal M.blank seen 0) (draftOf d bs []) (sym (faulty-shown (M.withTotal M.blank seen 0) d bs [] o) ∙ sym e ∙ f) .1 in
+        let j = not-faulty (M.withTotal M.blank seen 0) (draftOf d bs []) (sym (faulty-shown (M.withTotal M.blank seen 0) d bs
+        [] o) ∙ sym e ∙ f) .1 in
         let b : 2 ≤ length (take (d .size) bs) =
         try-bytes (take (d .size) bs)
-        (ap (λ n. bodyJudged (rowOf n) (take (d .size) bs)) (sym k) ∙ ap (λ t. bodyJudged (rowOf (d .kind)) (bodyIn t (d .size) bs)) (sym o) ∙ j) in
+        (ap (λ n. bodyJudged (rowOf n) (take (d .size) bs)) (sym k) ∙ ap (λ t. bodyJudged (rowOf (d .kind)) (bodyIn t (d .size)
+        bs)) (sym o) ∙ j) in
         omega (arith, b, length-take (d .size) bs)

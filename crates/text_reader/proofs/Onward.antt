@@ -69,7 +69,8 @@ module _ (bs : List ℕ) (kind v p e q f sort role : ℕ) where
       go : (t : Bool) → callsBy sort role ≡ t → partOf bs (if t then p else q) (if t then e else f)
           ≡ (if t then nameIn (tokenOf kind v (partOf bs p e)) else partOf bs q f)
       go true i =
-          sym (name-is kind v (partOf bs p e) (n (eqb-true sort Sort.NAMED (and-true (eqb sort Sort.NAMED) (eqb role K.CLASS) i .0))))
+          sym (name-is kind v (partOf bs p e) (n (eqb-true sort Sort.NAMED (and-true (eqb sort Sort.NAMED) (eqb role K.CLASS) i
+          .0))))
       go false i = refl
 
 pub either-fits : (t : Bool) (p e q f n : ℕ) → p ≤ e → e ≤ n → q ≤ f → f ≤ n

@@ -80,7 +80,8 @@ module _ (s : Sheet) (m : Lent) (h : Fine s m) (d : E.Draft) (b p : ℕ) where
       size : length body ≡ getD (m .keptSize) k 0
       size = part-length (ROOM * k) (getD (m .keptSize) k 0) (m .keptBody) (omega (arith, h .sized .keptBody, f k (omega arith)))
 
-      go : (t : Bool) → M.branches d (if t then none else some (record { line = getD (m .keptLine) k 0; body = body })) (sheetOf s m)
+      go : (t : Bool) → M.branches d (if t then none else some (record { line = getD (m .keptLine) k 0; body = body }))
+          (sheetOf s m)
           .total ≡ (if t then counting b p (d .size) s else longer s (d .size - getD (m .keptSize) k 0)) .total
       go true = counts-total d (sheetOf s m) .0 ∙ sym (counting-total b p (d .size) s)
       go false = ap (λ n. added (s .total) (d .size - n)) size

@@ -17,12 +17,14 @@ use Rattle.text_semantics.specs.Meaning.{numberOf}
 use Rattle.text_semantics.specs.Reading.{Symbol}
 use Rattle.text_machine.specs.Entry.{Draft, nameIn}
 use Rattle.text_machine.specs.Sheet.{Sheet}
-use Rattle.text_machine.specs.Machine.{Reader, Turned, stops, goes, turned, named, goneOn, eventAt, draftAfter, sheetAfter, cutAt}
+use Rattle.text_machine.specs.Machine.{Reader, Turned, stops, goes, turned, named, goneOn, eventAt, draftAfter, sheetAfter}
+use Rattle.text_machine.specs.Machine.{cutAt}
 use Rattle.text_machine.specs.Machine.{after, calls, knownAfter, isKnown, troubleAt}
 use Rattle.text_pile.specs.Pile.{turnedOf}
 use Rattle.text_pile.specs.Laws.{topOf, byPile, on-pile}
 use Rattle.text_names.specs.Table.{told}
-use Rattle.text_reader.specs.Sorts.{sortOf, eventBy, event-by, troublePlace, place-by, knownBy, known-by, sheetBy, sheet-by}
+use Rattle.text_reader.specs.Sorts.{sortOf, eventBy, event-by, troublePlace, place-by, knownBy, known-by, sheetBy}
+use Rattle.text_reader.specs.Sorts.{sheet-by}
 use Rattle.text_reader.specs.Sorts.{cutBy, cut-by, callsBy, calls-by}
 
 -- A trouble that is told as 0 is none, and any other is itself.

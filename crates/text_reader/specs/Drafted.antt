@@ -13,7 +13,8 @@ use Rattle.text_entry.specs.Draft.{Fine, draftOf, TWO, MOST}
 use Rattle.text_sheet.specs.Shown.{levelsOf}
 
 -- The draft as it is; at an etry that a try goes on with, that try.
-pub record Goes (s kind : ℕ) (d : Draft) (levels : ℕ) (lines sizes bodies before : List ℕ) (r : Draft) (after : List ℕ) : Type 0 where
+pub record Goes (s kind : ℕ) (d : Draft) (levels : ℕ) (lines sizes bodies before : List ℕ) (r : Draft) (after : List ℕ) : Type
+    0 where
   pub fine : Fine r
   pub plain : (kind ≡ T.ETRY → ⊥) → (r ≡ d) × (after ≡ before)
   pub other : (s ≡ C.TRY → ⊥) → (r ≡ d) × (after ≡ before)

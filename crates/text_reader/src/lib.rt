@@ -345,7 +345,8 @@ fn draft_after(
 ) -> Draft
     requires { ⌜ Entry.Fine d × (levels ≤ F.deepest) × (Numbers.lastOf levels (now «kept_size») ≤ KEPT) ⌝ }
     requires { ⌜ (i < Entry.TWO) × (k < Entry.TWO) ⌝ }
-    requires { ⌜ Fits s kind value (M.resumed (M.keptIn (levelsOf [] (now «kept_line») (now «kept_size») (now «kept_body») levels))) ⌝ }
+    requires { ⌜ Fits s kind value (M.resumed (M.keptIn (levelsOf [] (now «kept_line») (now «kept_size») (now «kept_body»)
+        levels))) ⌝ }
     ensures { λ r. ⌜ Entry.Fine r × ((x lb : List ℕ) → Entry.draftOf r (now (body .exit)) (now (starts .exit)) ≡
         drafted w i k p (M.resumed (M.keptIn (levelsOf lb (now («kept_line» .entry)) (now («kept_size» .entry))
         (now («kept_body» .entry)) levels))) (symbolOf s) (tokenOf kind value x)
@@ -505,7 +506,8 @@ fn done(
     level_block: &[u32; limit::DEPTH],
 ) -> Staged
     requires { ⌜ Open s × Entry.Fine d × Right faulty d (now body) ⌝ }
-    ensures { λ r. ⌜ ((m : Lent) (ws : List ℕ) → Sound s (withBoth m (now (declared .entry)) (now (stage .entry)) (now (ends .entry))
+    ensures { λ r. ⌜ ((m : Lent) (ws : List ℕ) → Sound s (withBoth m (now (declared .entry)) (now (stage .entry)) (now (ends
+        .entry))
         (now (blocks .entry)) (now («level_block» .entry)))
         → Steps (overLimit (Machine.done (Entry.draftOf d (now (body .entry)) ws) (sheetOf s (withBoth m (now (declared .entry))
         (now (stage .entry)) (now (ends .entry)) (now (blocks .entry)) (now («level_block» .entry)))))
@@ -747,7 +749,8 @@ fn new_body(
         → Sound s (withBodies m (now (declared .entry)) (now («class_at» .entry)) (now («class_line» .entry))
         (now («level_block» .entry)) (now («kept_size» .entry)))
         → Steps (overLimit (M.braces (M.classes line (getD (s .seen) K.BLOCK 0) (sheetOf s (withBodies m (now (declared .entry))
-        (now («class_at» .entry)) (now («class_line» .entry)) (now («level_block» .entry)) (now («kept_size» .entry)))))) d false)
+        (now («class_at» .entry)) (now («class_line» .entry)) (now («level_block» .entry)) (now («kept_size» .entry)))))) d
+            false)
         (M.braces (M.classes line (getD (s .seen) K.BLOCK 0) (sheetOf s (withBodies m (now (declared .entry))
         (now («class_at» .entry)) (now («class_line» .entry)) (now («level_block» .entry)) (now («kept_size» .entry))))))
         r (withBodies m (now (declared .exit)) (now («class_at» .exit)) (now («class_line» .exit)) (now («level_block» .exit))
@@ -819,7 +822,8 @@ fn goes_on(s: Sheet) -> Staged
 
 // A declaration begins at p: the first one is noted.
 fn first_step(s: Sheet, p: usize) -> Sheet
-    ensures { λ r. ⌜ ((m : Lent) → Sound s m → Turns (if eqb (s .total) 0 then M.withFirst (sheetOf s m) p else sheetOf s m) r m) ⌝ }
+    ensures { λ r. ⌜ ((m : Lent) → Sound s m → Turns (if eqb (s .total) 0 then M.withFirst (sheetOf s m) p else sheetOf s m) r
+        m) ⌝ }
 {
     if s.total == 0 {
         return text_sheet::with_first(s, p);
@@ -851,7 +855,8 @@ fn sheet_after(
 ) -> Staged
     requires { ⌜ Open s × Entry.Fine d × (Numbers.lastOf (s .levels) (now «kept_size») ≤ Numbers.ROOM) ⌝ }
     requires { ⌜ (sort ≡ Sort.BODY → Titled s (now «class_at») known class) ⌝ }
-    ensures { λ r. ⌜ ((ws x : List ℕ) (v first : ℕ) → (sort ≡ Sort.BODY → first ≡ d .line) → Sound s (lentOf (now (declared .entry)) (now («class_at» .entry)) (now («class_line» .entry))
+    ensures { λ r. ⌜ ((ws x : List ℕ) (v first : ℕ) → (sort ≡ Sort.BODY → first ≡ d .line) → Sound s (lentOf (now (declared
+        .entry)) (now («class_at» .entry)) (now («class_line» .entry))
         (now (stage .entry)) (now (ends .entry)) (now (blocks .entry)) (now («level_block» .entry)) (now («kept_line» .entry))
         (now («kept_size» .entry)) (now («kept_body» .entry)))
         → Steps (cutBy sort (sheetOf s (lentOf (now (declared .entry)) (now («class_at» .entry)) (now («class_line» .entry))
@@ -859,10 +864,12 @@ fn sheet_after(
         (now («kept_size» .entry)) (now («kept_body» .entry)))) (Entry.draftOf d (now (body .entry)) ws) (tokenOf kind v x)
         (sheetBy sort (sheetOf s (lentOf (now (declared .entry)) (now («class_at» .entry)) (now («class_line» .entry))
         (now (stage .entry)) (now (ends .entry)) (now (blocks .entry)) (now («level_block» .entry)) (now («kept_line» .entry))
-        (now («kept_size» .entry)) (now («kept_body» .entry)))) known class first (Entry.draftOf d (now (body .entry)) ws) (tokenOf kind v x) p))
+        (now («kept_size» .entry)) (now («kept_body» .entry)))) known class first (Entry.draftOf d (now (body .entry)) ws)
+        (tokenOf kind v x) p))
         (sheetBy sort (sheetOf s (lentOf (now (declared .entry)) (now («class_at» .entry)) (now («class_line» .entry))
         (now (stage .entry)) (now (ends .entry)) (now (blocks .entry)) (now («level_block» .entry)) (now («kept_line» .entry))
-        (now («kept_size» .entry)) (now («kept_body» .entry)))) known class first (Entry.draftOf d (now (body .entry)) ws) (tokenOf kind v x) p)
+        (now («kept_size» .entry)) (now («kept_body» .entry)))) known class first (Entry.draftOf d (now (body .entry)) ws)
+        (tokenOf kind v x) p)
         r (lentOf (now (declared .exit)) (now («class_at» .exit)) (now («class_line» .exit))
         (now (stage .exit)) (now (ends .exit)) (now (blocks .exit)) (now («level_block» .exit)) (now («kept_line» .exit))
         (now («kept_size» .exit)) (now («kept_body» .exit)))) ⌝ }
@@ -1015,15 +1022,20 @@ fn step<'a>(
         (now ends) (now blocks) (now «level_block») (now «kept_line») (now «kept_size»)
         (now «kept_body»))) ⌝ }
     requires { ⌜ (kind ≤ BAD) × (p ≤ e) × (e ≤ length (now text)) ⌝ }
-    ensures { λ r. ⌜ Moves (now (text .entry)) (memoryOf (now (pile .entry)) height (namesOf n (now (at .entry)) (now (len .entry)) (now (key .entry)) (now (what .entry))
+    ensures { λ r. ⌜ Moves (now (text .entry)) (memoryOf (now (pile .entry)) height (namesOf n (now (at .entry)) (now (len
+        .entry)) (now (key .entry)) (now (what .entry))
         (now (number .entry)) (now (lacks .entry))) q f d
-        (now (body .entry)) (now (starts .entry)) sheet (lentOf (now (declared .entry)) (now («class_at» .entry)) (now («class_line» .entry)) (now (stage .entry))
-        (now (ends .entry)) (now (blocks .entry)) (now («level_block» .entry)) (now («kept_line» .entry)) (now («kept_size» .entry))
+        (now (body .entry)) (now (starts .entry)) sheet (lentOf (now (declared .entry)) (now («class_at» .entry)) (now
+        («class_line» .entry)) (now (stage .entry))
+        (now (ends .entry)) (now (blocks .entry)) (now («level_block» .entry)) (now («kept_line» .entry)) (now («kept_size»
+        .entry))
         (now («kept_body» .entry))))
         (record { token = tokenOf kind value (partOf (now (text .entry)) p e); place = p }) r
-        (memoryOf (now (pile .exit)) (r .height) (namesOf (r .names) (now (at .exit)) (now (len .exit)) (now (key .exit)) (now (what .exit))
+        (memoryOf (now (pile .exit)) (r .height) (namesOf (r .names) (now (at .exit)) (now (len .exit)) (now (key .exit)) (now
+        (what .exit))
         (now (number .exit)) (now (lacks .exit))) (r .«called_at») (r .«called_end») (r .draft)
-        (now (body .exit)) (now (starts .exit)) (r .sheet) (lentOf (now (declared .exit)) (now («class_at» .exit)) (now («class_line» .exit)) (now (stage .exit))
+        (now (body .exit)) (now (starts .exit)) (r .sheet) (lentOf (now (declared .exit)) (now («class_at» .exit)) (now
+        («class_line» .exit)) (now (stage .exit))
         (now (ends .exit)) (now (blocks .exit)) (now («level_block» .exit)) (now («kept_line» .exit)) (now («kept_size» .exit))
         (now («kept_body» .exit)))) ⌝ }
 {

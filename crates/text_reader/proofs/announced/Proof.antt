@@ -1,3 +1,4 @@
+-- `text_reader::announced` meets its contract. Assumes nothing.
 use native.Mathlib.Omega.{arith}
 use native.Mathlib.Numerals.{add-one}
 use Prim.Native.Nat.{ℕ, _+_, _≤_, _<_, suc}
@@ -23,27 +24,22 @@ use Rattle.text_reader.proofs.Bodies.{small-with, small-classed, classe
 use borrow.Author.Needs.{needs}
 use Rattle.text_reader.proofs.announced.Statement.{statement}
 use Rattle.text_reader.proofs.announced.Tie as tie
-use Rattle.text_reader.proofs.announced.Reads as reads
-use Rattle.text_reader.proofs.announced.Lts as lts
-use Rattle.text_reader.proofs.over_limit.Reads as over-limit-reads
-use Rattle.text_sheet.proofs.classes.Reads as classes-reads
 
--- src/lib.rt:522:9
 classes-requires : tie.Need-classes-requires
 classes-requires c κs = search needs
 
--- src/lib.rt:523:9
 over-limit-requires : tie.Need-over-limit-requires
 over-limit-requires c κs = search needs
 
--- src/lib.rt:506:1
 returns : tie.Need-returns
 returns c = let a = c .before .before .before .before .before .args in
     let w = c .before .classes .ensures in
     let r = c .before .classes .result in
     let lv : r .levels ≡ a .s .levels = ap (λ u. u .levels) (w .1 .0) ∙ classed-levels (a .s) in
     λ m d e h. let v = w .0 m (h .fine) in
-    steps-by r _ (M.classes (a .line) No.noBody (sheetOf (a .s) (withClasses m (a .declared .now) (a .class-at .now) (a .class-line .now)))) d (a .line) e (v .fine) (v .same) (as-short (r .levels) (a .s .levels) (m .keptSize) lv (h .short)) (c .over-limit .ensures)
+    steps-by r _ (M.classes (a .line) No.noBody (sheetOf (a .s) (withClasses m (a .declared .now) (a .class-at .now) (a
+    .class-line .now)))) d (a .line) e (v .fine) (v .same) (as-short (r .levels) (a .s .levels) (m .keptSize) lv (h .short)) (c
+    .over-limit .ensures)
 
 pub announced-spec : {M : Type 1} → statement M
 announced-spec = tie.close (tie.spec classes-requires over-limit-requires returns)

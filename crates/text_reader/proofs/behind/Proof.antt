@@ -1,3 +1,4 @@
+-- `text_reader::behind` meets its contract. Assumes nothing.
 use native.Mathlib.Omega.{arith}
 use mathlib.Core.Path.{_≡_, refl, sym, _∙_, ap}
 use lib.Dec.{eqb}
@@ -11,16 +12,11 @@ use Rattle.text_reader.proofs.Troubles.{no-mark}
 use borrow.Author.Needs.{needs}
 use Rattle.text_reader.proofs.behind.Statement.{statement}
 use Rattle.text_reader.proofs.behind.Tie as tie
-use Rattle.text_reader.proofs.behind.Reads as reads
-use Rattle.text_reader.proofs.behind.Lts as lts
-use Rattle.text_sheet.proofs.close_brace.Reads as close-brace-reads
-use Rattle.text_sheet.proofs.settle.Reads as settle-reads
 
--- src/lib.rt:494:9
 close-brace-requires : tie.Need-close-brace-requires
-close-brace-requires c κs = (c .before .before .before .before .before .pre .0 .small, c .before .before .before .before .before .pre .1)
+close-brace-requires c κs = (c .before .before .before .before .before .pre .0 .small, c .before .before .before .before
+    .before .pre .1)
 
--- src/lib.rt:494:9
 returns : tie.Need-returns
 returns c = let a = c .before .before .before .before .before .before .args in
     let e = c .close-brace .ensures in
@@ -42,21 +38,20 @@ returns c = let a = c .before .before .before .before .before .before .args in
       };
     })
 
--- src/lib.rt:497:9
 returns-2 : tie.Need-returns-2
 returns-2 c = let a = c .before .before .args in
     λ m v x h. rw (c .if2 .taken) (record { same = refl; sound = h })
 
--- src/lib.rt:499:5
 settle-requires : tie.Need-settle-requires
-settle-requires c κs = (c .before .before .before .before .before .before .pre .0 .small, c .before .before .before .before .before .before .pre .1)
+settle-requires c κs = (c .before .before .before .before .before .before .pre .0 .small, c .before .before .before .before
+    .before .before .pre .1)
 
--- src/lib.rt:475:1
 returns-3 : tie.Need-returns-3
 returns-3 c = let a = c .before .before .before .before .before .before .before .args in
     let e = c .settle .ensures in
     λ m v x h. let w = e .0 m (h .fine) in
-    rw (no-mark (a .kind) v x T.RB (c .before .before .before .before .before .before .if1 .left) (λ q. omega (arith, q)), no-mark (a .kind) v x T.ETRY (c .before .before .before .before .before .if2 .left) (λ q. omega (arith, q)))
+    rw (no-mark (a .kind) v x T.RB (c .before .before .before .before .before .before .if1 .left) (λ q. omega (arith, q)),
+    no-mark (a .kind) v x T.ETRY (c .before .before .before .before .before .if2 .left) (λ q. omega (arith, q)))
     (record {
       same = w .same;
       sound = record {

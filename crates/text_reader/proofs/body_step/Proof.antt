@@ -1,3 +1,4 @@
+-- `text_reader::body_step` meets its contract. Assumes nothing.
 use native.Mathlib.Omega.{arith}
 use mathlib.Core.Path.{_≡_, refl, sym, _∙_, ap}
 use lib.ListN.{getD}
@@ -13,43 +14,37 @@ use Rattle.text_reader.proofs.Troubles.{no-mark}
 use borrow.Author.Needs.{needs}
 use Rattle.text_reader.proofs.body_step.Statement.{statement}
 use Rattle.text_reader.proofs.body_step.Tie as tie
-use Rattle.text_reader.proofs.body_step.Reads as reads
-use Rattle.text_reader.proofs.body_step.Lts as lts
-use Rattle.text_reader.proofs.announced.Reads as announced-reads
-use Rattle.text_reader.proofs.body_of.Reads as body-of-reads
-use Rattle.text_reader.proofs.new_body.Reads as new-body-reads
 
--- src/lib.rt:643:9
 announced-requires : tie.Need-announced-requires
 announced-requires c κs = search needs
 
--- src/lib.rt:643:9
 returns : tie.Need-returns
 returns c = let a = c .before .before .before .before .before .args in
-    λ m d v x e h. rw (c .before .before .before .before .if1 .taken) (c .announced .ensures (withBodies m (a .declared .now) (a .class-at .now) (a .class-line .now) (a .level-block .now) (a .kept-size .now)) d e h)
+    λ m d v x e h. rw (c .before .before .before .before .if1 .taken) (c .announced .ensures (withBodies m (a .declared .now)
+    (a .class-at .now) (a .class-line .now) (a .level-block .now) (a .kept-size .now)) d e h)
 
--- src/lib.rt:646:9
 body-of-requires : tie.Need-body-of-requires
 body-of-requires c κs = let p = c .before .before .before .before .before .before .pre in
     let k = c .before .before .before .before .if2 .taken in
     ((p .0, p .1 .flat, p .1 .has k), p .1 .placed k)
 
--- src/lib.rt:646:9
 returns-2 : tie.Need-returns-2
 unfolding sheetOf
 returns-2 c = let a = c .before .before .before .before .before .before .before .args in
-    λ m d v x e h. rw (no-mark (a .kind) v x T.SEMI (c .before .before .before .before .before .before .if1 .left) (λ q. omega (arith, q)), c .before .before .before .before .before .if2 .taken) (c .body-of .ensures (withBodies m (a .declared .now) (a .class-at .now) (a .class-line .now) (a .level-block .now) (a .kept-size .now)) d e h)
+    λ m d v x e h. rw (no-mark (a .kind) v x T.SEMI (c .before .before .before .before .before .before .if1 .left) (λ q. omega
+    (arith, q)), c .before .before .before .before .before .if2 .taken) (c .body-of .ensures (withBodies m (a .declared .now)
+    (a .class-at .now) (a .class-line .now) (a .level-block .now) (a .kept-size .now)) d e h)
 
--- src/lib.rt:648:5
 new-body-requires : tie.Need-new-body-requires
 new-body-requires c κs = let p = c .before .before .before .before .before .before .before .pre in
     (p .0, p .1 .flat)
 
--- src/lib.rt:617:1
 returns-3 : tie.Need-returns-3
 unfolding sheetOf
 returns-3 c = let a = c .before .before .before .before .before .before .before .before .args in
-    λ m d v x e h. rw (no-mark (a .kind) v x T.SEMI (c .before .before .before .before .before .before .before .if1 .left) (λ q. omega (arith, q)), c .before .before .before .before .before .before .if2 .left) (c .new-body .ensures (withBodies m (a .declared .now) (a .class-at .now) (a .class-line .now) (a .level-block .now) (a .kept-size .now)) d e h)
+    λ m d v x e h. rw (no-mark (a .kind) v x T.SEMI (c .before .before .before .before .before .before .before .if1 .left) (λ
+    q. omega (arith, q)), c .before .before .before .before .before .before .if2 .left) (c .new-body .ensures (withBodies m (a
+    .declared .now) (a .class-at .now) (a .class-line .now) (a .level-block .now) (a .kept-size .now)) d e h)
 
 pub body-step-spec : {M : Type 1} → statement M
 body-step-spec =

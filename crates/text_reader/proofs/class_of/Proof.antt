@@ -1,3 +1,4 @@
+-- `text_reader::class_of` meets its contract. Assumes nothing.
 use native.Mathlib.Omega.{arith}
 use mathlib.Core.Path.{sym}
 use lib.ListN.{take, length-take, List·getD-eq-default}
@@ -5,22 +6,17 @@ use lib.Seq.{getD-take}
 use borrow.Author.Needs.{needs}
 use Rattle.text_reader.proofs.class_of.Statement.{statement}
 use Rattle.text_reader.proofs.class_of.Tie as tie
-use Rattle.text_reader.proofs.class_of.Reads as reads
-use Rattle.text_reader.proofs.class_of.Lts as lts
 
--- src/lib.rt:354:16
 mul-result : tie.Need-mul-result
 mul-result c = search needs
 
--- src/lib.rt:354:16
 element-copy-out-result : tie.Need-element-copy-out-result
 element-copy-out-result c = search needs
 
--- src/lib.rt:354:9
 returns : tie.Need-returns
-returns c = sym (getD-take (c .before .before .args .classes) (c .before .before .args .class-line .now) (c .before .before .args .current) 0 (c .before .if1 .taken))
+returns c = sym (getD-take (c .before .before .args .classes) (c .before .before .args .class-line .now) (c .before .before
+    .args .current) 0 (c .before .if1 .taken))
 
--- src/lib.rt:349:1
 returns-2 : tie.Need-returns-2
 returns-2 c = let a = c .before .args in
     sym (List·getD-eq-default (take (a .classes) (a .class-line .now)) 0

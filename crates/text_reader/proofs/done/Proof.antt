@@ -1,3 +1,4 @@
+-- `text_reader::done` meets its contract. Assumes nothing.
 use native.Mathlib.Omega.{arith}
 use mathlib.Core.Path.{_≡_, refl, sym, _∙_, ap}
 use mathlib.Core.Bool.{true, false}
@@ -15,46 +16,33 @@ use Rattle.text_reader.proofs.Cuts.{stops-at, steps-by, faulty-done, do
 use borrow.Author.Needs.{needs}
 use Rattle.text_reader.proofs.done.Statement.{statement}
 use Rattle.text_reader.proofs.done.Tie as tie
-use Rattle.text_reader.proofs.done.Reads as reads
-use Rattle.text_reader.proofs.done.Lts as lts
-use Rattle.text_reader.proofs.over_limit.Reads as over-limit-reads
-use Rattle.text_reader.proofs.refused.Reads as refused-reads
-use Rattle.text_sheet.proofs.acts.Reads as acts-reads
-use Rattle.text_sheet.proofs.declares.Reads as declares-reads
-use Rattle.text_sheet.proofs.longer.Reads as longer-reads
 
--- src/lib.rt:385:46
 add-longer : tie.Need-add-longer
 add-longer c = search needs
 
--- src/lib.rt:385:24
 longer-requires : tie.Need-longer-requires
 longer-requires c κs = let p = c .before .before .pre in
     (p .0 .small .bytes, omega (arith, p .1 .counted))
 
--- src/lib.rt:385:9
 refused-requires : tie.Need-refused-requires
 refused-requires c κs = search needs
 
--- src/lib.rt:385:9
 returns : tie.Need-returns
 returns c = let a = c .before .before .before .before .args in
     let f = c .refused .ensures in
     let n = c .before .longer .ensures in
     λ m ws h. let e = c .before .before .before .if1 .taken in
-    rw e (stops-at (f .0) (ap some (f .1 ∙ ap (λ z. refusedOf z (a .d .line)) n) ∙ sym (faulty-done (a .s) (withBoth m (a .declared .now) (a .stage .now) (a .ends .now) (a .blocks .now) (a .level-block .now)) (a .d) (a .body .now) ws)))
+    rw e (stops-at (f .0) (ap some (f .1 ∙ ap (λ z. refusedOf z (a .d .line)) n) ∙ sym (faulty-done (a .s) (withBoth m (a
+    .declared .now) (a .stage .now) (a .ends .now) (a .blocks .now) (a .level-block .now)) (a .d) (a .body .now) ws)))
 
--- src/lib.rt:388:13
 declares-requires : tie.Need-declares-requires
 declares-requires c κs = let p = c .before .before .before .before .pre in
     let o = p .2 .kept (c .before .before .before .if1 .left) in
     (p .0, c .before .if2 .taken, omega (arith, p .1 .kept o))
 
--- src/lib.rt:389:13
 over-limit-requires : tie.Need-over-limit-requires
 over-limit-requires c κs = search needs
 
--- src/lib.rt:390:9
 returns-2 : tie.Need-returns-2
 unfolding draftOf
 returns-2 c = let a = c .before .before .before .before .before .before .args in
@@ -62,22 +50,23 @@ returns-2 c = let a = c .before .before .before .before .before .before .args in
     let o = p .2 .kept (c .before .before .before .before .before .if1 .left) in
     let w = c .before .declares .ensures in
     let r = c .before .declares .result in
-    let lv : r .levels ≡ a .s .levels = ap (λ u. u .levels) (w .1 .0) ∙ declaring-levels (HEAD + a .d .size) (counted (a .s) (a .d .kind) (HEAD + a .d .size)) in
+    let lv : r .levels ≡ a .s .levels = ap (λ u. u .levels) (w .1 .0) ∙ declaring-levels (HEAD + a .d .size) (counted (a .s) (a
+    .d .kind) (HEAD + a .d .size)) in
     λ m ws h. let before = withBoth m (a .declared .now) (a .stage .now) (a .ends .now) (a .blocks .now) (a .level-block .now) in
     let v = w .0 before (h .fine) in
-    rw (c .before .before .before .before .before .if1 .left) (steps-by r _ (Machine.done (draftOf (a .d) (a .body .now) ws) (sheetOf (a .s) before)) (draftOf (a .d) (a .body .now) ws) (a .d .line) refl (v .fine) (v .same ∙ done-declares (a .s) before (a .d) (a .body .now) ws (c .before .before .before .if2 .taken) o) (as-short (r .levels) (a .s .levels) (m .keptSize) lv (h .short)) (c .over-limit .ensures))
+    rw (c .before .before .before .before .before .if1 .left) (steps-by r _ (Machine.done (draftOf (a .d) (a .body .now) ws)
+    (sheetOf (a .s) before)) (draftOf (a .d) (a .body .now) ws) (a .d .line) refl (v .fine) (v .same ∙ done-declares (a .s)
+    before (a .d) (a .body .now) ws (c .before .before .before .if2 .taken) o) (as-short (r .levels) (a .s .levels) (m
+    .keptSize) lv (h .short)) (c .over-limit .ensures))
 
--- src/lib.rt:396:9
 acts-requires : tie.Need-acts-requires
 acts-requires c κs = let p = c .before .before .before .before .before .before .pre in
     let o = p .2 .kept (c .before .before .before .before .before .if1 .left) in
     (p .0, p .2 .small (c .before .before .before .before .before .if1 .left), omega (arith, p .1 .kept o))
 
--- src/lib.rt:397:9
 over-limit-requires-2 : tie.Need-over-limit-requires-2
 over-limit-requires-2 c κs = search needs
 
--- src/lib.rt:362:1
 returns-3 : tie.Need-returns-3
 unfolding draftOf
 returns-3 c = let a = c .before .before .before .before .before .before .before .before .args in
@@ -86,10 +75,14 @@ returns-3 c = let a = c .before .before .before .before .before .before .before 
     let w = c .before .acts .ensures in
     let r = c .before .acts .result in
     let b = lastOf (a .s .levels) (a .level-block .now) in
-    let lv : r .levels ≡ a .s .levels = ap (λ u. u .levels) (w .1 .0) ∙ standing-levels (counting b (a .d .line) (a .d .size) (a .s)) (HEAD + a .d .size) ∙ same-levels (a .s) b (a .d .line) (a .d .size) in
+    let lv : r .levels ≡ a .s .levels = ap (λ u. u .levels) (w .1 .0) ∙ standing-levels (counting b (a .d .line) (a .d .size)
+    (a .s)) (HEAD + a .d .size) ∙ same-levels (a .s) b (a .d .line) (a .d .size) in
     λ m ws h. let before = withBoth m (a .declared .now) (a .stage .now) (a .ends .now) (a .blocks .now) (a .level-block .now) in
     let v = w .0 before (h .fine) in
-    rw (c .before .before .before .before .before .before .before .if1 .left) (steps-by r _ (Machine.done (draftOf (a .d) (a .body .now) ws) (sheetOf (a .s) before)) (draftOf (a .d) (a .body .now) ws) (a .d .line) refl (v .fine) (v .same ∙ done-acts (a .s) before (a .d) (a .body .now) ws (c .before .before .before .before .before .if2 .left) o) (as-short (r .levels) (a .s .levels) (m .keptSize) lv (h .short)) (c .over-limit2 .ensures))
+    rw (c .before .before .before .before .before .before .before .if1 .left) (steps-by r _ (Machine.done (draftOf (a .d) (a
+    .body .now) ws) (sheetOf (a .s) before)) (draftOf (a .d) (a .body .now) ws) (a .d .line) refl (v .fine) (v .same ∙
+    done-acts (a .s) before (a .d) (a .body .now) ws (c .before .before .before .before .before .if2 .left) o) (as-short (r
+    .levels) (a .s .levels) (m .keptSize) lv (h .short)) (c .over-limit2 .ensures))
 
 pub done-spec : {M : Type 1} → statement M
 done-spec =

@@ -1,3 +1,4 @@
+-- `text_reader::draft_for` meets its contract. Assumes nothing.
 use native.Mathlib.Omega.{arith}
 use mathlib.Core.Path.{refl, sym, ap}
 use mathlib.Core.List.{[]}
@@ -6,25 +7,18 @@ use Rattle.text_reader.proofs.Drafts.{resumed-size}
 use borrow.Author.Needs.{needs}
 use Rattle.text_reader.proofs.draft_for.Statement.{statement}
 use Rattle.text_reader.proofs.draft_for.Tie as tie
-use Rattle.text_reader.proofs.draft_for.Reads as reads
-use Rattle.text_reader.proofs.draft_for.Lts as lts
-use Rattle.text_sheet.proofs.resumed.Reads as resumed-reads
 
--- src/lib.rt:257:9
 returns : tie.Need-returns
 returns c = let s = c .before .pre in
     record { fine = s .0; plain = λ h. (refl, refl); other = λ h. (refl, refl); tries = λ h j bs ws. absurd (c .if1 .taken h) }
 
--- src/lib.rt:260:9
 returns-2 : tie.Need-returns-2
 returns-2 c = let s = c .before .before .pre in
     record { fine = s .0; plain = λ h. (refl, refl); other = λ h. (refl, refl); tries = λ h j bs ws. absurd (c .if2 .taken j) }
 
--- src/lib.rt:262:9
 resumed-requires : tie.Need-resumed-requires
 resumed-requires c κs = search needs
 
--- src/lib.rt:242:1
 returns-3 : tie.Need-returns-3
 unfolding draftOf startsIn
 returns-3 c = let s = c .before .before .before .before .pre in
@@ -33,7 +27,8 @@ returns-3 c = let s = c .before .before .before .before .pre in
     let l = resumed-size [] (a .kept-line .now) (a .kept-size .now) (a .kept-body .now) (a .levels) (s .2) in
     let z = ap (λ y. y .size) (g .draft []) in
     record {
-      fine = record { counted = omega (arith, l, z); kept = λ h. omega (arith, l, z); listed = omega arith; placed = omega arith; named = omega arith; nested = omega arith };
+      fine = record { counted = omega (arith, l, z); kept = λ h. omega (arith, l, z); listed = omega arith; placed = omega
+      arith; named = omega arith; nested = omega arith };
       plain = λ h. absurd (h (c .before .before .before .if1 .left));
       other = λ h. absurd (h (c .before .before .if2 .left));
       tries = λ h j bs ws. sym (g .draft bs);

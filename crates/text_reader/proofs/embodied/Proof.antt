@@ -1,3 +1,4 @@
+-- `text_reader::embodied` meets its contract. Assumes nothing.
 use native.Mathlib.Omega.{arith}
 use native.Mathlib.Numerals.{add-one}
 use Prim.Native.Nat.{ℕ, _+_, _≤_, _<_, suc}
@@ -23,24 +24,19 @@ use Rattle.text_reader.proofs.Bodies.{small-with, small-classed, classe
 use borrow.Author.Needs.{needs}
 use Rattle.text_reader.proofs.embodied.Statement.{statement}
 use Rattle.text_reader.proofs.embodied.Tie as tie
-use Rattle.text_reader.proofs.embodied.Reads as reads
-use Rattle.text_reader.proofs.embodied.Lts as lts
-use Rattle.text_sheet.proofs.counted.Reads as counted-reads
 
--- src/lib.rt:538:9
 counted-requires : tie.Need-counted-requires
 counted-requires c κs = let p = c .pre in
     ((p .small .groups, omega arith), (omega (arith, p .small .few (p .room) K.BLOCK, p .room), (p .small .bytes, omega arith)))
 
--- src/lib.rt:539:16
 add-r : tie.Need-add-r
 add-r c = search needs
 
--- src/lib.rt:532:1
 returns : tie.Need-returns
 returns c = let a = c .before .before .args in
     let n = a .s .levels in
-    ap (λ u. withLevels u (n + 1)) (c .before .counted .ensures) ∙ ap (withLevels (counted (Numbers.withClasses (a .s) (a .s .classes) (a .class)) K.BLOCK HEAD)) (add-one n)
+    ap (λ u. withLevels u (n + 1)) (c .before .counted .ensures) ∙ ap (withLevels (counted (Numbers.withClasses (a .s) (a .s
+    .classes) (a .class)) K.BLOCK HEAD)) (add-one n)
 
 pub embodied-spec : {M : Type 1} → statement M
 embodied-spec = tie.close (tie.spec counted-requires add-r returns)

@@ -1,3 +1,4 @@
+-- `text_reader::first_step` meets its contract. Assumes nothing.
 use native.Mathlib.Omega.{arith}
 use mathlib.Core.Path.{_≡_, refl, sym, _∙_, ap}
 use lib.ListN.{getD}
@@ -13,22 +14,18 @@ use Rattle.text_reader.proofs.Troubles.{no-mark}
 use borrow.Author.Needs.{needs}
 use Rattle.text_reader.proofs.first_step.Statement.{statement}
 use Rattle.text_reader.proofs.first_step.Tie as tie
-use Rattle.text_reader.proofs.first_step.Reads as reads
-use Rattle.text_reader.proofs.first_step.Lts as lts
-use Rattle.text_sheet.proofs.with_first.Reads as with-first-reads
 
--- src/lib.rt:666:9
 with-first-requires : tie.Need-with-first-requires
 with-first-requires c κs = search needs
 
--- src/lib.rt:666:9
 returns : tie.Need-returns
 returns c = let a = c .before .before .before .args in
     λ m h. let w = c .with-first .ensures in
     let v = w .0 m (h .fine) in
-    rw (eq-eqb (a .s .total) 0 (c .before .if1 .taken)) (record { same = v .same; sound = record { fine = v .fine; roomy = omega (arith, ap (λ u. u .total) (w .1), h .roomy); short = λ k l. h .short k (omega (arith, l, ap (λ u. u .levels) (w .1))) } })
+    rw (eq-eqb (a .s .total) 0 (c .before .if1 .taken)) (record { same = v .same; sound = record { fine = v .fine; roomy =
+    omega (arith, ap (λ u. u .total) (w .1), h .roomy); short = λ k l. h .short k (omega (arith, l, ap (λ u. u .levels) (w
+    .1))) } })
 
--- src/lib.rt:662:1
 returns-2 : tie.Need-returns-2
 returns-2 c = let a = c .before .before .args in
     λ m h. rw (ne-eqb (a .s .total) 0 (c .if1 .left)) (record { same = refl; sound = h })

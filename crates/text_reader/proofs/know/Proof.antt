@@ -1,3 +1,4 @@
+-- `text_reader::know` meets its contract. Assumes nothing.
 use Prim.Native.Nat.{_<_}
 use native.Mathlib.Omega.{arith}
 use borrow.Author.Tests.{ne-eqb}
@@ -8,71 +9,63 @@ use Rattle.text_reader.proofs.Troubles.{no-mark, mark-is}
 use borrow.Author.Needs.{needs}
 use Rattle.text_reader.proofs.know.Statement.{statement}
 use Rattle.text_reader.proofs.know.Tie as tie
-use Rattle.text_reader.proofs.know.Reads as reads
-use Rattle.text_reader.proofs.know.Lts as lts
-use Rattle.text_names.proofs.announce.Reads as announce-reads
-use Rattle.text_names.proofs.declare.Reads as declare-reads
-use Rattle.text_names.proofs.embody.Reads as embody-reads
-use Rattle.text_names.proofs.leave.Reads as leave-reads
 
--- src/lib.rt:159:13
 returns : tie.Need-returns
 returns c = let s = c .before .before .before .pre in
     λ v. record { tabled = s .0; same = rw (c .before .if1 .taken, c .if2 .taken) }
 
--- src/lib.rt:161:9
 declare-requires : tie.Need-declare-requires
 declare-requires c κs = let s = c .before .before .before .before .before .before .before .before .before .pre in
     (s .0 .fine, (s .0 .room, (s .1 .1 .0, s .1 .1 .1)))
 
--- src/lib.rt:161:9
 returns-2 : tie.Need-returns-2
 returns-2 c = let s = c .before .before .before .before .before .before .before .before .before .before .pre in
     let n = s .1 .1 .4 (c .before .before .before .before .before .before .before .before .if1 .taken) in
     let d = c .declare .ensures in
-    λ v. record { tabled = record { fine = d .0; room = d .1 .0 }; same = rw (c .before .before .before .before .before .before .before .before .if1 .taken, c .before .before .before .before .before .before .before .if2 .left, n) (d .1 .1 .0) }
+    λ v. record { tabled = record { fine = d .0; room = d .1 .0 }; same = rw (c .before .before .before .before .before .before
+    .before .before .if1 .taken, c .before .before .before .before .before .before .before .if2 .left, n) (d .1 .1 .0) }
 
--- src/lib.rt:165:13
 leave-requires : tie.Need-leave-requires
 leave-requires c κs = let s = c .before .before .before .before .before .before .before .before .before .before .pre in
     (s .0 .fine, s .0 .room)
 
--- src/lib.rt:165:13
 returns-3 : tie.Need-returns-3
 returns-3 c = let a = c .before .before .before .before .before .before .before .before .before .before .before .args in
     let d = c .leave .ensures in
-    λ v. record { tabled = record { fine = d .0; room = d .1 .0 }; same = rw (c .before .before .before .before .before .before .before .before .if3 .taken, mark-is (a .kind) v (partOf (a .text .now) (a .p) (a .e)) T.RB (omega arith), c .before .before .before .before .before .before .before .if4 .taken) (d .1 .1 .0) }
+    λ v. record { tabled = record { fine = d .0; room = d .1 .0 }; same = rw (c .before .before .before .before .before .before
+    .before .before .if3 .taken, mark-is (a .kind) v (partOf (a .text .now) (a .p) (a .e)) T.RB (omega arith), c .before
+    .before .before .before .before .before .before .if4 .taken) (d .1 .1 .0) }
 
--- src/lib.rt:167:9
 returns-4 : tie.Need-returns-4
 returns-4 c = let a = c .before .before .before .before .args in
-    λ v. record { tabled = c .before .before .before .before .pre .0; same = rw (c .before .if3 .taken, mark-is (a .kind) v (partOf (a .text .now) (a .p) (a .e)) T.RB (omega arith), c .if4 .left) }
+    λ v. record { tabled = c .before .before .before .before .pre .0; same = rw (c .before .if3 .taken, mark-is (a .kind) v
+    (partOf (a .text .now) (a .p) (a .e)) T.RB (omega arith), c .if4 .left) }
 
--- src/lib.rt:171:13
 announce-requires : tie.Need-announce-requires
-announce-requires c κs = let s = c .before .before .before .before .before .before .before .before .before .before .before .pre in
+announce-requires c κs = let s = c .before .before .before .before .before .before .before .before .before .before .before
+    .pre in
     (s .0 .fine, (s .0 .room, (s .1 .1 .2, s .1 .1 .3)))
 
--- src/lib.rt:171:13
 returns-5 : tie.Need-returns-5
 returns-5 c = let d = c .announce .ensures in
-    λ v. record { tabled = record { fine = d .0; room = d .1 .0 }; same = rw (c .before .before .before .before .before .before .before .before .if5 .taken, c .before .before .before .before .before .before .before .if6 .taken) (d .1 .1 .0) }
+    λ v. record { tabled = record { fine = d .0; room = d .1 .0 }; same = rw (c .before .before .before .before .before .before
+    .before .before .if5 .taken, c .before .before .before .before .before .before .before .if6 .taken) (d .1 .1 .0) }
 
--- src/lib.rt:173:9
 embody-requires : tie.Need-embody-requires
 embody-requires c κs = let s = c .before .before .before .before .before .before .before .before .before .before .before .pre in
     (s .0 .fine, (s .0 .room, (s .1 .0, (s .1 .1 .2, s .1 .1 .3))))
 
--- src/lib.rt:173:9
 returns-6 : tie.Need-returns-6
 returns-6 c = let a = c .before .before .before .before .before .before .before .before .before .before .before .before .args in
     let d = c .embody .ensures in
-    λ v. record { tabled = record { fine = d .0; room = d .1 .0 }; same = rw (c .before .before .before .before .before .before .before .before .if5 .taken, no-mark (a .kind) v (partOf (a .text .now) (a .p) (a .e)) T.SEMI (c .before .before .before .before .before .before .before .if6 .left) (λ q. omega (arith, q))) (d .1 .1 .0) }
+    λ v. record { tabled = record { fine = d .0; room = d .1 .0 }; same = rw (c .before .before .before .before .before .before
+    .before .before .if5 .taken, no-mark (a .kind) v (partOf (a .text .now) (a .p) (a .e)) T.SEMI (c .before .before .before
+    .before .before .before .before .if6 .left) (λ q. omega (arith, q))) (d .1 .1 .0) }
 
--- src/lib.rt:130:1
 returns-7 : tie.Need-returns-7
 returns-7 c = let a = c .before .before .before .before .args in
-    λ v. record { tabled = c .before .before .before .before .pre .0; same = rw (ne-eqb (a .sort) Sort.NAMED (c .before .before .if1 .left), ne-eqb (a .sort) Sort.BLOCK (c .before .if3 .left), ne-eqb (a .sort) Sort.BODY (c .if5 .left)) }
+    λ v. record { tabled = c .before .before .before .before .pre .0; same = rw (ne-eqb (a .sort) Sort.NAMED (c .before .before
+    .if1 .left), ne-eqb (a .sort) Sort.BLOCK (c .before .if3 .left), ne-eqb (a .sort) Sort.BODY (c .if5 .left)) }
 
 pub know-spec : {M : Type 1} → statement M
 know-spec =

@@ -1,3 +1,4 @@
+-- `text_reader::look` meets its contract. Assumes nothing.
 use native.Mathlib.Omega.{arith}
 use mathlib.Core.Path.{_≡_, refl, sym, _∙_, ap}
 use Rattle.text_semantics.specs.Meaning.{kindOf, numberOf}
@@ -7,32 +8,22 @@ use Rattle.text_reader.proofs.Troubles.{name-is}
 use borrow.Author.Needs.{needs}
 use Rattle.text_reader.proofs.look.Statement.{statement}
 use Rattle.text_reader.proofs.look.Tie as tie
-use Rattle.text_reader.proofs.look.Reads as reads
-use Rattle.text_reader.proofs.look.Lts as lts
-use Rattle.text_names.proofs.look_up.Reads as look-up-reads
-use Rattle.text_reader.proofs.name_end.Reads as name-end-reads
-use Rattle.text_reader.proofs.trouble_of.Reads as trouble-of-reads
 
--- src/lib.rt:177:82
 name-end-requires : tie.Need-name-end-requires
 name-end-requires c κs = search needs
 
--- src/lib.rt:177:9
 look-up-requires : tie.Need-look-up-requires
 look-up-requires c κs = let p = c .before .before .pre in
     let n = c .name-end .ensures in
     (p .0 .fine, (n .0, omega (arith, n .1, p .1 .1 .1)))
 
--- src/lib.rt:178:9
 look-up-requires-2 : tie.Need-look-up-requires-2
 look-up-requires-2 c κs = let p = c .before .before .before .pre in
     (p .0 .fine, (p .1 .1 .2, p .1 .1 .3))
 
--- src/lib.rt:180:18
 trouble-of-requires : tie.Need-trouble-of-requires
 trouble-of-requires c κs = search needs
 
--- src/lib.rt:153:1
 returns : tie.Need-returns
 returns c = let a = c .before .before .before .before .before .args in
     let p = c .before .before .before .before .before .pre in

@@ -1,3 +1,4 @@
+-- `text_reader::name_end` meets its contract. Assumes nothing.
 use native.Mathlib.Omega.{arith}
 use Prim.Native.Nat.{_-_}
 use mathlib.Core.Path.{_≡_, refl, sym, _∙_, ap}
@@ -6,19 +7,16 @@ use Rattle.text_names.specs.Table.{partOf}
 use Rattle.text_reader.proofs.Troubles.{name-none, name-is}
 use Rattle.text_reader.proofs.name_end.Statement.{statement}
 use Rattle.text_reader.proofs.name_end.Tie as tie
-use Rattle.text_reader.proofs.name_end.Reads as reads
-use Rattle.text_reader.proofs.name_end.Lts as lts
 
--- src/lib.rt:145:1
 returns : tie.Need-returns
 returns c = let a = c .before .args in
     (c .before .pre, omega arith, λ v bs. sym (name-is (a .kind) v (partOf bs (a .p) (a .e)) (c .if1 .taken)))
 
--- src/lib.rt:145:1
 returns-2 : tie.Need-returns-2
 returns-2 c = let a = c .before .args in
     let z : a .p - a .p ≡ 0 = omega arith in
-    (omega arith, c .before .pre, λ v bs. ap (λ n. take n (drop (a .p) bs)) z ∙ sym (name-none (a .kind) v (partOf bs (a .p) (a .e)) (c .if1 .left)))
+    (omega arith, c .before .pre, λ v bs. ap (λ n. take n (drop (a .p) bs)) z ∙ sym (name-none (a .kind) v (partOf bs (a .p) (a
+    .e)) (c .if1 .left)))
 
 pub name-end-spec : {M : Type 1} → statement M
 name-end-spec = tie.close (tie.spec returns returns-2)

@@ -1,36 +1,28 @@
+-- `text_reader::name_trouble` meets its contract. Assumes nothing.
 use Rattle.text_reader.proofs.Troubles.{role-asks, role-embodies, role-declares}
 use borrow.Author.Needs.{needs}
 use Rattle.text_reader.proofs.name_trouble.Statement.{statement}
 use Rattle.text_reader.proofs.name_trouble.Tie as tie
-use Rattle.text_reader.proofs.name_trouble.Reads as reads
-use Rattle.text_reader.proofs.name_trouble.Lts as lts
-use Rattle.text_names.proofs.asks_trouble.Reads as asks-trouble-reads
-use Rattle.text_names.proofs.declares_trouble.Reads as declares-trouble-reads
-use Rattle.text_names.proofs.embodies_trouble.Reads as embodies-trouble-reads
 
--- src/lib.rt:85:9
 asks-trouble-requires : tie.Need-asks-trouble-requires
 asks-trouble-requires c κs = search needs
 
--- src/lib.rt:85:9
 returns : tie.Need-returns
 returns c = λ ks x d e. role-asks ks x d (c .before .before .args .role) e (c .before .if1 .taken) (c .asks-trouble .ensures)
 
--- src/lib.rt:88:9
 embodies-trouble-requires : tie.Need-embodies-trouble-requires
 embodies-trouble-requires c κs = search needs
 
--- src/lib.rt:88:9
 returns-2 : tie.Need-returns-2
-returns-2 c = λ ks x d e. role-embodies ks x d (c .before .before .before .args .role) e (c .before .if2 .taken) (c .embodies-trouble .ensures)
+returns-2 c = λ ks x d e. role-embodies ks x d (c .before .before .before .args .role) e (c .before .if2 .taken) (c
+    .embodies-trouble .ensures)
 
--- src/lib.rt:90:5
 declares-trouble-requires : tie.Need-declares-trouble-requires
 declares-trouble-requires c κs = search needs
 
--- src/lib.rt:80:1
 returns-3 : tie.Need-returns-3
-returns-3 c = λ ks x d e. role-declares ks x d (c .before .before .before .args .role) e (c .before .before .if1 .left) (c .before .if2 .left) (c .declares-trouble .ensures)
+returns-3 c = λ ks x d e. role-declares ks x d (c .before .before .before .args .role) e (c .before .before .if1 .left) (c
+    .before .if2 .left) (c .declares-trouble .ensures)
 
 pub name-trouble-spec : {M : Type 1} → statement M
 name-trouble-spec =

@@ -1,3 +1,4 @@
+-- `text_reader::new_body` meets its contract. Assumes nothing.
 use native.Mathlib.Omega.{arith}
 use native.Mathlib.Numerals.{add-one}
 use Prim.Native.Nat.{ℕ, _+_, _≤_, _<_, suc}
@@ -23,33 +24,24 @@ use Rattle.text_reader.proofs.Bodies.{small-with, small-classed, classe
 use borrow.Author.Needs.{needs}
 use Rattle.text_reader.proofs.new_body.Statement.{statement}
 use Rattle.text_reader.proofs.new_body.Tie as tie
-use Rattle.text_reader.proofs.new_body.Reads as reads
-use Rattle.text_reader.proofs.new_body.Lts as lts
-use Rattle.text_reader.proofs.over_limit.Reads as over-limit-reads
-use Rattle.text_sheet.proofs.braces.Reads as braces-reads
-use Rattle.text_sheet.proofs.classes.Reads as classes-reads
 
--- src/lib.rt:604:17
 element-copy-out-block : tie.Need-element-copy-out-block
 element-copy-out-block c = search needs
 
--- src/lib.rt:605:9
 classes-requires : tie.Need-classes-requires
 classes-requires c κs = let p = c .before .before .before .before .pre in
     (p .0, omega (arith, p .0 .small .few (p .0 .room) K.BLOCK, p .0 .room))
 
--- src/lib.rt:606:9
 braces-requires : tie.Need-braces-requires
 braces-requires c κs = let a = c .before .before .before .before .before .before .before .args in
     let p = c .before .before .before .before .before .before .before .pre in
     let e = c .before .before .classes .ensures .1 .0 in
-    (rw e (small-classed (a .t1) (p .0 .small)), omega (arith, ap (λ u. getD (u .seen) K.BLOCK 0) e ∙ classed-blocks (a .t1), p .0 .small .few (p .0 .room) K.BLOCK, p .0 .room), omega (arith, ap (λ u. u .levels) e ∙ classed-levels (a .t1), p .1))
+    (rw e (small-classed (a .t1) (p .0 .small)), omega (arith, ap (λ u. getD (u .seen) K.BLOCK 0) e ∙ classed-blocks (a .t1), p
+    .0 .small .few (p .0 .room) K.BLOCK, p .0 .room), omega (arith, ap (λ u. u .levels) e ∙ classed-levels (a .t1), p .1))
 
--- src/lib.rt:607:9
 over-limit-requires : tie.Need-over-limit-requires
 over-limit-requires c κs = search needs
 
--- src/lib.rt:584:1
 returns : tie.Need-returns
 returns c = let a = c .before .before .before .before .before .before .before .before .before .args in
     let p = c .before .before .before .before .before .before .before .before .before .pre in
@@ -57,11 +49,14 @@ returns c = let a = c .before .before .before .before .before .before .before .b
     let g = c .before .braces .ensures .1 in
     let r = c .before .braces .result in
     let tl : t .result .levels ≡ 0 = ap (λ u. u .levels) (t .ensures .1 .0) ∙ classed-levels (a .t1) ∙ p .1 in
-    λ m d e h. let before = withBodies m (a .declared .now) (a .class-at .now) (a .class-line .now) (a .level-block .now) (a .kept-size .now) in
+    λ m d e h. let before = withBodies m (a .declared .now) (a .class-at .now) (a .class-line .now) (a .level-block .now) (a
+    .kept-size .now) in
     let v = t .ensures .0 before (h .fine) in
     let u = c .before .braces .ensures .0 (withClasses before _ _ _) (v .fine) in
-    let kept = opened-kept (a .kept-size .now) false 0 0 (omega arith) (omega (arith, h .fine .sized .keptSize)) (λ k q. absurd (omega arith)) in
-    steps-by r _ (M.braces (M.classes (a .line) (getD (a .t1 .seen) K.BLOCK 0) (sheetOf (a .t1) before))) d (a .line) e (u .fine) (u .same ∙ ap M.braces (v .same))
+    let kept = opened-kept (a .kept-size .now) false 0 0 (omega arith) (omega (arith, h .fine .sized .keptSize)) (λ k q. absurd
+    (omega arith)) in
+    steps-by r _ (M.braces (M.classes (a .line) (getD (a .t1 .seen) K.BLOCK 0) (sheetOf (a .t1) before))) d (a .line) e (u
+    .fine) (u .same ∙ ap M.braces (v .same))
     (λ k q. let y = ap (λ xs. getD xs k 0) (g .sizes ∙ ap (λ n. set (a .kept-size .now) n 0) tl) in
     omega (arith, y, kept k (omega (arith, q, ap (λ z. z .levels) (g .numbers), tl)))) (c .over-limit .ensures)
 

@@ -1,3 +1,4 @@
+-- `text_reader::opened` meets its contract. Assumes nothing.
 use native.Mathlib.Omega.{arith}
 use native.Mathlib.Numerals.{add-one}
 use Prim.Native.Nat.{_+_, suc}
@@ -11,70 +12,62 @@ use Rattle.text_sheet.proofs.Acted.{small-counting}
 use borrow.Author.Needs.{needs}
 use Rattle.text_reader.proofs.opened.Statement.{statement}
 use Rattle.text_reader.proofs.opened.Tie as tie
-use Rattle.text_reader.proofs.opened.Reads as reads
-use Rattle.text_reader.proofs.opened.Lts as lts
-use Rattle.text_sheet.proofs.branching.Reads as branching-reads
-use Rattle.text_sheet.proofs.counted.Reads as counted-reads
-use Rattle.text_sheet.proofs.counting.Reads as counting-reads
-use Rattle.text_sheet.proofs.standing.Reads as standing-reads
 
--- src/lib.rt:411:13
 branching-requires : tie.Need-branching-requires
 branching-requires c κs = search needs
 
--- src/lib.rt:412:13
 counted-requires : tie.Need-counted-requires
 counted-requires c κs = let a = c .before .before .args in
     let p = c .before .before .pre in
-    let t = trying (a .s) (a .block) (a .line) (a .size) (a .kept) (c .branching .result) (c .branching .ensures) (p .0 .small) in
-    ((t .0 .groups, omega arith), (omega (arith, t .1, p .0 .small .few (p .0 .room) K.BLOCK, p .0 .room), (t .0 .bytes, omega arith)))
+    let t = trying (a .s) (a .block) (a .line) (a .size) (a .kept) (c .branching .result) (c .branching .ensures) (p .0
+        .small) in
+    ((t .0 .groups, omega arith), (omega (arith, t .1, p .0 .small .few (p .0 .room) K.BLOCK, p .0 .room), (t .0 .bytes, omega
+    arith)))
 
--- src/lib.rt:413:20
 add-r : tie.Need-add-r
 add-r c = search needs
 
--- src/lib.rt:414:9
 returns : tie.Need-returns
 returns c = let a = c .before .before .before .before .args in
     let n = a .s .levels in
     let e = c .before .counted .ensures ∙ ap (λ u. counted u K.BLOCK HEAD) (c .before .before .branching .ensures) in
-    ap (λ u. withLevels u (n + 1)) e ∙ ap (withLevels (counted (branching (a .kept) (a .block) (a .line) (a .size) (a .s)) K.BLOCK HEAD)) (add-one n)
-    ∙ ap (λ b. withLevels (counted (if b then branching (a .kept) (a .block) (a .line) (a .size) (a .s) else standing (HEAD + a .size) (counting (a .block) (a .line) (a .size) (a .s))) K.BLOCK HEAD) (suc n)) (sym (eq-eqb _ _ (c .before .before .before .if1 .taken)))
+    ap (λ u. withLevels u (n + 1)) e ∙ ap (withLevels (counted (branching (a .kept) (a .block) (a .line) (a .size) (a .s))
+    K.BLOCK HEAD)) (add-one n)
+    ∙ ap (λ b. withLevels (counted (if b then branching (a .kept) (a .block) (a .line) (a .size) (a .s) else standing (HEAD + a
+    .size) (counting (a .block) (a .line) (a .size) (a .s))) K.BLOCK HEAD) (suc n)) (sym (eq-eqb _ _ (c .before .before .before
+    .if1 .taken)))
 
--- src/lib.rt:416:34
 counting-requires : tie.Need-counting-requires
 counting-requires c κs = search needs
 
--- src/lib.rt:416:78
 add-standing : tie.Need-add-standing
 add-standing c = search needs
 
--- src/lib.rt:416:9
 standing-requires : tie.Need-standing-requires
 standing-requires c κs = let a = c .before .before .args in
     let p = c .before .before .pre in
     (rw (c .counting .ensures) (small-counting (a .s) (a .block) (a .line) (a .size) (p .0 .small)), omega (arith, p .1))
 
--- src/lib.rt:417:9
 counted-requires-2 : tie.Need-counted-requires-2
 counted-requires-2 c κs = let a = c .before .before .before .args in
     let p = c .before .before .before .pre in
     let e = c .standing .ensures ∙ ap (standing (HEAD + a .size)) (c .before .counting .ensures) in
     let t = acting (a .s) (a .block) (a .line) (a .size) (HEAD + a .size) (c .standing .result) e (p .0 .small) in
-    ((t .0 .groups, omega arith), (omega (arith, t .1, p .0 .small .few (p .0 .room) K.BLOCK, p .0 .room), (t .0 .bytes, omega arith)))
+    ((t .0 .groups, omega arith), (omega (arith, t .1, p .0 .small .few (p .0 .room) K.BLOCK, p .0 .room), (t .0 .bytes, omega
+    arith)))
 
--- src/lib.rt:418:16
 add-r-2 : tie.Need-add-r-2
 add-r-2 c = search needs
 
--- src/lib.rt:406:1
 returns-2 : tie.Need-returns-2
 returns-2 c = let a = c .before .before .before .before .before .args in
     let n = a .s .levels in
     let z = standing (HEAD + a .size) (counting (a .block) (a .line) (a .size) (a .s)) in
-    let e = c .before .counted2 .ensures ∙ ap (λ u. counted u K.BLOCK HEAD) (c .before .before .standing .ensures ∙ ap (standing (HEAD + a .size)) (c .before .before .before .counting .ensures)) in
+    let e = c .before .counted2 .ensures ∙ ap (λ u. counted u K.BLOCK HEAD) (c .before .before .standing .ensures ∙ ap
+    (standing (HEAD + a .size)) (c .before .before .before .counting .ensures)) in
     ap (λ u. withLevels u (n + 1)) e ∙ ap (withLevels (counted z K.BLOCK HEAD)) (add-one n)
-    ∙ ap (λ b. withLevels (counted (if b then branching (a .kept) (a .block) (a .line) (a .size) (a .s) else z) K.BLOCK HEAD) (suc n)) (sym (ne-eqb _ _ (c .before .before .before .before .if1 .left)))
+    ∙ ap (λ b. withLevels (counted (if b then branching (a .kept) (a .block) (a .line) (a .size) (a .s) else z) K.BLOCK HEAD)
+    (suc n)) (sym (ne-eqb _ _ (c .before .before .before .before .if1 .left)))
 
 pub opened-spec : {M : Type 1} → statement M
 opened-spec =

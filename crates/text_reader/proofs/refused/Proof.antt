@@ -1,17 +1,14 @@
+-- `text_reader::refused` meets its contract. Assumes nothing.
 use mathlib.Core.Path.{refl, sym, ap}
 use borrow.Author.Tests.{lt-ltb, le-ltb}
 use Rattle.semantics.specs.Words.{if_then_else_}
 use Rattle.text_reader.proofs.refused.Statement.{statement}
 use Rattle.text_reader.proofs.refused.Tie as tie
-use Rattle.text_reader.proofs.refused.Reads as reads
-use Rattle.text_reader.proofs.refused.Lts as lts
 
--- src/lib.rt:335:9
 returns : tie.Need-returns
 returns c = let s = c .before .before .args .s in
     (refl, ap (λ b. if b then s .first else c .before .before .args .line) (sym (lt-ltb _ _ (c .if1 .taken))))
 
--- src/lib.rt:331:1
 returns-2 : tie.Need-returns-2
 returns-2 c = let s = c .before .before .args .s in
     (refl, ap (λ b. if b then s .first else c .before .before .args .line) (sym (le-ltb _ _ (c .if1 .left))))

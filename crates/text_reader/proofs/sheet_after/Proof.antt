@@ -1,3 +1,4 @@
+-- `text_reader::sheet_after` meets its contract. Assumes nothing.
 use native.Mathlib.Omega.{arith}
 use mathlib.Core.Path.{_≡_, refl, sym, _∙_, ap}
 use borrow.Author.Tests.{ne-eqb}
@@ -17,128 +18,119 @@ use Rattle.text_reader.proofs.Cuts.{seen-shown, total-shown, line-shown
 use borrow.Author.Needs.{needs}
 use Rattle.text_reader.proofs.sheet_after.Statement.{statement}
 use Rattle.text_reader.proofs.sheet_after.Tie as tie
-use Rattle.text_reader.proofs.sheet_after.Reads as reads
-use Rattle.text_reader.proofs.sheet_after.Lts as lts
-use Rattle.text_reader.proofs.behind.Reads as behind-reads
-use Rattle.text_reader.proofs.body_step.Reads as body-step-reads
-use Rattle.text_reader.proofs.brace.Reads as brace-reads
-use Rattle.text_reader.proofs.done.Reads as done-reads
-use Rattle.text_reader.proofs.faulty.Reads as faulty-reads
-use Rattle.text_reader.proofs.first_step.Reads as first-step-reads
-use Rattle.text_reader.proofs.goes_on.Reads as goes-on-reads
 
--- src/lib.rt:714:17
 faulty-requires : tie.Need-faulty-requires
 faulty-requires c κs = search needs
 
--- src/lib.rt:715:13
 done-requires : tie.Need-done-requires
 done-requires c κs = search needs
 
--- src/lib.rt:718:17
 faulty-requires-2 : tie.Need-faulty-requires-2
 faulty-requires-2 c κs = search needs
 
--- src/lib.rt:719:13
 brace-requires : tie.Need-brace-requires
 brace-requires c κs = search needs
 
--- src/lib.rt:725:17
 goes-on-requires : tie.Need-goes-on-requires
 goes-on-requires c κs = search needs
 
--- src/lib.rt:725:17
 returns : tie.Need-returns
 returns c = let a = c .before .before .before .args in
-    λ ws x v first q h. let before = lentOf (a .declared .now) (a .class-at .now) (a .class-line .now) (a .stage .now) (a .ends .now) (a .blocks .now) (a .level-block .now) (a .kept-line .now) (a .kept-size .now) (a .kept-body .now) in
+    λ ws x v first q h. let before = lentOf (a .declared .now) (a .class-at .now) (a .class-line .now) (a .stage .now) (a .ends
+    .now) (a .blocks .now) (a .level-block .now) (a .kept-line .now) (a .kept-size .now) (a .kept-body .now) in
     let d = draftOf (a .d) (a .body .now) ws in
-    rw (c .before .before .match .keys3, no-mark (a .kind) v x T.SEMI (c .before .if1 .taken) (λ e. omega (arith, e))) (steps-on (a .s) (c .goes-on .ensures .0) (c .goes-on .ensures .1) (record { same = refl; sound = h }))
+    rw (c .before .before .match .keys3, no-mark (a .kind) v x T.SEMI (c .before .if1 .taken) (λ e. omega (arith, e)))
+    (steps-on (a .s) (c .goes-on .ensures .0) (c .goes-on .ensures .1) (record { same = refl; sound = h }))
 
--- src/lib.rt:727:17
 faulty-requires-3 : tie.Need-faulty-requires-3
 faulty-requires-3 c κs = search needs
 
--- src/lib.rt:728:13
 done-requires-2 : tie.Need-done-requires-2
 done-requires-2 c κs = search needs
 
--- src/lib.rt:730:32
 behind-requires : tie.Need-behind-requires
 behind-requires c κs = search needs
 
--- src/lib.rt:730:24
 goes-on-requires-2 : tie.Need-goes-on-requires-2
 goes-on-requires-2 c κs = search needs
 
--- src/lib.rt:731:23
 body-step-requires : tie.Need-body-step-requires
-body-step-requires c κs = (c .before .before .before .before .before .before .pre .0 .0, c .before .before .before .before .before .before .pre .1 (c .before .before .before .before .before .match .keys5))
+body-step-requires c κs = (c .before .before .before .before .before .before .pre .0 .0, c .before .before .before .before
+    .before .before .pre .1 (c .before .before .before .before .before .match .keys5))
 
--- src/lib.rt:734:31
 first-step-requires : tie.Need-first-step-requires
 first-step-requires c κs = search needs
 
--- src/lib.rt:734:23
 goes-on-requires-3 : tie.Need-goes-on-requires-3
 goes-on-requires-3 c κs = search needs
 
--- src/lib.rt:735:14
 goes-on-requires-4 : tie.Need-goes-on-requires-4
 goes-on-requires-4 c κs = search needs
 
--- src/lib.rt:674:1
 returns-2 : tie.Need-returns-2
 returns-2 c = let a = c .before .before .before .before .before .before .before .before .args in
-    λ ws x v first q h. let before = lentOf (a .declared .now) (a .class-at .now) (a .class-line .now) (a .stage .now) (a .ends .now) (a .blocks .now) (a .level-block .now) (a .kept-line .now) (a .kept-size .now) (a .kept-body .now) in
+    λ ws x v first q h. let before = lentOf (a .declared .now) (a .class-at .now) (a .class-line .now) (a .stage .now) (a .ends
+    .now) (a .blocks .now) (a .level-block .now) (a .kept-line .now) (a .kept-size .now) (a .kept-body .now) in
     let d = draftOf (a .d) (a .body .now) ws in
-    rw (c .before .before .before .before .before .before .before .match .keys1) (steps-as d (c .before .before .before .before .before .before .faulty .ensures .1 (sheetOf (a .s) before) ws (seen-shown (a .s) before)) (c .done .ensures before ws h))
+    rw (c .before .before .before .before .before .before .before .match .keys1) (steps-as d (c .before .before .before .before
+    .before .before .faulty .ensures .1 (sheetOf (a .s) before) ws (seen-shown (a .s) before)) (c .done .ensures before ws h))
 
--- src/lib.rt:674:1
 returns-3 : tie.Need-returns-3
 returns-3 c = let a = c .before .before .before .before .before .before .before .before .before .before .before .args in
-    λ ws x v first q h. let before = lentOf (a .declared .now) (a .class-at .now) (a .class-line .now) (a .stage .now) (a .ends .now) (a .blocks .now) (a .level-block .now) (a .kept-line .now) (a .kept-size .now) (a .kept-body .now) in
+    λ ws x v first q h. let before = lentOf (a .declared .now) (a .class-at .now) (a .class-line .now) (a .stage .now) (a .ends
+    .now) (a .blocks .now) (a .level-block .now) (a .kept-line .now) (a .kept-size .now) (a .kept-body .now) in
     let d = draftOf (a .d) (a .body .now) ws in
-    rw (c .before .before .before .before .before .before .before .before .before .before .match .keys2) (steps-as d (c .before .before .before .before .before .before .before .before .before .faulty2 .ensures .1 (sheetOf (a .s) before) ws (seen-shown (a .s) before)) (c .brace .ensures before ws refl h))
+    rw (c .before .before .before .before .before .before .before .before .before .before .match .keys2) (steps-as d (c .before
+    .before .before .before .before .before .before .before .before .faulty2 .ensures .1 (sheetOf (a .s) before) ws (seen-shown
+    (a .s) before)) (c .brace .ensures before ws refl h))
 
--- src/lib.rt:674:1
 returns-4 : tie.Need-returns-4
 returns-4 c = let a = c .before .before .before .before .before .before .before .before .before .args in
-    λ ws x v first q h. let before = lentOf (a .declared .now) (a .class-at .now) (a .class-line .now) (a .stage .now) (a .ends .now) (a .blocks .now) (a .level-block .now) (a .kept-line .now) (a .kept-size .now) (a .kept-body .now) in
+    λ ws x v first q h. let before = lentOf (a .declared .now) (a .class-at .now) (a .class-line .now) (a .stage .now) (a .ends
+    .now) (a .blocks .now) (a .level-block .now) (a .kept-line .now) (a .kept-size .now) (a .kept-body .now) in
     let d = draftOf (a .d) (a .body .now) ws in
-    rw (c .before .before .before .before .before .before .before .before .match .keys3, c .before .before .before .before .before .before .before .if1 .left) (steps-as d (c .before .before .before .before .before .before .faulty3 .ensures .1 (sheetOf (a .s) before) ws (seen-shown (a .s) before)) (c .done2 .ensures before ws h))
+    rw (c .before .before .before .before .before .before .before .before .match .keys3, c .before .before .before .before
+    .before .before .before .if1 .left) (steps-as d (c .before .before .before .before .before .before .faulty3 .ensures .1
+    (sheetOf (a .s) before) ws (seen-shown (a .s) before)) (c .done2 .ensures before ws h))
 
--- src/lib.rt:674:1
 returns-5 : tie.Need-returns-5
 returns-5 c = let a = c .before .before .before .before .before .before .before .before .before .args in
-    λ ws x v first q h. let before = lentOf (a .declared .now) (a .class-at .now) (a .class-line .now) (a .stage .now) (a .ends .now) (a .blocks .now) (a .level-block .now) (a .kept-line .now) (a .kept-size .now) (a .kept-body .now) in
+    λ ws x v first q h. let before = lentOf (a .declared .now) (a .class-at .now) (a .class-line .now) (a .stage .now) (a .ends
+    .now) (a .blocks .now) (a .level-block .now) (a .kept-line .now) (a .kept-size .now) (a .kept-body .now) in
     let d = draftOf (a .d) (a .body .now) ws in
-    rw (c .before .before .before .before .before .before .before .before .match .keys4) (steps-on (c .before .behind .result) (c .goes-on2 .ensures .0) (c .goes-on2 .ensures .1) (c .before .behind .ensures before v x h))
+    rw (c .before .before .before .before .before .before .before .before .match .keys4) (steps-on (c .before .behind .result)
+    (c .goes-on2 .ensures .0) (c .goes-on2 .ensures .1) (c .before .behind .ensures before v x h))
 
--- src/lib.rt:674:1
 returns-6 : tie.Need-returns-6
 returns-6 c = let a = c .before .before .before .before .before .before .before .args in
-    λ ws x v first q h. let before = lentOf (a .declared .now) (a .class-at .now) (a .class-line .now) (a .stage .now) (a .ends .now) (a .blocks .now) (a .level-block .now) (a .kept-line .now) (a .kept-size .now) (a .kept-body .now) in
+    λ ws x v first q h. let before = lentOf (a .declared .now) (a .class-at .now) (a .class-line .now) (a .stage .now) (a .ends
+    .now) (a .blocks .now) (a .level-block .now) (a .kept-line .now) (a .kept-size .now) (a .kept-body .now) in
     let d = draftOf (a .d) (a .body .now) ws in
     let t = tokenOf (a .kind) v x in
     let z = sheetOf (a .s) before in
-    let e = ap (λ n. bodyBy z (a .known) (a .class) (a .d .line) n t) (sym (q (c .before .before .before .before .before .before .match .keys5))) ∙ ap (λ n. bodyBy z (a .known) (a .class) n first t) (sym (line-shown (a .d) (a .body .now) ws)) in
-    rw (c .before .before .before .before .before .before .match .keys5) (steps-to d false e (c .body-step .ensures before d v x (line-shown (a .d) (a .body .now) ws) h))
+    let e = ap (λ n. bodyBy z (a .known) (a .class) (a .d .line) n t) (sym (q (c .before .before .before .before .before
+    .before .match .keys5))) ∙ ap (λ n. bodyBy z (a .known) (a .class) n first t) (sym (line-shown (a .d) (a .body .now) ws)) in
+    rw (c .before .before .before .before .before .before .match .keys5) (steps-to d false e (c .body-step .ensures before d v
+    x (line-shown (a .d) (a .body .now) ws) h))
 
--- src/lib.rt:674:1
 returns-7 : tie.Need-returns-7
 returns-7 c = let a = c .before .before .before .args in
-    λ ws x v first q h. let before = lentOf (a .declared .now) (a .class-at .now) (a .class-line .now) (a .stage .now) (a .ends .now) (a .blocks .now) (a .level-block .now) (a .kept-line .now) (a .kept-size .now) (a .kept-body .now) in
+    λ ws x v first q h. let before = lentOf (a .declared .now) (a .class-at .now) (a .class-line .now) (a .stage .now) (a .ends
+    .now) (a .blocks .now) (a .level-block .now) (a .kept-line .now) (a .kept-size .now) (a .kept-body .now) in
     let d = draftOf (a .d) (a .body .now) ws in
     let z = sheetOf (a .s) before in
     let e = ap (λ n. if eqb n 0 then withFirst z (a .p) else z) (sym (total-shown (a .s) before)) in
-    rw (c .before .before .match .keys6) (steps-on (c .before .first-step .result) (c .goes-on3 .ensures .0) (c .goes-on3 .ensures .1) (turns-to e (c .before .first-step .ensures before h)))
+    rw (c .before .before .match .keys6) (steps-on (c .before .first-step .result) (c .goes-on3 .ensures .0) (c .goes-on3
+    .ensures .1) (turns-to e (c .before .first-step .ensures before h)))
 
--- src/lib.rt:674:1
 returns-8 : tie.Need-returns-8
 returns-8 c = let a = c .before .before .args in
-    λ ws x v first q h. let before = lentOf (a .declared .now) (a .class-at .now) (a .class-line .now) (a .stage .now) (a .ends .now) (a .blocks .now) (a .level-block .now) (a .kept-line .now) (a .kept-size .now) (a .kept-body .now) in
+    λ ws x v first q h. let before = lentOf (a .declared .now) (a .class-at .now) (a .class-line .now) (a .stage .now) (a .ends
+    .now) (a .blocks .now) (a .level-block .now) (a .kept-line .now) (a .kept-size .now) (a .kept-body .now) in
     let m = c .before .match .rest in
-    rw (ne-eqb (a .sort) Sort.SEMI (m .0 .0 .0 .0 .0 .1), ne-eqb (a .sort) Sort.BRACE (m .0 .0 .0 .0 .1), ne-eqb (a .sort) Sort.MORE (m .0 .0 .0 .1), ne-eqb (a .sort) Sort.BLOCK (m .0 .0 .1), ne-eqb (a .sort) Sort.BODY (m .0 .1), ne-eqb (a .sort) Sort.TEXT (m .1)) (steps-on (a .s) (c .goes-on4 .ensures .0) (c .goes-on4 .ensures .1) (record { same = refl; sound = h }))
+    rw (ne-eqb (a .sort) Sort.SEMI (m .0 .0 .0 .0 .0 .1), ne-eqb (a .sort) Sort.BRACE (m .0 .0 .0 .0 .1), ne-eqb (a .sort)
+    Sort.MORE (m .0 .0 .0 .1), ne-eqb (a .sort) Sort.BLOCK (m .0 .0 .1), ne-eqb (a .sort) Sort.BODY (m .0 .1), ne-eqb (a .sort)
+    Sort.TEXT (m .1)) (steps-on (a .s) (c .goes-on4 .ensures .0) (c .goes-on4 .ensures .1) (record { same = refl; sound = h }))
 
 pub sheet-after-spec : {M : Type 1} → statement M
 sheet-after-spec =

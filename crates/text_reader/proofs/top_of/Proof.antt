@@ -1,3 +1,4 @@
+-- `text_reader::top_of` meets its contract. Assumes nothing.
 use native.Mathlib.Omega.{arith}
 use Prim.Native.Nat.{ℕ, zero, suc, _-_}
 use mathlib.Core.Path.{_≡_, refl, sym, _∙_, ap}
@@ -9,28 +10,23 @@ use Rattle.text_pile.specs.Laws.{topOf}
 use borrow.Author.Needs.{needs}
 use Rattle.text_reader.proofs.top_of.Statement.{statement}
 use Rattle.text_reader.proofs.top_of.Tie as tie
-use Rattle.text_reader.proofs.top_of.Reads as reads
-use Rattle.text_reader.proofs.top_of.Lts as lts
 
--- src/lib.rt:824:9
 returns : tie.Need-returns
 unfolding pileOf
 returns c = (ap (λ n. topOf (pileOf (c .before .args .pile .now) n)) (sym (c .if1 .taken)), omega arith)
 
--- src/lib.rt:826:10
 sub-result : tie.Need-sub-result
 sub-result c = search needs
 
--- src/lib.rt:826:5
 element-copy-out-result : tie.Need-element-copy-out-result
 element-copy-out-result c = search needs
 
--- src/lib.rt:819:1
 returns-2 : tie.Need-returns-2
 unfolding pileOf
 returns-2 c = let a = c .before .before .args in
     let e : a .height ≡ suc (a .height - 1) = omega (arith, c .before .if1 .left) in
-    (ap (λ n. topOf (pileOf (a .pile .now) n)) (sym e), c .before .before .pre .known (a .height - 1) (omega (arith, c .before .if1 .left)))
+    (ap (λ n. topOf (pileOf (a .pile .now) n)) (sym e), c .before .before .pre .known (a .height - 1) (omega (arith, c .before
+    .if1 .left)))
 
 pub top-of-spec : {M : Type 1} → statement M
 top-of-spec = tie.close (tie.spec returns sub-result element-copy-out-result returns-2)

@@ -1,3 +1,4 @@
+-- `text_reader::wrong` meets its contract. Assumes nothing.
 use native.Mathlib.Omega.{arith}
 use mathlib.Core.Path.{sym, ap}
 use lib.Seq.{length-take-le}
@@ -6,19 +7,13 @@ use lib.Dec.{eqb}
 use borrow.Author.Needs.{needs}
 use Rattle.text_reader.proofs.wrong.Statement.{statement}
 use Rattle.text_reader.proofs.wrong.Tie as tie
-use Rattle.text_reader.proofs.wrong.Reads as reads
-use Rattle.text_reader.proofs.wrong.Lts as lts
-use Rattle.file_check_record.proofs.judge.Reads as judge-reads
 
--- src/lib.rt:56:44
 slice-aggregate-judge : tie.Need-slice-aggregate-judge
 slice-aggregate-judge c = sym (length-take-le _ _ (c .before .before .pre))
 
--- src/lib.rt:56:5
 judge-requires : tie.Need-judge-requires
 judge-requires c κs = search needs
 
--- src/lib.rt:52:1
 returns : tie.Need-returns
 returns c = ap (λ n. not (eqb n 0)) (c .judge .ensures)
 
