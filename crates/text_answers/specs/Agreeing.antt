@@ -1,4 +1,4 @@
--- At every cut the machine's limits say what the checks say of the records so far; so the machine answers what the definitions say.
+-- At every cut the machine's limits say what the checks say of the records so far: so the machine answers what it should.
 -- Assumes nothing.
 use Prim.Native.Nat.{ℕ, _≤_, _<_}
 use native.Mathlib.Omega.{arith}

@@ -57,7 +57,8 @@ use Rattle.text_agrees.specs.Stages.{Comes, starts, Blocks, outside, acting, tr
 use Rattle.text_agrees.specs.Stages.{Idle, Stage, declared, entity, titled, acts, Held, roomy}
 use Rattle.text_agrees.specs.Roomy.{Free, names-free}
 use Rattle.text_agrees.specs.Closing.{closers, cutTree, cutReader, openBraces, cut-spelled}
-use Rattle.text_agrees.specs.Going.{Goes, rests, passes, tokensOf, Sits, bare, goes-comes, goes-pile, goes-flow, goes-fewer, fewer-append}
+use Rattle.text_agrees.specs.Going.{Goes, rests, passes, tokensOf, Sits}
+use Rattle.text_agrees.specs.Going.{bare, goes-comes, goes-pile, goes-flow, goes-fewer, fewer-append}
 use Rattle.text_agrees.specs.Going.{goes-known}
 use Rattle.text_agrees.specs.Growing.{Grows, Stepped, from-nothing, from-cut, cut-grows}
 use Rattle.text_agrees.specs.Laying.{Short}

@@ -21,7 +21,8 @@ use Rattle.text_semantics.specs.Numbers as No
 use Rattle.text_semantics.specs.Token.{Token}
 use Rattle.text_semantics.specs.Grammar as G
 use Rattle.text_semantics.specs.Grammar.{Name, Act, Locals, Declaration, Text, declare}
-use Rattle.text_semantics.specs.Names.{Known, events, inDeclaration, inLocals, named, awaited, embodies, after, trouble, troubleIn}
+use Rattle.text_semantics.specs.Names.{Known, events, inDeclaration, inLocals, named}
+use Rattle.text_semantics.specs.Names.{awaited, embodies, after, trouble, troubleIn}
 use Rattle.text_semantics.specs.Meaning as W
 use Rattle.text_semantics.specs.Meaning.{Owned, owned, numberOf, embodied, bodyBlock, entryOf, openedBy, declarations, blocks}
 use Rattle.text_semantics.specs.Meaning.{records}

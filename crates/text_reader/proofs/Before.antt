@@ -64,8 +64,10 @@ sign-not false false n f g h e = h e
 
 pub is-named : (s : Symbol) → sortOf s ≡ Sort.NAMED → s ≡ one aName
 is-named (one (the k)) e =
-    absurd (sign-not (eqb k T.SEMI) (eqb k T.LB) Sort.NAMED (λ q. omega (arith, q)) (λ q. omega (arith, q)) (λ q. omega (arith,
-    q)) e)
+    absurd (sign-not (eqb k T.SEMI) (eqb k T.LB) Sort.NAMED (λ q. omega (arith, q)) (λ q. omega (arith, q)) (λ q. omega (
+      arith,
+      q,
+    )) e)
 is-named (one aName) e = refl
 is-named (one (aNumber b)) e = absurd (omega (arith, e))
 is-named (factorS n) e = absurd (omega (arith, e))
@@ -87,8 +89,10 @@ is-named textS e = absurd (omega (arith, e))
 
 pub is-body : (s : Symbol) → sortOf s ≡ Sort.BODY → s ≡ bodyS
 is-body (one (the k)) e =
-    absurd (sign-not (eqb k T.SEMI) (eqb k T.LB) Sort.BODY (λ q. omega (arith, q)) (λ q. omega (arith, q)) (λ q. omega (arith,
-    q)) e)
+    absurd (sign-not (eqb k T.SEMI) (eqb k T.LB) Sort.BODY (λ q. omega (arith, q)) (λ q. omega (arith, q)) (λ q. omega (
+      arith,
+      q,
+    )) e)
 is-body (one aName) e = absurd (omega (arith, e))
 is-body (one (aNumber b)) e = absurd (omega (arith, e))
 is-body (factorS n) e = absurd (omega (arith, e))

@@ -65,7 +65,7 @@ no-name k v x f h =
 -- AT A NAME that has to come.
 module _ (ks : List Known) (x : Name) (d : Distinct ks) (role : ℕ) {f : Found} (e : f ≡ foundOf ks x) where
   pub role-asks : ASK ≤ role → {r : ℕ} → r ≡ askedOf f (role - ASK) (role - ASK) (role - ASK) → r ≡ told (trouble ks (asked
-    role x))
+      role x))
   role-asks h q =
       let w : ℕ = role - ASK in
       q ∙ ap (λ g. askedOf g w w w) e ∙ asked-trouble ks x d w w w ∙ ap told (asks-one ks x w w)
@@ -122,13 +122,13 @@ module _ (ks : List Known) (role v : ℕ) (x y : Name) where
         → r ≡ told (trouble ks (eventBy Sort.VARIABLE role y (tokenOf NAME v x)))
     variable-asks q =
         q ∙ ap (λ g. askedOf g K.VAR K.VAR K.VAR) e ∙ asked-trouble ks x d K.VAR K.VAR K.VAR ∙ ap told (asks-one ks x K.VAR
-            K.VAR)
+        K.VAR)
 
     pub store-asks : {r : ℕ} → r ≡ askedOf f K.VAR LOCAL LOCAL
         → r ≡ told (trouble ks (eventBy Sort.BLOCK role y (tokenOf NAME v x)))
     store-asks q =
         q ∙ ap (λ g. askedOf g K.VAR LOCAL LOCAL) e ∙ asked-trouble ks x d K.VAR LOCAL LOCAL ∙ ap told (asks-two ks x K.VAR
-            LOCAL)
+        LOCAL)
 
 -- THE NAME that a token is: none where it is no name.
 nothing-by : (k v : ℕ) (a b : Bool) → nameIn (if a then mark k else if b then number v else bad) ≡ []

@@ -750,7 +750,7 @@ fn new_body(
         (now («level_block» .entry)) (now («kept_size» .entry)))
         → Steps (overLimit (M.braces (M.classes line (getD (s .seen) K.BLOCK 0) (sheetOf s (withBodies m (now (declared .entry))
         (now («class_at» .entry)) (now («class_line» .entry)) (now («level_block» .entry)) (now («kept_size» .entry)))))) d
-            false)
+        false)
         (M.braces (M.classes line (getD (s .seen) K.BLOCK 0) (sheetOf s (withBodies m (now (declared .entry))
         (now («class_at» .entry)) (now («class_line» .entry)) (now («level_block» .entry)) (now («kept_size» .entry))))))
         r (withBodies m (now (declared .exit)) (now («class_at» .exit)) (now («class_line» .exit)) (now («level_block» .exit))

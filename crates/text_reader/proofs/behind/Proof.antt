@@ -14,8 +14,11 @@ use Rattle.text_reader.proofs.behind.Statement.{statement}
 use Rattle.text_reader.proofs.behind.Tie as tie
 
 close-brace-requires : tie.Need-close-brace-requires
-close-brace-requires c κs = (c .before .before .before .before .before .pre .0 .small, c .before .before .before .before
-    .before .pre .1)
+close-brace-requires c κs = (
+  c .before .before .before .before .before .pre .0 .small,
+  c .before .before .before .before
+      .before .pre .1,
+)
 
 returns : tie.Need-returns
 returns c = let a = c .before .before .before .before .before .before .args in
@@ -43,15 +46,20 @@ returns-2 c = let a = c .before .before .args in
     λ m v x h. rw (c .if2 .taken) (record { same = refl; sound = h })
 
 settle-requires : tie.Need-settle-requires
-settle-requires c κs = (c .before .before .before .before .before .before .pre .0 .small, c .before .before .before .before
-    .before .before .pre .1)
+settle-requires c κs = (
+  c .before .before .before .before .before .before .pre .0 .small,
+  c .before .before .before .before
+      .before .before .pre .1,
+)
 
 returns-3 : tie.Need-returns-3
 returns-3 c = let a = c .before .before .before .before .before .before .before .args in
     let e = c .settle .ensures in
     λ m v x h. let w = e .0 m (h .fine) in
-    rw (no-mark (a .kind) v x T.RB (c .before .before .before .before .before .before .if1 .left) (λ q. omega (arith, q)),
-    no-mark (a .kind) v x T.ETRY (c .before .before .before .before .before .if2 .left) (λ q. omega (arith, q)))
+    rw (
+      no-mark (a .kind) v x T.RB (c .before .before .before .before .before .before .if1 .left) (λ q. omega (arith, q)),
+      no-mark (a .kind) v x T.ETRY (c .before .before .before .before .before .if2 .left) (λ q. omega (arith, q)),
+    )
     (record {
       same = w .same;
       sound = record {

@@ -56,9 +56,17 @@ bodied-requires c κs = let a = c .before .before .before .before .before .args 
 braces-requires : tie.Need-braces-requires
 braces-requires c κs = let a = c .before .before .before .before .before .before .before .before .args in
     let p = c .before .before .before .before .before .before .before .before .pre in
-    let e = c .before .before .bodied .ensures .1 .0 in
-    (rw e (small-with (a .t1) (a .class) (p .0 .0 .small)), omega (arith, ap (λ u. getD (u .seen) K.BLOCK 0) e, p .0 .0 .small
-    .few (p .0 .0 .room) K.BLOCK, p .0 .0 .room), omega (arith, ap (λ u. u .levels) e, p .0 .1))
+    let e = c .before .before .bodied .ensures .1 .0 in (
+      rw e (small-with (a .t1) (a .class) (p .0 .0 .small)),
+      omega (
+        arith,
+        ap (λ u. getD (u .seen) K.BLOCK 0) e,
+        p .0 .0 .small
+            .few (p .0 .0 .room) K.BLOCK,
+        p .0 .0 .room,
+      ),
+      omega (arith, ap (λ u. u .levels) e, p .0 .1),
+    )
 
 returns-2 : tie.Need-returns-2
 returns-2 c = let a = c .before .before .before .before .before .before .before .before .before .args in
@@ -71,8 +79,14 @@ returns-2 c = let a = c .before .before .before .before .before .before .before 
     let g = c .braces .ensures .1 in
     let r = c .braces .result in
     let tl : t .result .levels ≡ 0 = ap (λ u. u .levels) (t .ensures .1 .0) ∙ p .0 .1 in
-    let room : r .total < FULL = omega (arith, w .0, ap (λ u. u .total) (g .numbers), ap (λ u. u .total) (t .ensures .1 .0), ap
-    (λ u. u .total) eb) in
+    let room : r .total < FULL = omega (
+      arith,
+      w .0,
+      ap (λ u. u .total) (g .numbers),
+      ap (λ u. u .total) (t .ensures .1 .0),
+      ap
+          (λ u. u .total) eb,
+    ) in
     λ m d e h. let before = withBodies m (a .declared .now) (a .class-at .now) (m .classLine) (a .level-block .now) (a
     .kept-size .now) in
     let v = t .ensures .0 before (h .fine) in
@@ -81,8 +95,8 @@ returns-2 c = let a = c .before .before .before .before .before .before .before 
     (omega arith)) in
     record {
       cut = sym (ap (λ b. if b then some (l .result .place) else none) (c .before .before .before .before .before .before .if1
-      .left)) ∙ ap toldOf (l .ensures ∙ ap (λ z. limitOf z (a .line) 0 false) eb) ∙ limits-embodied (a .t1) before d (a .line)
-      (a .class) (getD (a .t1 .seen) K.BLOCK 0) e (p .0 .1);
+          .left)) ∙ ap toldOf (l .ensures ∙ ap (λ z. limitOf z (a .line) 0 false) eb) ∙ limits-embodied (a .t1) before d (a .line)
+          (a .class) (getD (a .t1 .seen) K.BLOCK 0) e (p .0 .1);
       same = λ q. u .same ∙ ap M.braces (v .same);
       sound = λ q. record {
         fine = u .fine;

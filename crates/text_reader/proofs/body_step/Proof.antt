@@ -31,8 +31,11 @@ body-of-requires c κs = let p = c .before .before .before .before .before .befo
 returns-2 : tie.Need-returns-2
 unfolding sheetOf
 returns-2 c = let a = c .before .before .before .before .before .before .before .args in
-    λ m d v x e h. rw (no-mark (a .kind) v x T.SEMI (c .before .before .before .before .before .before .if1 .left) (λ q. omega
-    (arith, q)), c .before .before .before .before .before .if2 .taken) (c .body-of .ensures (withBodies m (a .declared .now)
+    λ m d v x e h. rw (
+      no-mark (a .kind) v x T.SEMI (c .before .before .before .before .before .before .if1 .left) (λ q. omega
+          (arith, q)),
+      c .before .before .before .before .before .if2 .taken,
+    ) (c .body-of .ensures (withBodies m (a .declared .now)
     (a .class-at .now) (a .class-line .now) (a .level-block .now) (a .kept-size .now)) d e h)
 
 new-body-requires : tie.Need-new-body-requires
@@ -42,8 +45,11 @@ new-body-requires c κs = let p = c .before .before .before .before .before .bef
 returns-3 : tie.Need-returns-3
 unfolding sheetOf
 returns-3 c = let a = c .before .before .before .before .before .before .before .before .args in
-    λ m d v x e h. rw (no-mark (a .kind) v x T.SEMI (c .before .before .before .before .before .before .before .if1 .left) (λ
-    q. omega (arith, q)), c .before .before .before .before .before .before .if2 .left) (c .new-body .ensures (withBodies m (a
+    λ m d v x e h. rw (
+      no-mark (a .kind) v x T.SEMI (c .before .before .before .before .before .before .before .if1 .left) (λ
+          q. omega (arith, q)),
+      c .before .before .before .before .before .before .if2 .left,
+    ) (c .new-body .ensures (withBodies m (a
     .declared .now) (a .class-at .now) (a .class-line .now) (a .level-block .now) (a .kept-size .now)) d e h)
 
 pub body-step-spec : {M : Type 1} → statement M

@@ -85,8 +85,10 @@ returns-2 c = let a = c .before .before .before .before .before .before .before 
     ap toldOf (c .before .over-limit .ensures ∙ ap (λ x. limitOf x (a .d .line) (c .before .before .class-of .result) false) z
     ∙ ap (λ x. limitOf (openedOf (a .s) (lastOf (a .s .levels) (a .level-block .now)) (lastOf (a .s .levels) (a .kept-size
     .now)) (a .d .line) (a .d .kind) (a .d .size)) (a .d .line) x false) class)
-    ∙ sym (limits-opens (a .s) before (h .fine) (a .d .line) (a .d .kind) (a .d .size) body size (p .2 .tried f) (omega (arith,
-    p .1 .kept o)) d)
+    ∙ sym (limits-opens (a .s) before (h .fine) (a .d .line) (a .d .kind) (a .d .size) body size (p .2 .tried f) (omega (
+      arith,
+      p .1 .kept o,
+    )) d)
     ∙ ap (λ y. overLimit y d false) (sym (opens-draft (a .d) (a .body .now) ws (sheetOf (a .s) before) o)) in
     rw f (stops-at refl (sym (ap (λ b. if b then some (c .before .over-limit .result .place) else none) (c .if2 .taken)) ∙ lim))
 
@@ -100,7 +102,7 @@ opens-requires c κs = let a = c .before .before .before .before .before .before
     let b = c .before .before .before .before .before .before .before .before .before .before .before .before .before .before
     .innermost .ensures in
     let k = c .before .before .before .before .before .before .before .before .before .before .before .before .kept-in
-        .ensures in
+    .ensures in
     let z : c .before .before .before .before .before .before .before .before .before .before .before .opened .result ≡
     openedOf (a .s) (lastOf (a .s .levels) (a .level-block .now)) (lastOf (a .s .levels) (a .kept-size .now)) (a .d .line) (a
     .d .kind) (a .d .size) = c .before .before .before .before .before .before .before .before .before .before .before .opened
@@ -154,8 +156,10 @@ returns-3 c = let a = c .before .before .before .before .before .before .before 
     limitOf x (a .d .line) (c .before .before .before .before .before .before .before .before .before .before .class-of
     .result) false) z ∙ ap (λ x. limitOf (openedOf (a .s) (lastOf (a .s .levels) (a .level-block .now)) (lastOf (a .s .levels)
     (a .kept-size .now)) (a .d .line) (a .d .kind) (a .d .size)) (a .d .line) x false) class)
-    ∙ sym (limits-opens (a .s) before (h .fine) (a .d .line) (a .d .kind) (a .d .size) body size (p .2 .tried f) (omega (arith,
-    p .1 .kept o)) d)
+    ∙ sym (limits-opens (a .s) before (h .fine) (a .d .line) (a .d .kind) (a .d .size) body size (p .2 .tried f) (omega (
+      arith,
+      p .1 .kept o,
+    )) d)
     ∙ ap (λ y. overLimit y d false) (sym (opens-draft (a .d) (a .body .now) ws (sheetOf (a .s) before) o)) in
     let v = c .opens .ensures .0 m (h .fine) in
     let room : r .total < FULL = omega (arith, w .0, ap (λ u. u .total) (g .numbers), ap (λ u. u .total) z) in
@@ -165,13 +169,13 @@ returns-3 c = let a = c .before .before .before .before .before .before .before 
     (arith, lv, h .fine .sized .keptSize)) (h .short) in
     rw f (record {
       cut = sym (ap (λ b. if b then some (c .before .before .before .before .before .before .before .before .before .over-limit
-      .result .place) else none) (c .before .before .before .before .before .before .before .before .if2 .left)) ∙ lim;
+          .result .place) else none) (c .before .before .before .before .before .before .before .before .if2 .left)) ∙ lim;
       same = λ e. v .same ∙ sym (opens-draft (a .d) (a .body .now) ws (sheetOf (a .s) before) o);
       sound = λ e. record {
         fine = v .fine;
         roomy = room;
         short = λ k l. let y = ap (λ xs. getD xs k 0) (g .sizes ∙ ap (λ n. set (if eqb (a .d .kind) K.TRY then lastSet (a .s
-        .levels) (a .d .size) (a .kept-size .now) else a .kept-size .now) n 0) st) in
+            .levels) (a .d .size) (a .kept-size .now) else a .kept-size .now) n 0) st) in
             omega (arith, y, kept k (omega (arith, l, ap (λ u. u .levels) (g .numbers), st)));
       };
     })

@@ -27,8 +27,15 @@ returns-3 c = let s = c .before .before .before .before .pre in
     let l = resumed-size [] (a .kept-line .now) (a .kept-size .now) (a .kept-body .now) (a .levels) (s .2) in
     let z = ap (λ y. y .size) (g .draft []) in
     record {
-      fine = record { counted = omega (arith, l, z); kept = λ h. omega (arith, l, z); listed = omega arith; placed = omega
-      arith; named = omega arith; nested = omega arith };
+      fine = record {
+        counted = omega (arith, l, z);
+        kept = λ h. omega (arith, l, z);
+        listed = omega arith;
+        placed = omega
+            arith;
+        named = omega arith;
+        nested = omega arith;
+      };
       plain = λ h. absurd (h (c .before .before .before .if1 .left));
       other = λ h. absurd (h (c .before .before .if2 .left));
       tries = λ h j bs ws. sym (g .draft bs);

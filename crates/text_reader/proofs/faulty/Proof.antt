@@ -28,10 +28,13 @@ returns-2 c = let a = c .before .before .before .before .before .args in
     let o = c .before .before .before .before .if1 .left in
     let l : length (a .body .now) ≡ BODY = omega arith in
     let e = c .wrong .ensures ∙ ap (λ n. not (eqb (numberOf (judged n (a .d .kind) (take (a .d .size) (a .body .now)))) 0)) (c
-    .before .before .counts-for .ensures) in
-    (right-judged (a .s .seen) (a .d) (a .body .now) (c .wrong .result) o l e, λ z ws q. e ∙ ap (λ xs. not (eqb (numberOf
-    (judged (countsOf xs (a .d .kind)) (a .d .kind) (take (a .d .size) (a .body .now)))) 0)) (sym q) ∙ faulty-shown z (a .d) (a
-    .body .now) ws o)
+    .before .before .counts-for .ensures) in (
+      right-judged (a .s .seen) (a .d) (a .body .now) (c .wrong .result) o l e,
+      λ z ws q. e ∙ ap (λ xs. not (eqb (numberOf
+          (judged (countsOf xs (a .d .kind)) (a .d .kind) (take (a .d .size) (a .body .now)))) 0)) (sym q) ∙ faulty-shown z
+              (a .d) (a
+          .body .now) ws o,
+    )
 
 pub faulty-spec : {M : Type 1} → statement M
 faulty-spec = tie.close (tie.spec returns counts-for-requires wrong-requires returns-2)

@@ -22,9 +22,20 @@ returns : tie.Need-returns
 returns c = let a = c .before .before .before .args in
     λ m h. let w = c .with-first .ensures in
     let v = w .0 m (h .fine) in
-    rw (eq-eqb (a .s .total) 0 (c .before .if1 .taken)) (record { same = v .same; sound = record { fine = v .fine; roomy =
-    omega (arith, ap (λ u. u .total) (w .1), h .roomy); short = λ k l. h .short k (omega (arith, l, ap (λ u. u .levels) (w
-    .1))) } })
+    rw (eq-eqb (a .s .total) 0 (c .before .if1 .taken)) (record {
+      same = v .same;
+      sound = record {
+        fine = v .fine;
+        roomy =
+            omega (arith, ap (λ u. u .total) (w .1), h .roomy);
+        short = λ k l. h .short k (omega (
+          arith,
+          l,
+          ap (λ u. u .levels) (w
+              .1),
+        ));
+      };
+    })
 
 returns-2 : tie.Need-returns-2
 returns-2 c = let a = c .before .before .args in

@@ -14,9 +14,12 @@ returns c = let a = c .before .args in
 
 returns-2 : tie.Need-returns-2
 returns-2 c = let a = c .before .args in
-    let z : a .p - a .p ≡ 0 = omega arith in
-    (omega arith, c .before .pre, λ v bs. ap (λ n. take n (drop (a .p) bs)) z ∙ sym (name-none (a .kind) v (partOf bs (a .p) (a
-    .e)) (c .if1 .left)))
+    let z : a .p - a .p ≡ 0 = omega arith in (
+      omega arith,
+      c .before .pre,
+      λ v bs. ap (λ n. take n (drop (a .p) bs)) z ∙ sym (name-none (a .kind) v (partOf bs (a .p) (a
+          .e)) (c .if1 .left)),
+    )
 
 pub name-end-spec : {M : Type 1} → statement M
 name-end-spec = tie.close (tie.spec returns returns-2)

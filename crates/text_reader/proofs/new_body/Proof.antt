@@ -35,9 +35,17 @@ classes-requires c κs = let p = c .before .before .before .before .pre in
 braces-requires : tie.Need-braces-requires
 braces-requires c κs = let a = c .before .before .before .before .before .before .before .args in
     let p = c .before .before .before .before .before .before .before .pre in
-    let e = c .before .before .classes .ensures .1 .0 in
-    (rw e (small-classed (a .t1) (p .0 .small)), omega (arith, ap (λ u. getD (u .seen) K.BLOCK 0) e ∙ classed-blocks (a .t1), p
-    .0 .small .few (p .0 .room) K.BLOCK, p .0 .room), omega (arith, ap (λ u. u .levels) e ∙ classed-levels (a .t1), p .1))
+    let e = c .before .before .classes .ensures .1 .0 in (
+      rw e (small-classed (a .t1) (p .0 .small)),
+      omega (
+        arith,
+        ap (λ u. getD (u .seen) K.BLOCK 0) e ∙ classed-blocks (a .t1),
+        p
+            .0 .small .few (p .0 .room) K.BLOCK,
+        p .0 .room,
+      ),
+      omega (arith, ap (λ u. u .levels) e ∙ classed-levels (a .t1), p .1),
+    )
 
 over-limit-requires : tie.Need-over-limit-requires
 over-limit-requires c κs = search needs

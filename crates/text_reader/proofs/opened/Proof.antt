@@ -20,9 +20,17 @@ counted-requires : tie.Need-counted-requires
 counted-requires c κs = let a = c .before .before .args in
     let p = c .before .before .pre in
     let t = trying (a .s) (a .block) (a .line) (a .size) (a .kept) (c .branching .result) (c .branching .ensures) (p .0
-        .small) in
-    ((t .0 .groups, omega arith), (omega (arith, t .1, p .0 .small .few (p .0 .room) K.BLOCK, p .0 .room), (t .0 .bytes, omega
-    arith)))
+    .small) in (
+      (t .0 .groups, omega arith),
+      (
+        omega (arith, t .1, p .0 .small .few (p .0 .room) K.BLOCK, p .0 .room),
+        (
+          t .0 .bytes,
+          omega
+              arith,
+        ),
+      ),
+    )
 
 add-r : tie.Need-add-r
 add-r c = search needs
@@ -52,9 +60,17 @@ counted-requires-2 : tie.Need-counted-requires-2
 counted-requires-2 c κs = let a = c .before .before .before .args in
     let p = c .before .before .before .pre in
     let e = c .standing .ensures ∙ ap (standing (HEAD + a .size)) (c .before .counting .ensures) in
-    let t = acting (a .s) (a .block) (a .line) (a .size) (HEAD + a .size) (c .standing .result) e (p .0 .small) in
-    ((t .0 .groups, omega arith), (omega (arith, t .1, p .0 .small .few (p .0 .room) K.BLOCK, p .0 .room), (t .0 .bytes, omega
-    arith)))
+    let t = acting (a .s) (a .block) (a .line) (a .size) (HEAD + a .size) (c .standing .result) e (p .0 .small) in (
+      (t .0 .groups, omega arith),
+      (
+        omega (arith, t .1, p .0 .small .few (p .0 .room) K.BLOCK, p .0 .room),
+        (
+          t .0 .bytes,
+          omega
+              arith,
+        ),
+      ),
+    )
 
 add-r-2 : tie.Need-add-r-2
 add-r-2 c = search needs

@@ -33,8 +33,12 @@ cast-actions : tie.Need-cast-actions
 cast-actions c = search needs
 
 returns-3 : tie.Need-returns-3
-returns-3 c = rw (le-ltb _ _ (c .before .before .before .before .if1 .left), c .before .before .if2 .left, lt-ltb _ _ (c .if3
-    .taken))
+returns-3 c = rw (
+  le-ltb _ _ (c .before .before .before .before .if1 .left),
+  c .before .before .if2 .left,
+  lt-ltb _ _ (c .if3
+      .taken),
+)
 
 element-copy-out-blocks : tie.Need-element-copy-out-blocks
 element-copy-out-blocks c = search needs
@@ -43,19 +47,36 @@ cast-blocks : tie.Need-cast-blocks
 cast-blocks c = search needs
 
 returns-4 : tie.Need-returns-4
-returns-4 c = rw (le-ltb _ _ (c .before .before .before .before .before .before .if1 .left), c .before .before .before .before
-    .if2 .left, le-ltb _ _ (c .before .before .if3 .left), lt-ltb _ _ (c .if4 .taken))
+returns-4 c = rw (
+  le-ltb _ _ (c .before .before .before .before .before .before .if1 .left),
+  c .before .before .before .before
+      .if2 .left,
+  le-ltb _ _ (c .before .before .if3 .left),
+  lt-ltb _ _ (c .if4 .taken),
+)
 
 returns-5 : tie.Need-returns-5
-returns-5 c = rw (le-ltb _ _ (c .before .before .before .before .before .before .before .if1 .left), c .before .before .before
-    .before .before .if2 .left, le-ltb _ _ (c .before .before .before .if3 .left), le-ltb _ _ (c .before .if4 .left), lt-ltb _
-    _ (c .if5 .taken))
+returns-5 c = rw (
+  le-ltb _ _ (c .before .before .before .before .before .before .before .if1 .left),
+  c .before .before .before
+      .before .before .if2 .left,
+  le-ltb _ _ (c .before .before .before .if3 .left),
+  le-ltb _ _ (c .before .if4 .left),
+  lt-ltb _
+      _ (c .if5 .taken),
+)
 
 returns-6 : tie.Need-returns-6
 returns-6 c = let a = c .before .before .before .before .before .before .before .before .args .t1 in
-    rw (le-ltb _ _ (c .before .before .before .before .before .before .before .if1 .left), c .before .before .before .before
-    .before .if2 .left, le-ltb _ _ (c .before .before .before .if3 .left), le-ltb _ _ (c .before .if4 .left), le-ltb _ _ (c
-    .if5 .left)) (last (a .full))
+    rw (
+      le-ltb _ _ (c .before .before .before .before .before .before .before .if1 .left),
+      c .before .before .before .before
+          .before .if2 .left,
+      le-ltb _ _ (c .before .before .before .if3 .left),
+      le-ltb _ _ (c .before .if4 .left),
+      le-ltb _ _ (c
+          .if5 .left),
+    ) (last (a .full))
 
 pub over-limit-spec : {M : Type 1} → statement M
 over-limit-spec =

@@ -55,8 +55,11 @@ goes-on-requires-2 : tie.Need-goes-on-requires-2
 goes-on-requires-2 c κs = search needs
 
 body-step-requires : tie.Need-body-step-requires
-body-step-requires c κs = (c .before .before .before .before .before .before .pre .0 .0, c .before .before .before .before
-    .before .before .pre .1 (c .before .before .before .before .before .match .keys5))
+body-step-requires c κs = (
+  c .before .before .before .before .before .before .pre .0 .0,
+  c .before .before .before .before
+      .before .before .pre .1 (c .before .before .before .before .before .match .keys5),
+)
 
 first-step-requires : tie.Need-first-step-requires
 first-step-requires c κs = search needs
@@ -89,8 +92,11 @@ returns-4 c = let a = c .before .before .before .before .before .before .before 
     λ ws x v first q h. let before = lentOf (a .declared .now) (a .class-at .now) (a .class-line .now) (a .stage .now) (a .ends
     .now) (a .blocks .now) (a .level-block .now) (a .kept-line .now) (a .kept-size .now) (a .kept-body .now) in
     let d = draftOf (a .d) (a .body .now) ws in
-    rw (c .before .before .before .before .before .before .before .before .match .keys3, c .before .before .before .before
-    .before .before .before .if1 .left) (steps-as d (c .before .before .before .before .before .before .faulty3 .ensures .1
+    rw (
+      c .before .before .before .before .before .before .before .before .match .keys3,
+      c .before .before .before .before
+          .before .before .before .if1 .left,
+    ) (steps-as d (c .before .before .before .before .before .before .faulty3 .ensures .1
     (sheetOf (a .s) before) ws (seen-shown (a .s) before)) (c .done2 .ensures before ws h))
 
 returns-5 : tie.Need-returns-5
@@ -128,9 +134,16 @@ returns-8 c = let a = c .before .before .args in
     λ ws x v first q h. let before = lentOf (a .declared .now) (a .class-at .now) (a .class-line .now) (a .stage .now) (a .ends
     .now) (a .blocks .now) (a .level-block .now) (a .kept-line .now) (a .kept-size .now) (a .kept-body .now) in
     let m = c .before .match .rest in
-    rw (ne-eqb (a .sort) Sort.SEMI (m .0 .0 .0 .0 .0 .1), ne-eqb (a .sort) Sort.BRACE (m .0 .0 .0 .0 .1), ne-eqb (a .sort)
-    Sort.MORE (m .0 .0 .0 .1), ne-eqb (a .sort) Sort.BLOCK (m .0 .0 .1), ne-eqb (a .sort) Sort.BODY (m .0 .1), ne-eqb (a .sort)
-    Sort.TEXT (m .1)) (steps-on (a .s) (c .goes-on4 .ensures .0) (c .goes-on4 .ensures .1) (record { same = refl; sound = h }))
+    rw (
+      ne-eqb (a .sort) Sort.SEMI (m .0 .0 .0 .0 .0 .1),
+      ne-eqb (a .sort) Sort.BRACE (m .0 .0 .0 .0 .1),
+      ne-eqb (a .sort)
+          Sort.MORE (m .0 .0 .0 .1),
+      ne-eqb (a .sort) Sort.BLOCK (m .0 .0 .1),
+      ne-eqb (a .sort) Sort.BODY (m .0 .1),
+      ne-eqb (a .sort)
+          Sort.TEXT (m .1),
+    ) (steps-on (a .s) (c .goes-on4 .ensures .0) (c .goes-on4 .ensures .1) (record { same = refl; sound = h }))
 
 pub sheet-after-spec : {M : Type 1} → statement M
 sheet-after-spec =

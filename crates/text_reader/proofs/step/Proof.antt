@@ -47,7 +47,7 @@ returns c = let a = c .before .before .before .before .before .before .before .b
     let e = sym (t .ensures .answer x) ∙ ap (λ b. if b then some (pileOf (t .last .0) (t .result .height)) else none) n in
     record {
       halts = λ q. turned-none _ (tokenOf (a .kind) (a .value) x) (a .p) e ∙ ap (λ u. stops u (a .p)) (sym (f .0)) ∙ ap (stops
-      (c .stop .result .number)) (sym (f .1));
+          (c .stop .result .number)) (sym (f .1));
       goes-on = λ q. absurd (omega (arith, f .0, q));
       ready = λ q. absurd (omega (arith, f .0, q));
     }
@@ -85,9 +85,10 @@ returns-2 c = let a = c .before .before .before .before .before .before .before 
     let w = c .before .before .before .before .look in
     record {
       halts = λ q. turned-trouble _ (tokenOf (a .kind) (a .value) x) (a .p) zs e (symbolOf (s .result)) (sym (s .ensures .0))
-      (c .before .before .before .before .before .before .before .before .before .before .before .sort-of .result) (c .before
-      .before .before .before .before .before .before .before .before .before .before .sort-of .ensures) (w .ensures (a .value)
-      .trouble) (c .before .before .if2 .taken)
+          (c .before .before .before .before .before .before .before .before .before .before .before .sort-of .result) (c .before
+          .before .before .before .before .before .before .before .before .before .before .sort-of .ensures) (w .ensures (a
+              .value)
+          .trouble) (c .before .before .if2 .taken)
           ∙ ap (stops (w .result .trouble)) (sym (f .1 ∙ c .before .trouble-place .ensures)) ∙ ap (λ u. stops u (c .stop2
           .result .place)) (sym (f .0));
       goes-on = λ q. absurd (c .before .before .if2 .taken (sym (f .0) ∙ q));
@@ -111,9 +112,13 @@ draft-after-requires c κs = let a = c .before .before .before .before .before .
     let e = sym (t .ensures .answer x) ∙ ap (λ b. if b then some zs else none) n in
     let s = c .before .before .before .before .before .before .before .before .before .before .before .before .before .before
     .before .before .before .before .before .before .top-of in
-    let w = c .before .before .before .before .before .before .before .before .look .ensures (a .value) in
-    ((h .draft, h .sheet .fine .small .levels, ready-kept _ _ h), ((rw (w .number) (ready-number _ _ h _), ready-blocks _ _ h),
-    ready-fits _ _ h (s .result) (a .kind) (a .value) x (s .ensures .1) (s .ensures .0) e))
+    let w = c .before .before .before .before .before .before .before .before .look .ensures (a .value) in (
+      (h .draft, h .sheet .fine .small .levels, ready-kept _ _ h),
+      (
+        (rw (w .number) (ready-number _ _ h _), ready-blocks _ _ h),
+        ready-fits _ _ h (s .result) (a .kind) (a .value) x (s .ensures .1) (s .ensures .0) e,
+      ),
+    )
 
 cast-sheet-after : tie.Need-cast-sheet-after
 cast-sheet-after c = search needs
@@ -129,12 +134,18 @@ sheet-after-requires c κs = let a = c .before .before .before .before .before .
     .before .before .before .before .before .before .before .before .before .before .before .before .before .before .before
     .before .before .before .before .top-of in
     let w = c .before .before .before .before .before .before .before .before .before .before .before .before .before .before
-    .before .before .before .before .before .before .before .look .ensures (a .value) in
-    ((ready-open _ _ h, c .before .before .before .before .before .before .before .before .before .before .before .before
-    .draft-after .ensures .0, omega (arith, ready-kept _ _ h)), λ b. rw (w .known, w .class) (ready-titled _ _ h (s .result) (s
-    .ensures .0) (sym (c .before .before .before .before .before .before .before .before .before .before .before .before
-    .before .before .before .before .before .before .before .before .before .before .before .before .before .before .before
-    .before .sort-of .ensures) ∙ b)))
+    .before .before .before .before .before .before .before .look .ensures (a .value) in (
+      (
+        ready-open _ _ h,
+        c .before .before .before .before .before .before .before .before .before .before .before .before
+            .draft-after .ensures .0,
+        omega (arith, ready-kept _ _ h),
+      ),
+      λ b. rw (w .known, w .class) (ready-titled _ _ h (s .result) (s
+          .ensures .0) (sym (c .before .before .before .before .before .before .before .before .before .before .before .before
+          .before .before .before .before .before .before .before .before .before .before .before .before .before .before .before
+          .before .sort-of .ensures) ∙ b)),
+    )
 
 stop-requires-3 : tie.Need-stop-requires-3
 stop-requires-3 c κs = search needs
@@ -194,7 +205,7 @@ returns-3 c = let a = c .before .before .before .before .before .before .before 
     .before .before .before .before .before .before .before .before .before .before .before .look .result .class) (r .draft
     .line) d tok (a .p) in
     let sheets : y ≡ sheetBy (so .result) (r .sheet) (isKnown r) (numberOf (r .known) (r .called)) (r .draft .line) d tok
-        (a .p) =
+    (a .p) =
     ap (λ u. sheetBy (so .result) (r .sheet) u (c .before .before .before .before .before .before .before .before .before
     .before .before .before .before .before .before .before .before .before .before .before .before .before .before .before
     .look .result .class) (r .draft .line) d tok (a .p)) (w .known) ∙ ap (λ u. sheetBy (so .result) (r .sheet) (isKnown r) u (r
@@ -204,7 +215,7 @@ returns-3 c = let a = c .before .before .before .before .before .before .before 
     let f = c .stop3 .ensures in
     record {
       halts = λ q. turned-cut r tok (a .p) zs e (symbolOf (s .result)) (sym (s .ensures .0)) (so .result) (so .ensures) calm d
-      drafts y sheets (sym (ap (λ b. if b then some (z .result .place) else none) (c .before .if3 .taken)) ∙ st .cut)
+          drafts y sheets (sym (ap (λ b. if b then some (z .result .place) else none) (c .before .if3 .taken)) ∙ st .cut)
           ∙ ap (stops No.CHECKS) (sym (f .1)) ∙ ap (λ u. stops u (c .stop3 .result .place)) (sym (f .0));
       goes-on = λ q. absurd (omega (arith, f .0, q));
       ready = λ q. absurd (omega (arith, f .0, q));
@@ -234,11 +245,24 @@ know-requires c κs = let a = c .before .before .before .before .before .before 
     let e = sym (t .ensures .answer x) ∙ ap (λ b. if b then some zs else none) n in
     let s = c .before .before .before .before .before .before .before .before .before .before .before .before .before .before
     .before .before .before .before .before .before .before .before .before .before .before .before .before .before .before
-    .before .before .before .before .before .before .before .before .before .before .before .before .top-of in
-    (h .names, (ready-distinct _ _ h, (k .1, k .2, h .begun, h .within, λ b. ready-name _ _ h (s .result) (a .kind) (a .value)
-    x (s .ensures .0) e (sym (c .before .before .before .before .before .before .before .before .before .before .before .before
-    .before .before .before .before .before .before .before .before .before .before .before .before .before .before .before
-    .before .before .before .before .before .before .before .before .before .sort-of .ensures) ∙ b))))
+    .before .before .before .before .before .before .before .before .before .before .before .before .top-of in (
+      h .names,
+      (
+        ready-distinct _ _ h,
+        (
+          k .1,
+          k .2,
+          h .begun,
+          h .within,
+          λ b. ready-name _ _ h (s .result) (a .kind) (a .value)
+              x (s .ensures .0) e (sym (c .before .before .before .before .before .before .before .before .before .before
+                  .before .before
+              .before .before .before .before .before .before .before .before .before .before .before .before .before .before
+                  .before
+              .before .before .before .before .before .before .before .before .before .sort-of .ensures) ∙ b),
+        ),
+      ),
+    )
 
 called-requires : tie.Need-called-requires
 called-requires c κs = search needs
@@ -309,7 +333,7 @@ returns-4 c = let a = c .before .before .before .before .before .before .before 
     .before .before .before .before .before .before .before .before .before .before .before .before .before .before .look
     .result .class) (r .draft .line) d tok (a .p) in
     let sheets : y ≡ sheetBy (so .result) (r .sheet) (isKnown r) (numberOf (r .known) (r .called)) (r .draft .line) d tok
-        (a .p) =
+    (a .p) =
     ap (λ u. sheetBy (so .result) (r .sheet) u (c .before .before .before .before .before .before .before .before .before
     .before .before .before .before .before .before .before .before .before .before .before .before .before .before .before
     .before .before .before .before .before .before .before .before .before .look .result .class) (r .draft .line) d tok (a

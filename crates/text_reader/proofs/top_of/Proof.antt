@@ -24,9 +24,14 @@ element-copy-out-result c = search needs
 returns-2 : tie.Need-returns-2
 unfolding pileOf
 returns-2 c = let a = c .before .before .args in
-    let e : a .height ≡ suc (a .height - 1) = omega (arith, c .before .if1 .left) in
-    (ap (λ n. topOf (pileOf (a .pile .now) n)) (sym e), c .before .before .pre .known (a .height - 1) (omega (arith, c .before
-    .if1 .left)))
+    let e : a .height ≡ suc (a .height - 1) = omega (arith, c .before .if1 .left) in (
+      ap (λ n. topOf (pileOf (a .pile .now) n)) (sym e),
+      c .before .before .pre .known (a .height - 1) (omega (
+        arith,
+        c .before
+            .if1 .left,
+      )),
+    )
 
 pub top-of-spec : {M : Type 1} → statement M
 top-of-spec = tie.close (tie.spec returns sub-result element-copy-out-result returns-2)
