@@ -1,29 +1,28 @@
 -- What the functions ask for is met between two tokens. Assumes nothing.
-use Prim.Native.Nat.{ℕ, zero, suc, _+_, _≤_, _<_}
+use Prim.Native.Nat.{ℕ, zero, suc, _≤_, _<_}
 use native.Mathlib.Omega.{arith}
 use mathlib.Core.Path.{_≡_, refl, sym, _∙_, ap, subst}
 use mathlib.Core.List.{List, [], _∷_}
 use mathlib.Core.Bool.{Bool, true, false, not, _&&_, _||_}
-use mathlib.Core.Option.{Option, none, some}
+use mathlib.Core.Option.{none, some}
 use lib.Dec.{eqb}
 use lib.ListN.{length, getD, take, length-take}
 use Rattle.semantics.specs.Words.{if_then_else_, any}
-use Rattle.semantics.specs.Numbers as F
 use Rattle.semantics.specs.Kinds as K
 use Rattle.promises.specs.Laws.{no-way, not-some, not-true, AllOf, Ordered}
 use Rattle.text_semantics.specs.Numbers as No
 use Rattle.text_semantics.specs.Token as T
-use Rattle.text_semantics.specs.Token.{Token, mark, number}
+use Rattle.text_semantics.specs.Token.{number}
 use Rattle.text_semantics.specs.Grammar.{Name}
-use Rattle.text_semantics.specs.Names.{Known, named, awaited, wanting, trouble, embodies}
+use Rattle.text_semantics.specs.Names.{Known, named, awaited, wanting, trouble}
 use Rattle.text_semantics.specs.Meaning.{numberOf}
 use Rattle.text_semantics.specs.Reading.{Symbol, one, the, aName, aNumber, factorS, minusS, more, signedS, relationS, itemS}
 use Rattle.text_semantics.specs.Reading.{claimS, itemsS, givesS, givenS, actionsS, tryS, fewS, linesS, bodyS, textS}
-use Rattle.text_machine.specs.Entry.{KEPT, FULL}
+use Rattle.text_machine.specs.Entry.{KEPT}
 use Rattle.text_machine.specs.Sheet as M
 use Rattle.text_machine.specs.Codes as C
 use Rattle.text_machine.specs.Codes.{symbolOf, tokenOf}
-use Rattle.text_machine.specs.Machine.{Reader, isKnown}
+use Rattle.text_machine.specs.Machine.{isKnown}
 use Rattle.text_agrees.specs.Sheets.{deepness}
 use Rattle.text_agrees.specs.Stages.{Blocks, outside, acting, trying, Stage, declared, entity, titled, acts, Part, block, rest}
 use Rattle.text_agrees.specs.Stages.{roomy}
@@ -32,8 +31,7 @@ use Rattle.text_entry.specs.Draft.{TWO}
 use Rattle.text_names.specs.Table.{Distinct}
 use Rattle.text_pile.specs.Pile.{SYMBOLS, pileOf, turnedOf}
 use Rattle.text_pile.specs.Laws.{topOf}
-use Rattle.text_sheet.specs.declared.Sheet.{Sheet}
-use Rattle.text_sheet.specs.Numbers.{ROOM, lastOf}
+use Rattle.text_sheet.specs.Numbers.{lastOf}
 use Rattle.text_sheet.specs.Shown.{sheetOf, levelsOf}
 use Rattle.text_sheet.specs.Fine.{Open}
 use Rattle.text_sheet.specs.Callers.{class-within}

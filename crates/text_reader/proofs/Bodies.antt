@@ -1,5 +1,5 @@
 -- The body of a class: the numbers then, and the limits by them. Assumes nothing.
-use Prim.Native.Nat.{ℕ, suc, _+_, _≤_, _<_}
+use Prim.Native.Nat.{ℕ, suc, _+_}
 use native.Mathlib.Omega.{arith}
 use mathlib.Core.Path.{_≡_, refl, sym, _∙_, ap}
 use mathlib.Core.Bool.{Bool, true, false, _||_}
@@ -14,7 +14,7 @@ use Rattle.text_machine.specs.Entry as E
 use Rattle.text_machine.specs.Sheet as M
 use Rattle.text_machine.specs.Machine.{overLimit}
 use Rattle.text_sheet.specs.declared.Sheet.{Sheet}
-use Rattle.text_sheet.specs.Numbers.{HEAD, filled, counted, withDeclared, withClasses, declaring, classing}
+use Rattle.text_sheet.specs.Numbers.{filled, counted, withDeclared, withClasses, declaring, classing}
 use Rattle.text_sheet.specs.Shown.{Lent, sheetOf}
 use Rattle.text_sheet.specs.Fine.{Small}
 use Rattle.text_sheet.proofs.Declared.{small-counted, small-filled}

@@ -2,10 +2,10 @@
 use Prim.Native.Nat.{ℕ, zero, suc, _+_, _≤_, _<_}
 use native.Mathlib.Omega.{arith}
 use mathlib.Core.Path.{_≡_, refl, sym, _∙_, ap, subst}
-use mathlib.Core.List.{List, []}
+use mathlib.Core.List.{List}
 use mathlib.Core.Bool.{Bool, true, false, _||_}
 use mathlib.Core.Option.{Option, none, some}
-use lib.Dec.{eqb, leb, ltb}
+use lib.Dec.{leb, ltb}
 use lib.ListN.{length, getD, take}
 use borrow.Author.Tests.{le-ltb, lt-ltb, ltb-false}
 use Rattle.semantics.specs.Words.{if_then_else_}
@@ -19,7 +19,7 @@ use Rattle.text_machine.specs.Machine.{overLimit, done, isDeclaration}
 use Rattle.text_entry.specs.declared.Draft.{Draft}
 use Rattle.text_entry.specs.Draft.{draftOf, bodyIn}
 use Rattle.text_sheet.specs.declared.Sheet.{Sheet}
-use Rattle.text_sheet.specs.Numbers.{HEAD, longer, counted, declaring, counting, standing}
+use Rattle.text_sheet.specs.Numbers.{HEAD, longer, declaring}
 use Rattle.text_sheet.specs.Part.{part}
 use Rattle.text_sheet.specs.Shown.{Lent, sheetOf, levelsOf, entry}
 use Rattle.text_sheet.specs.Fine.{Fine}

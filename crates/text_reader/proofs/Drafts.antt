@@ -6,18 +6,18 @@ use mathlib.Core.List.{List, []}
 use mathlib.Core.Bool.{Bool, true, false}
 use mathlib.Core.Option.{none, some}
 use lib.Dec.{eqb}
-use lib.ListN.{length, getD, take, drop, length-take}
+use lib.ListN.{getD, take, drop, length-take}
 use borrow.Author.Tests.{eqb-true, eqb-false}
 use Rattle.semantics.specs.Words.{if_then_else_}
 use Rattle.text_semantics.specs.Token as T
 use Rattle.text_semantics.specs.Token.{Token, mark}
 use Rattle.text_machine.specs.Entry as M
 use Rattle.text_machine.specs.Entry.{KEPT, drafted, markIn}
-use Rattle.text_machine.specs.Sheet.{Kept, resumed, keptIn}
+use Rattle.text_machine.specs.Sheet.{resumed, keptIn}
 use Rattle.text_machine.specs.Codes as C
 use Rattle.text_machine.specs.Codes.{symbolOf, tokenOf}
 use Rattle.text_entry.specs.declared.Draft.{Draft}
-use Rattle.text_entry.specs.Draft.{draftOf, bodyIn, Fine, Read, MOST, TWO}
+use Rattle.text_entry.specs.Draft.{draftOf, bodyIn, Read, MOST}
 use Rattle.text_entry.specs.Kept.{kept-else, kept-etry}
 use Rattle.text_sheet.specs.Numbers.{ROOM, lastOf}
 use Rattle.text_sheet.specs.Shown.{levelsOf}

@@ -1,18 +1,18 @@
 -- A record that is judged: as a number, and what one that passes has. Assumes nothing.
-use Prim.Native.Nat.{ℕ, _+_, _≤_, _<_}
+use Prim.Native.Nat.{ℕ, _≤_, _<_}
 use native.Mathlib.Omega.{arith}
 use mathlib.Core.Path.{_≡_, refl, sym, _∙_, ap}
 use mathlib.Core.List.{List, []}
 use mathlib.Core.Bool.{Bool, true, false, not, _&&_, _||_}
-use lib.Dec.{eqb, leb, ltb}
+use lib.Dec.{eqb, leb}
 use lib.ListN.{length, getD, take, length-take}
 use borrow.Author.Tests.{leb-true, leb-false, ltb-true, ne-eqb, not-false}
-use Rattle.semantics.specs.Words.{Outcome, ok, fails, Passed, passed, _>>_, need}
+use Rattle.semantics.specs.Words.{Outcome, ok, Passed, passed, _>>_, need}
 use Rattle.semantics.specs.Numbers as F
 use Rattle.semantics.specs.Kinds as K
 use Rattle.semantics.specs.Bytes.{u16}
-use Rattle.semantics.specs.Record.{rowOf, bodyJudged, sized, valid, branches}
-use Rattle.semantics.specs.Decode.{judged, placed}
+use Rattle.semantics.specs.Record.{rowOf, bodyJudged, sized, branches}
+use Rattle.semantics.specs.Decode.{judged}
 use Rattle.base_numbers.specs.Byte as Byte
 use Rattle.file_check_record.specs.Rows.{numberOf}
 use Rattle.file_check_record.proofs.Table.{row-past}

@@ -2,20 +2,20 @@
 use Prim.Native.Nat.{ℕ, zero, suc, _+_, _-_, _*_, _≤_, _<_}
 use native.Mathlib.Omega.{arith}
 use mathlib.Core.Path.{_≡_, refl, sym, _∙_, ap}
-use mathlib.Core.List.{List, []}
+use mathlib.Core.List.{List}
 use mathlib.Core.Bool.{Bool, true, false, _||_}
 use mathlib.Core.Option.{Option, none, some}
 use lib.Dec.{eqb, leb, ltb}
 use lib.ListN.{length, getD, set, take, length-set}
 use lib.Seq.{getD-set-same, getD-set-other}
-use borrow.Author.Tests.{eqb-true, eqb-false, eq-eqb, ne-eqb}
+use borrow.Author.Tests.{eqb-true, eqb-false}
 use Rattle.semantics.specs.Words.{if_then_else_}
 use Rattle.semantics.specs.Numbers as F
 use Rattle.semantics.specs.Kinds as K
 use Rattle.text_machine.specs.Entry as E
-use Rattle.text_machine.specs.Entry.{KEPT, FULL}
+use Rattle.text_machine.specs.Entry.{KEPT}
 use Rattle.text_machine.specs.Sheet as M
-use Rattle.text_machine.specs.Sheet.{added, long}
+use Rattle.text_machine.specs.Sheet.{added}
 use Rattle.text_machine.specs.Machine.{overLimit}
 use Rattle.text_entry.specs.declared.Draft.{Draft}
 use Rattle.text_entry.specs.Draft.{draftOf, bodyIn}
@@ -24,8 +24,8 @@ use Rattle.text_sheet.specs.Numbers.{HEAD, ROOM, longer, counted, counting, sta
 use Rattle.text_sheet.specs.Numbers.{withLevels, settling}
 use Rattle.text_sheet.specs.Part.{part}
 use Rattle.text_sheet.specs.Laws.{part-length}
-use Rattle.text_sheet.specs.Shown.{Lent, sheetOf, entry, withBlocks, levelsOf}
-use Rattle.text_sheet.specs.Fine.{Fine, Wrote}
+use Rattle.text_sheet.specs.Shown.{Lent, sheetOf, entry, levelsOf}
+use Rattle.text_sheet.specs.Fine.{Fine}
 use Rattle.text_sheet.specs.Left.{opening}
 use Rattle.text_sheet.specs.Callers.{opens-entry}
 use Rattle.text_sheet.proofs.Acted.{acts-wrote}

@@ -1,9 +1,9 @@
 -- What is known of the memory between two tokens, from the reader that it shows. Assumes nothing.
-use Prim.Native.Nat.{ℕ, zero, suc, _+_, _≤_, _<_}
+use Prim.Native.Nat.{ℕ, suc, _+_, _≤_, _<_}
 use native.Mathlib.Omega.{arith}
-use mathlib.Core.Path.{_≡_, refl, sym, _∙_, ap, subst}
+use mathlib.Core.Path.{_≡_, refl, sym, subst}
 use mathlib.Core.List.{List, [], _∷_, _++_, map}
-use mathlib.Core.Bool.{Bool, true, false, not, _&&_, _||_}
+use mathlib.Core.Bool.{Bool, true, false, _||_}
 use mathlib.Core.Option.{Option, none, some}
 use lib.Dec.{eqb}
 use lib.ListN.{length, getD}
@@ -14,7 +14,7 @@ use Rattle.promises.specs.Laws.{no-way, and-true, AllOf, Ordered}
 use Rattle.text_semantics.specs.Lexing.{sameBytes}
 use Rattle.text_semantics.specs.Grammar.{Name}
 use Rattle.text_semantics.specs.Names as N
-use Rattle.text_semantics.specs.Names.{Known, Event, asks, declares, announces, embodies, leaves, named, awaited, knows, trouble}
+use Rattle.text_semantics.specs.Names.{Known, Event, asks, declares, announces, embodies, leaves, named, knows}
 use Rattle.text_semantics.specs.Names.{oneMore, bodied, stays}
 use Rattle.text_semantics.specs.Meaning.{numberOf}
 use Rattle.text_machine.specs.Machine.{Reader, mostNames}
@@ -22,7 +22,7 @@ use Rattle.text_machine.specs.Sheet as M
 use Rattle.text_agrees.specs.Events.{Fewer}
 use Rattle.text_agrees.specs.Stages.{Comes}
 use Rattle.text_agrees.specs.Going.{toldTo, known-comes}
-use Rattle.text_agrees.specs.Goodness.{Sorted, LevelJudged, KeptJudged, Judged}
+use Rattle.text_agrees.specs.Goodness.{LevelJudged, KeptJudged}
 use Rattle.text_entry.specs.Draft.{TWO, MOST}
 use Rattle.text_names.specs.Table.{Distinct}
 use Rattle.text_reader.proofs.Judges.{try-branches}

@@ -2,7 +2,7 @@
 use Prim.Native.Nat.{ℕ}
 use native.Mathlib.Omega.{arith}
 use mathlib.Core.Path.{_≡_, refl, sym, _∙_, ap}
-use mathlib.Core.List.{List, [], _∷_}
+use mathlib.Core.List.{List}
 use mathlib.Core.Bool.{Bool, true, false, not}
 use mathlib.Core.Option.{Option, none, some}
 use lib.ListN.{length}
@@ -17,9 +17,9 @@ use Rattle.text_semantics.specs.Meaning.{numberOf}
 use Rattle.text_semantics.specs.Reading.{Symbol}
 use Rattle.text_machine.specs.Entry.{Draft, nameIn}
 use Rattle.text_machine.specs.Sheet.{Sheet}
-use Rattle.text_machine.specs.Machine.{Reader, Turned, stops, goes, turned, named, goneOn, eventAt, draftAfter, sheetAfter}
+use Rattle.text_machine.specs.Machine.{Reader, stops, goes, turned, named, goneOn, eventAt, draftAfter, sheetAfter}
 use Rattle.text_machine.specs.Machine.{cutAt}
-use Rattle.text_machine.specs.Machine.{after, calls, knownAfter, isKnown, troubleAt}
+use Rattle.text_machine.specs.Machine.{after, calls, knownAfter, isKnown}
 use Rattle.text_pile.specs.Pile.{turnedOf}
 use Rattle.text_pile.specs.Laws.{topOf, byPile, on-pile}
 use Rattle.text_names.specs.Table.{told}

@@ -5,11 +5,11 @@ use mathlib.Core.Path.{_≡_, refl, sym, _∙_, ap}
 use mathlib.Core.List.{List, [], _∷_}
 use mathlib.Core.Bool.{Bool, true, false}
 use lib.Dec.{eqb, leb}
-use borrow.Author.Tests.{eqb-true, ne-eqb, eq-eqb, le-leb, lt-leb, leb-false}
+use borrow.Author.Tests.{ne-eqb, le-leb, lt-leb, leb-false}
 use Rattle.semantics.specs.Words.{if_then_else_}
 use Rattle.semantics.specs.Kinds as K
 use Rattle.text_semantics.specs.Token as T
-use Rattle.text_semantics.specs.Token.{Token, name, number, mark, bad}
+use Rattle.text_semantics.specs.Token.{name, number, mark, bad}
 use Rattle.text_semantics.specs.Grammar.{Name}
 use Rattle.text_semantics.specs.Names.{Known, Event, asks, declares, announces, embodies, leaves, trouble, LOCAL}
 use Rattle.text_machine.specs.Entry.{ASK, markIn, nameIn}

@@ -5,7 +5,7 @@ use native.Mathlib.Omega.{arith}
 use mathlib.Core.Path.{_≡_, refl}
 use mathlib.Core.List.{List}
 use mathlib.Core.Bool.{Bool, true, false, _&&_, _||_}
-use mathlib.Core.Option.{Option, none, some}
+use mathlib.Core.Option.{Option, none}
 use lib.Dec.{eqb, leb, ltb}
 use lib.ListN.{length}
 use borrow.Author.Tests.{eqb-true, eqb-false}
@@ -25,7 +25,7 @@ use Rattle.text_machine.specs.Codes as C
 use Rattle.text_machine.specs.Codes.{symbolOf}
 use Rattle.text_machine.specs.Sheet.{Sheet, withFirst, blocksOf, classes, bodied, braces, opens}
 use Rattle.text_machine.specs.Machine.{Reader, asked, ofName, eventAt, troubleAt, keeps, knownAfter, done}
-use Rattle.text_machine.specs.Machine.{isKnown, embodied, behind, sheetAfter, faulty, overLimit, cutAt, calls}
+use Rattle.text_machine.specs.Machine.{isKnown, behind, sheetAfter, faulty, overLimit, cutAt, calls}
 use Rattle.text_pile.specs.Pile.{SYMBOLS}
 
 -- A semicolon; a brace that an action opens; a name; what is a value; what follows a value; a condition; what an action or a

@@ -1,15 +1,12 @@
 -- `text_reader::behind` meets its contract. Assumes nothing.
 use native.Mathlib.Omega.{arith}
-use mathlib.Core.Path.{_≡_, refl, sym, _∙_, ap}
+use mathlib.Core.Path.{refl, ap}
 use lib.Dec.{eqb}
 use lib.ListN.{getD}
 use Rattle.text_semantics.specs.Token as T
 use Rattle.text_sheet.specs.Numbers.{lastOf}
 use Rattle.text_reader.proofs.Opens.{settled-kept, settling-levels}
-use Rattle.text_sheet.specs.Shown.{sheetOf, withBlocks}
-use Rattle.text_reader.specs.Sheets.{Turns}
 use Rattle.text_reader.proofs.Troubles.{no-mark}
-use borrow.Author.Needs.{needs}
 use Rattle.text_reader.proofs.behind.Statement.{statement}
 use Rattle.text_reader.proofs.behind.Tie as tie
 

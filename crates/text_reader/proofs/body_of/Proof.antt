@@ -1,26 +1,20 @@
 -- `text_reader::body_of` meets its contract. Assumes nothing.
 use native.Mathlib.Omega.{arith}
-use native.Mathlib.Numerals.{add-one}
-use Prim.Native.Nat.{ℕ, _+_, _≤_, _<_, suc}
+use Prim.Native.Nat.{_<_}
 use mathlib.Core.Path.{_≡_, refl, sym, _∙_, ap}
-use mathlib.Core.Bool.{true, false}
+use mathlib.Core.Bool.{false}
 use mathlib.Core.Option.{none, some}
 use lib.ListN.{getD, set}
 use Rattle.semantics.specs.Words.{if_then_else_}
-use Rattle.semantics.specs.Numbers as F
 use Rattle.semantics.specs.Kinds as K
-use Rattle.text_semantics.specs.Numbers as No
-use Rattle.text_machine.specs.Entry.{FULL, KEPT}
+use Rattle.text_machine.specs.Entry.{FULL}
 use Rattle.text_machine.specs.Sheet as M
-use Rattle.text_machine.specs.Machine.{overLimit}
-use Rattle.text_sheet.specs.Numbers.{HEAD, counted, withLevels}
-use Rattle.text_sheet.specs.Numbers as Numbers
-use Rattle.text_sheet.specs.Shown.{sheetOf, withBlocks, withClasses}
+use Rattle.text_sheet.specs.Shown.{withClasses}
 use Rattle.text_reader.specs.Cut.{limitOf, toldOf}
-use Rattle.text_reader.specs.Sheets.{Steps, withBodies, embodiedOf}
-use Rattle.text_reader.proofs.Cuts.{stops-at, steps-by, limit-within, as-short}
+use Rattle.text_reader.specs.Sheets.{withBodies}
+use Rattle.text_reader.proofs.Cuts.{stops-at, limit-within}
 use Rattle.text_reader.proofs.Opens.{opened-kept}
-use Rattle.text_reader.proofs.Bodies.{small-with, small-classed, classed-levels, classed-blocks, limits-embodied}
+use Rattle.text_reader.proofs.Bodies.{small-with, limits-embodied}
 use borrow.Author.Needs.{needs}
 use Rattle.text_reader.proofs.body_of.Statement.{statement}
 use Rattle.text_reader.proofs.body_of.Tie as tie

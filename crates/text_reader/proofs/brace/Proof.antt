@@ -1,11 +1,11 @@
 -- `text_reader::brace` meets its contract. Assumes nothing.
 use native.Mathlib.Omega.{arith}
 use mathlib.Core.Path.{_≡_, refl, sym, _∙_, ap}
-use mathlib.Core.Bool.{true, false}
+use mathlib.Core.Bool.{false}
 use mathlib.Core.Option.{none, some}
-use Prim.Native.Nat.{ℕ, _+_, _≤_, _<_, suc}
+use Prim.Native.Nat.{ℕ, _≤_, _<_, suc}
 use lib.Dec.{eqb}
-use lib.ListN.{getD, take, set, length}
+use lib.ListN.{getD, take, set}
 use Rattle.semantics.specs.Numbers as F
 use Rattle.semantics.specs.Kinds as K
 use Rattle.semantics.specs.Words.{if_then_else_}
@@ -13,13 +13,12 @@ use Rattle.text_entry.specs.Draft.{draftOf}
 use Rattle.text_machine.specs.Entry.{KEPT, FULL}
 use Rattle.text_machine.specs.Sheet as M
 use Rattle.text_machine.specs.Machine.{overLimit}
-use Rattle.text_sheet.specs.Numbers.{HEAD, lastOf, lastSet}
+use Rattle.text_sheet.specs.Numbers.{lastOf, lastSet}
 use Rattle.text_sheet.specs.Part.{part}
 use Rattle.text_sheet.specs.Laws.{part-length}
-use Rattle.text_sheet.specs.Left.{opening}
 use Rattle.text_sheet.specs.Shown.{sheetOf, withBlocks}
 use Rattle.text_reader.specs.Cut.{limitOf, toldOf}
-use Rattle.text_reader.specs.Sheets.{Steps, refusedOf, openedOf}
+use Rattle.text_reader.specs.Sheets.{refusedOf, openedOf}
 use Rattle.text_reader.proofs.Cuts.{stops-at, limit-within}
 use Rattle.text_reader.proofs.Opens.{faulty-opens, limits-opens, opens-draft, opened-kept, opening-stays}
 use borrow.Author.Needs.{needs}

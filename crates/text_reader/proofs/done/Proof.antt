@@ -1,17 +1,15 @@
 -- `text_reader::done` meets its contract. Assumes nothing.
 use native.Mathlib.Omega.{arith}
 use mathlib.Core.Path.{_≡_, refl, sym, _∙_, ap}
-use mathlib.Core.Bool.{true, false}
 use mathlib.Core.Option.{some}
-use Prim.Native.Nat.{_+_, _≤_}
+use Prim.Native.Nat.{_+_}
 use Rattle.text_entry.specs.Draft.{draftOf}
 use Rattle.text_sheet.specs.Numbers.{HEAD, counted, counting, lastOf}
-use Rattle.text_sheet.specs.Shown.{sheetOf, withBlocks, withClasses}
+use Rattle.text_sheet.specs.Shown.{sheetOf}
 use Rattle.text_sheet.proofs.Acted.{same-levels}
 use Rattle.text_sheet.proofs.Braced.{standing-levels}
 use Rattle.text_machine.specs.Machine as Machine
-use Rattle.text_machine.specs.Machine.{overLimit}
-use Rattle.text_reader.specs.Sheets.{Steps, withBoth, refusedOf}
+use Rattle.text_reader.specs.Sheets.{withBoth, refusedOf}
 use Rattle.text_reader.proofs.Cuts.{stops-at, steps-by, faulty-done, done-declares, done-acts, declaring-levels, as-short}
 use borrow.Author.Needs.{needs}
 use Rattle.text_reader.proofs.done.Statement.{statement}

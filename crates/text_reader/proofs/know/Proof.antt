@@ -1,12 +1,10 @@
 -- `text_reader::know` meets its contract. Assumes nothing.
-use Prim.Native.Nat.{_<_}
 use native.Mathlib.Omega.{arith}
 use borrow.Author.Tests.{ne-eqb}
 use Rattle.text_semantics.specs.Token as T
 use Rattle.text_names.specs.Table.{partOf}
 use Rattle.text_reader.specs.Sorts as Sort
 use Rattle.text_reader.proofs.Troubles.{no-mark, mark-is}
-use borrow.Author.Needs.{needs}
 use Rattle.text_reader.proofs.know.Statement.{statement}
 use Rattle.text_reader.proofs.know.Tie as tie
 

@@ -1,8 +1,7 @@
 -- `text_reader::look` meets its contract. Assumes nothing.
 use native.Mathlib.Omega.{arith}
-use mathlib.Core.Path.{_≡_, refl, sym, _∙_, ap}
+use mathlib.Core.Path.{_∙_, ap}
 use Rattle.text_semantics.specs.Meaning.{kindOf, numberOf}
-use Rattle.text_machine.specs.Codes.{NAME, tokenOf}
 use Rattle.text_names.specs.Table.{knownOf, foundOf, partOf}
 use Rattle.text_reader.proofs.Troubles.{name-is}
 use borrow.Author.Needs.{needs}

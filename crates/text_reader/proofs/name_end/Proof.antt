@@ -1,7 +1,7 @@
 -- `text_reader::name_end` meets its contract. Assumes nothing.
 use native.Mathlib.Omega.{arith}
 use Prim.Native.Nat.{_-_}
-use mathlib.Core.Path.{_≡_, refl, sym, _∙_, ap}
+use mathlib.Core.Path.{_≡_, sym, _∙_, ap}
 use lib.ListN.{take, drop}
 use Rattle.text_names.specs.Table.{partOf}
 use Rattle.text_reader.proofs.Troubles.{name-none, name-is}

@@ -1,26 +1,15 @@
 -- `text_reader::new_body` meets its contract. Assumes nothing.
 use native.Mathlib.Omega.{arith}
-use native.Mathlib.Numerals.{add-one}
-use Prim.Native.Nat.{ℕ, _+_, _≤_, _<_, suc}
-use mathlib.Core.Path.{_≡_, refl, sym, _∙_, ap}
-use mathlib.Core.Bool.{true, false}
-use mathlib.Core.Option.{none, some}
+use mathlib.Core.Path.{_≡_, _∙_, ap}
+use mathlib.Core.Bool.{false}
 use lib.ListN.{getD, set}
-use Rattle.semantics.specs.Words.{if_then_else_}
-use Rattle.semantics.specs.Numbers as F
 use Rattle.semantics.specs.Kinds as K
-use Rattle.text_semantics.specs.Numbers as No
-use Rattle.text_machine.specs.Entry.{FULL, KEPT}
 use Rattle.text_machine.specs.Sheet as M
-use Rattle.text_machine.specs.Machine.{overLimit}
-use Rattle.text_sheet.specs.Numbers.{HEAD, counted, withLevels}
-use Rattle.text_sheet.specs.Numbers as Numbers
-use Rattle.text_sheet.specs.Shown.{sheetOf, withBlocks, withClasses}
-use Rattle.text_reader.specs.Cut.{limitOf, toldOf}
-use Rattle.text_reader.specs.Sheets.{Steps, withBodies, embodiedOf}
-use Rattle.text_reader.proofs.Cuts.{stops-at, steps-by, limit-within, as-short}
+use Rattle.text_sheet.specs.Shown.{sheetOf, withClasses}
+use Rattle.text_reader.specs.Sheets.{withBodies}
+use Rattle.text_reader.proofs.Cuts.{steps-by}
 use Rattle.text_reader.proofs.Opens.{opened-kept}
-use Rattle.text_reader.proofs.Bodies.{small-with, small-classed, classed-levels, classed-blocks, limits-embodied}
+use Rattle.text_reader.proofs.Bodies.{small-classed, classed-levels, classed-blocks}
 use borrow.Author.Needs.{needs}
 use Rattle.text_reader.proofs.new_body.Statement.{statement}
 use Rattle.text_reader.proofs.new_body.Tie as tie

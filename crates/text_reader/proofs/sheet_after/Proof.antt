@@ -1,6 +1,6 @@
 -- `text_reader::sheet_after` meets its contract. Assumes nothing.
 use native.Mathlib.Omega.{arith}
-use mathlib.Core.Path.{_≡_, refl, sym, _∙_, ap}
+use mathlib.Core.Path.{refl, sym, _∙_, ap}
 use borrow.Author.Tests.{ne-eqb}
 use Rattle.text_semantics.specs.Token as T
 use mathlib.Core.Bool.{false}
@@ -12,7 +12,7 @@ use Rattle.text_machine.specs.Codes.{tokenOf}
 use Rattle.text_machine.specs.Sheet.{withFirst}
 use Rattle.text_reader.specs.Sorts.{bodyBy}
 use Rattle.text_reader.specs.Sorts as Sort
-use Rattle.text_reader.specs.Sheets.{Steps, Turns, lentOf}
+use Rattle.text_reader.specs.Sheets.{lentOf}
 use Rattle.text_reader.proofs.Troubles.{no-mark}
 use Rattle.text_reader.proofs.Cuts.{seen-shown, total-shown, line-shown, steps-as, steps-on, steps-to, turns-to}
 use borrow.Author.Needs.{needs}

@@ -1,6 +1,5 @@
 -- `text_reader::sort_of` meets its contract. Assumes nothing.
 use mathlib.Core.Path.{_≡_, _∙_}
-use Prim.Native.Nat.{_-_, _%_}
 use borrow.Author.Tests.{eq-eqb, ne-eqb, lt-ltb, le-ltb}
 use Rattle.text_reader.specs.Sorts as Sort
 use Rattle.text_reader.specs.Sorts.{sortAt, sort-at}

@@ -1,6 +1,6 @@
 -- `text_reader::step` meets its contract. Assumes nothing.
 use Rattle.text_semantics.specs.Meaning.{numberOf}
-use Rattle.text_machine.specs.Machine.{goes, draftAfter, isKnown}
+use Rattle.text_machine.specs.Machine.{draftAfter, isKnown}
 use Rattle.text_agrees.specs.Stages.{moves}
 use lib.ListN.{length}
 use Rattle.text_reader.specs.Moves.{memoryOf}
@@ -13,7 +13,7 @@ use Rattle.text_reader.proofs.Onward.{levels-shown, draft-shown, body-l
 use native.Mathlib.Omega.{arith}
 use mathlib.Core.Path.{_≡_, refl, sym, _∙_, ap}
 use mathlib.Core.Bool.{true, false}
-use mathlib.Core.Option.{Option, none, some}
+use mathlib.Core.Option.{none, some}
 use borrow.Author.Tests.{not-true, not-false}
 use Rattle.semantics.specs.Words.{if_then_else_}
 use Rattle.text_semantics.specs.Numbers as No
@@ -21,7 +21,7 @@ use Rattle.text_machine.specs.Codes.{NAME, symbolOf, tokenOf}
 use Rattle.text_machine.specs.Machine.{stops}
 use Rattle.text_entry.specs.Draft.{draftOf}
 use Rattle.text_names.specs.Table.{partOf}
-use Rattle.text_pile.specs.Pile.{pileOf, turnedOf, answeredOf}
+use Rattle.text_pile.specs.Pile.{pileOf}
 use Rattle.text_reader.proofs.Before.{ready-distinct, ready-open, ready-kept, ready-blocks, ready-number, ready-fits}
 use Rattle.text_reader.proofs.Before.{ready-name, ready-titled}
 use Rattle.text_reader.proofs.Steps.{turned-none, turned-trouble, turned-cut, turned-goes}

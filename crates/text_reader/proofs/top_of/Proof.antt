@@ -1,10 +1,7 @@
 -- `text_reader::top_of` meets its contract. Assumes nothing.
 use native.Mathlib.Omega.{arith}
-use Prim.Native.Nat.{ℕ, zero, suc, _-_}
-use mathlib.Core.Path.{_≡_, refl, sym, _∙_, ap}
-use mathlib.Core.List.{List}
-use lib.ListN.{getD}
-use Rattle.text_machine.specs.Codes.{symbolOf}
+use Prim.Native.Nat.{suc, _-_}
+use mathlib.Core.Path.{_≡_, sym, ap}
 use Rattle.text_pile.specs.Pile.{pileOf}
 use Rattle.text_pile.specs.Laws.{topOf}
 use borrow.Author.Needs.{needs}

@@ -1,7 +1,6 @@
 -- `text_reader::trouble_of` meets its contract. Assumes nothing.
 use Rattle.text_reader.proofs.Troubles.{body-semi, body-other, plain-token, other-sort, value-asks, variable-asks}
 use Rattle.text_reader.proofs.Troubles.{store-asks}
-use borrow.Author.Tests.{ne-eqb}
 use borrow.Author.Needs.{needs}
 use Rattle.text_reader.proofs.trouble_of.Statement.{statement}
 use Rattle.text_reader.proofs.trouble_of.Tie as tie

@@ -1,5 +1,4 @@
 -- `text_reader::turn` meets its contract. Assumes nothing.
-use native.Mathlib.Omega.{arith}
 use mathlib.Core.Path.{refl}
 use borrow.Author.Needs.{needs}
 use Rattle.text_reader.specs.Turn.{turns-by, within-text}

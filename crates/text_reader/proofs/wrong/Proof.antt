@@ -1,5 +1,4 @@
 -- `text_reader::wrong` meets its contract. Assumes nothing.
-use native.Mathlib.Omega.{arith}
 use mathlib.Core.Path.{sym, ap}
 use lib.Seq.{length-take-le}
 use mathlib.Core.Bool.{not}
