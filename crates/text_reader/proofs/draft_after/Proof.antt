@@ -17,7 +17,7 @@ drafted-requires c κs = let a = c .before .before .before .before .args in
         (q .1 .0 .0, q .1 .0 .1),
         reads (a .s) (a .kind) (a .value) (a .w) (a .i) (a .k) (a .p) (a .levels) (a
             .kept-line .now) (a .kept-size .now) (a .kept-body .now) (a .body .now) (a .starts .now) (a .d) (g .result) _ (g
-                .ensures)
+            .ensures)
             (q .1 .1),
       ),
     )

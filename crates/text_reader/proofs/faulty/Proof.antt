@@ -32,7 +32,7 @@ returns-2 c = let a = c .before .before .before .before .before .args in
       right-judged (a .s .seen) (a .d) (a .body .now) (c .wrong .result) o l e,
       λ z ws q. e ∙ ap (λ xs. not (eqb (numberOf
           (judged (countsOf xs (a .d .kind)) (a .d .kind) (take (a .d .size) (a .body .now)))) 0)) (sym q) ∙ faulty-shown z
-              (a .d) (a
+          (a .d) (a
           .body .now) ws o,
     )
 

@@ -87,7 +87,7 @@ returns-2 c = let a = c .before .before .before .before .before .before .before 
       halts = λ q. turned-trouble _ (tokenOf (a .kind) (a .value) x) (a .p) zs e (symbolOf (s .result)) (sym (s .ensures .0))
           (c .before .before .before .before .before .before .before .before .before .before .before .sort-of .result) (c .before
           .before .before .before .before .before .before .before .before .before .before .sort-of .ensures) (w .ensures (a
-              .value)
+          .value)
           .trouble) (c .before .before .if2 .taken)
           ∙ ap (stops (w .result .trouble)) (sym (f .1 ∙ c .before .trouble-place .ensures)) ∙ ap (λ u. stops u (c .stop2
           .result .place)) (sym (f .0));
@@ -256,9 +256,9 @@ know-requires c κs = let a = c .before .before .before .before .before .before 
           h .within,
           λ b. ready-name _ _ h (s .result) (a .kind) (a .value)
               x (s .ensures .0) e (sym (c .before .before .before .before .before .before .before .before .before .before
-                  .before .before
+              .before .before
               .before .before .before .before .before .before .before .before .before .before .before .before .before .before
-                  .before
+              .before
               .before .before .before .before .before .before .before .before .before .sort-of .ensures) ∙ b),
         ),
       ),
