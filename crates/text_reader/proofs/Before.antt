@@ -60,55 +60,39 @@ sign-not true b n f g h e = f e
 sign-not false true n f g h e = g e
 sign-not false false n f g h e = h e
 
+-- A name, and the body of a class, are the only symbols of their sorts.
+alone : (s : Symbol) → (sortOf s ≡ Sort.NAMED → s ≡ one aName) × (sortOf s ≡ Sort.BODY → s ≡ bodyS)
+alone (one (the k)) =
+    let no : (n : ℕ) → (Sort.SEMI ≡ n → ⊥) → (Sort.BRACE ≡ n → ⊥) → (Sort.OTHER ≡ n → ⊥) →
+    (if eqb k T.SEMI then Sort.SEMI else if eqb k T.LB then Sort.BRACE else Sort.OTHER) ≡ n → ⊥ =
+    λ n. sign-not (eqb k T.SEMI) (eqb k T.LB) n in (
+      λ e. absurd (no Sort.NAMED (λ q. omega (arith, q)) (λ q. omega (arith, q)) (λ q. omega (arith, q)) e),
+      λ e. absurd (no Sort.BODY (λ q. omega (arith, q)) (λ q. omega (arith, q)) (λ q. omega (arith, q)) e),
+    )
+alone (one aName) = (λ e. refl, λ e. absurd (omega (arith, e)))
+alone (one (aNumber b)) = (λ e. absurd (omega (arith, e)), λ e. absurd (omega (arith, e)))
+alone (factorS n) = (λ e. absurd (omega (arith, e)), λ e. absurd (omega (arith, e)))
+alone (minusS n) = (λ e. absurd (omega (arith, e)), λ e. absurd (omega (arith, e)))
+alone (more n c) = (λ e. absurd (omega (arith, e)), λ e. absurd (omega (arith, e)))
+alone signedS = (λ e. absurd (omega (arith, e)), λ e. absurd (omega (arith, e)))
+alone relationS = (λ e. absurd (omega (arith, e)), λ e. absurd (omega (arith, e)))
+alone itemS = (λ e. absurd (omega (arith, e)), λ e. absurd (omega (arith, e)))
+alone claimS = (λ e. absurd (omega (arith, e)), λ e. absurd (omega (arith, e)))
+alone itemsS = (λ e. absurd (omega (arith, e)), λ e. absurd (omega (arith, e)))
+alone givesS = (λ e. absurd (omega (arith, e)), λ e. absurd (omega (arith, e)))
+alone givenS = (λ e. absurd (omega (arith, e)), λ e. absurd (omega (arith, e)))
+alone actionsS = (λ e. absurd (omega (arith, e)), λ e. absurd (omega (arith, e)))
+alone tryS = (λ e. absurd (omega (arith, e)), λ e. absurd (omega (arith, e)))
+alone (fewS n) = (λ e. absurd (omega (arith, e)), λ e. absurd (omega (arith, e)))
+alone linesS = (λ e. absurd (omega (arith, e)), λ e. absurd (omega (arith, e)))
+alone bodyS = (λ e. absurd (omega (arith, e)), λ e. refl)
+alone textS = (λ e. absurd (omega (arith, e)), λ e. absurd (omega (arith, e)))
+
 pub is-named : (s : Symbol) → sortOf s ≡ Sort.NAMED → s ≡ one aName
-is-named (one (the k)) e =
-    absurd (sign-not (eqb k T.SEMI) (eqb k T.LB) Sort.NAMED (λ q. omega (arith, q)) (λ q. omega (arith, q)) (λ q. omega (
-      arith,
-      q,
-    )) e)
-is-named (one aName) e = refl
-is-named (one (aNumber b)) e = absurd (omega (arith, e))
-is-named (factorS n) e = absurd (omega (arith, e))
-is-named (minusS n) e = absurd (omega (arith, e))
-is-named (more n c) e = absurd (omega (arith, e))
-is-named signedS e = absurd (omega (arith, e))
-is-named relationS e = absurd (omega (arith, e))
-is-named itemS e = absurd (omega (arith, e))
-is-named claimS e = absurd (omega (arith, e))
-is-named itemsS e = absurd (omega (arith, e))
-is-named givesS e = absurd (omega (arith, e))
-is-named givenS e = absurd (omega (arith, e))
-is-named actionsS e = absurd (omega (arith, e))
-is-named tryS e = absurd (omega (arith, e))
-is-named (fewS n) e = absurd (omega (arith, e))
-is-named linesS e = absurd (omega (arith, e))
-is-named bodyS e = absurd (omega (arith, e))
-is-named textS e = absurd (omega (arith, e))
+is-named s = alone s .0
 
 pub is-body : (s : Symbol) → sortOf s ≡ Sort.BODY → s ≡ bodyS
-is-body (one (the k)) e =
-    absurd (sign-not (eqb k T.SEMI) (eqb k T.LB) Sort.BODY (λ q. omega (arith, q)) (λ q. omega (arith, q)) (λ q. omega (
-      arith,
-      q,
-    )) e)
-is-body (one aName) e = absurd (omega (arith, e))
-is-body (one (aNumber b)) e = absurd (omega (arith, e))
-is-body (factorS n) e = absurd (omega (arith, e))
-is-body (minusS n) e = absurd (omega (arith, e))
-is-body (more n c) e = absurd (omega (arith, e))
-is-body signedS e = absurd (omega (arith, e))
-is-body relationS e = absurd (omega (arith, e))
-is-body itemS e = absurd (omega (arith, e))
-is-body claimS e = absurd (omega (arith, e))
-is-body itemsS e = absurd (omega (arith, e))
-is-body givesS e = absurd (omega (arith, e))
-is-body givenS e = absurd (omega (arith, e))
-is-body actionsS e = absurd (omega (arith, e))
-is-body tryS e = absurd (omega (arith, e))
-is-body (fewS n) e = absurd (omega (arith, e))
-is-body linesS e = absurd (omega (arith, e))
-is-body bodyS e = refl
-is-body textS e = absurd (omega (arith, e))
+is-body s = alone s .1
 
 -- Whether the body of a class comes next: not where blocks are open.
 abbrev bodied : List Symbol → Bool
