@@ -2,7 +2,7 @@
 
     python3 -B bench/check.py     prints a table for docs/FIGURES.md
 
-It needs target/bin/try_cases (`rt check try_cases`), an x86-64 machine and valgrind: on another machine valgrind would count the
+It needs target/bin/try_cases (`bin/prove try_cases`), an x86-64 machine and valgrind: on another machine valgrind would count the
 instructions of the emulator.
 
 The program is run on one file many times over, in three forms: the file; the file behind a record whose kind isn't in the table,

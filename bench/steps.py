@@ -3,7 +3,7 @@
     python3 -B bench/steps.py [ENGINE ...]     ENGINE runs the engine's plan; without it bin/run target/bin/plan
 
 Both read each model from standard input; that they print the same is checked. Prints, as a table for docs/FIGURES.md, the least
-processor time of nine runs of each, in turn, and their ratio. It asserts no time. It needs target/bin/plan (`rt check plan`) and
+processor time of nine runs of each, in turn, and their ratio. It asserts no time. It needs target/bin/plan (`bin/prove plan`) and
 cargo.
 """
 import pathlib

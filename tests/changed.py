@@ -222,7 +222,7 @@ CHANGES = [
      '    if many == 2 {\n        aside = *seeds;\n'
      '        tree_at(bs, globals, locals, clock, lowest, values, seeds, shape.next);\n    }\n'
      '    let first = tree_at(bs, globals, locals, clock, lowest, values, seeds, k + 1);',
-     'seeds,\n        first.next,', '&mut aside,\n        first.next,'),
+     'seeds, first.next,', '&mut aside, first.next,'),
     ('a lesser draws only the side that it answers', 'act_value',
      'let both = first.value.ok & second.value.ok;',
      'let both = first.value.ok & second.value.ok;\n'

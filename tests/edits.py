@@ -1,21 +1,29 @@
 """The must-fail edits: each is a wrong answer that a contract rules out, or a wrong rule in a definition.
 
     python3 -B tests/edits.py           fails if docs/EDITS.md isn't up to date, a public function has fewer than two edits, or
-                                        an edit was not refused for itself when the gate tried it (target/must-fail)
+                                        an edit was not refused for itself when `try` tried it last (target/must-fail; what was
+                                        not tried is counted)
     python3 -B tests/edits.py write     writes docs/EDITS.md
+    python3 -B tests/edits.py try NAME..    tries the edits of these crates as `rt must-fail` does, over what `rt check` kept, and
+                                        keeps all that each check says in target/must-fail
 
-A file crates/NAME/must-fail/*.edit has an edit to a paragraph: its name and what would be wrong, then `file:` and pairs `old:`,
-`new:`. The gate makes all edits of a file in one copy of the crate and checks that once, which is refused if one of them is; so
-the check's log is read here. Edits of one file are in functions of which none comes to another, and each function's own proof
+A file crates/NAME/must-fail/*.edit has an edit to a paragraph: `# `, its name and what would be wrong, then `file:` and pairs
+`old:`, `new:`. The gate makes all edits of a file in one copy of the crate and checks that once, which is refused if one of them
+is, and it tells one line of what the check says; so the check's log is read here. Edits of one file are in functions of which none comes to another, and each function's own proof
 must be refused at a fact: not because something else was refused, nor because the edited code asks for other facts than those
 that the proof names, as far as antt's words tell. An edit of a contract or a definition has a file to itself, and a fact refused
 anywhere in its crate will do.
 
 An edit of a function or a constant that isn't public is one of every public function that comes to it inside its crate.
 """
+import importlib.machinery
+import importlib.util
+import os
 import pathlib
 import re
+import shutil
 import sys
+import tempfile
 
 ROOT = pathlib.Path(__file__).resolve().parent.parent
 PAPER = ROOT / 'docs' / 'EDITS.md'
@@ -32,7 +40,7 @@ ITEM = re.compile(r'^(pub )?(?:extern "C" )?(fn|const) (\w+)', re.M)
 # What antt says of a fact or a term, and where; what it says where only something else was refused; and what it says where there
 # are other facts to prove than the proof names: a name is missing, or the declaration that lists them all is refused for itself.
 SAID = re.compile(r'^(?:note: )?(.+?):(\d+):\d+: (?:error: |it is not proved )(.*)$', re.M)
-BESIDE = re.compile(r'was not admitted')
+BESIDE = re.compile(r'was not admitted|which was rejected, w')
 OTHER = re.compile(r'is not in scope|^`[^`]*-spec`: ')
 
 
@@ -41,6 +49,7 @@ class Edit:
 
     def __init__(self, path, text):
         first, *lines = text.split('\n')
+        first = first.removeprefix('# ')
         self.crate, self.tried = path.parent.parent.name, path.stem
         self.name, _, self.says = first.partition(': ')
         self.file = lines[0].partition('file: ')[2]
@@ -64,7 +73,7 @@ def edits_of(crate):
 
 def crates():
     lines = (ROOT / 'crates.txt').read_text().splitlines()
-    return [line.split(':')[0] for line in lines if line and line[0] != '#']
+    return [line.split(':')[0].split()[0] for line in lines if line and line[0] != '#']
 
 
 def uses(body, name):
@@ -133,21 +142,18 @@ class Log:
     """What the gate's check said of a copy with the edits of a file: where it refused a fact, and where there were others."""
 
     def __init__(self, crate, tried, source):
-        self.copy = f'/must-fail/{crate}/{tried}/'
-        log = TRIED / crate / tried / '.log'
-        if not log.exists():
-            sys.exit(f'{log.relative_to(ROOT)} is not there: the gate writes it, bash .ci/run')
+        log = TRIED / crate / f'{tried}.log'
         self.refused, self.other = set(), set()
         for place, line, said in SAID.findall(log.read_text()):
             if not BESIDE.search(said):
                 where = self.other if OTHER.search(said) else self.refused
-                where |= self.functions(place.partition(self.copy)[2], int(line), source)
+                where |= self.functions(place.removeprefix('./'), int(line), source)
 
     def functions(self, file, line, source):
         """Those that a file of the copy speaks of; an empty name for a file that speaks of none."""
         if file == source.file:
             return {source.item_on(line)}
-        return set(file.split('/')[1].split('+')) if file.endswith('/Proof.antt') else {''}
+        return set(file.split('/')[1].split('+')) if re.fullmatch(r'proofs/[^/]+/\w+\.antt', file) else {''}
 
 
 def together(source, edits):
@@ -187,7 +193,8 @@ def faults(source, told):
             yield f'{name}: fewer than two edits'
     for tried in sorted({edit.tried for edit, _ in told}):
         edits = [edit for edit, _ in told if edit.tried == tried]
-        yield from together(source, edits) or refused(source, edits)
+        log = TRIED / edits[0].crate / f'{tried}.log'
+        yield from together(source, edits) or (refused(source, edits) if log.exists() else [])
 
 
 def listed(names):
@@ -205,7 +212,55 @@ def paper(table):
     return '\n'.join(lines)
 
 
+def tool():
+    """The command rt, as a module: what it does with one edit is done here."""
+    loader = importlib.machinery.SourceFileLoader('rt', os.path.realpath(shutil.which('rt')))
+    made = importlib.util.module_from_spec(importlib.util.spec_from_loader('rt', loader))
+    loader.exec_module(made)
+    init = made.rtlib.Crate.__init__
+
+    def with_files(self, *given, **named):
+        init(self, *given, **named)
+        made.read_files(self)
+
+    made.rtlib.Crate.__init__ = with_files
+    return made
+
+
+def attempt(names):
+    """Tries the edits of these crates, file by file, and keeps the logs."""
+    rt, bad = tool(), 0
+    rt.rtlib.guarded()
+    of = {crate.name: crate for crate in rt.rtlib.crates_below(str(ROOT))}
+    checked, said = rt.checked, []
+
+    def listening(*given):
+        ran = checked(*given)
+        said.append(ran.stdout)
+        return ran
+
+    rt.checked = listening
+    for name in names:
+        crate = of[name]
+        start = f'{crate.folder}/out/incremental'
+        for path in rt.edits_of(crate)[0]:
+            said.clear()
+            with tempfile.TemporaryDirectory(prefix='edit-') as room:
+                seed = f'{room}/seed' if os.path.isdir(start) else None
+                if seed:
+                    rt.linked(start, seed)
+                kind, text = rt.must_fail(crate, path, ['--jobs', '1'], seed)
+            log = TRIED / name / f'{pathlib.Path(path).stem}.log'
+            log.parent.mkdir(parents=True, exist_ok=True)
+            log.write_text(said[-1] if said else '')
+            bad += kind not in (rt.REFUSED, rt.AT_LIMIT)
+            print(text, flush=True)
+    sys.exit(1 if bad else 0)
+
+
 def main(words):
+    if words[:1] == ['try']:
+        attempt(words[1:] or crates())
     table = list(rows())
     if words == ['write']:
         PAPER.write_text(paper(table))
@@ -215,7 +270,8 @@ def main(words):
     wrong = [f'{crate}: {fault}' for crate, source, told in table for fault in faults(source, told)]
     if wrong:
         sys.exit('\n'.join(wrong))
-    print(sum(len(told) for _, _, told in table), 'must-fail edits, each refused for itself')
+    tried = sum(1 for crate, _, told in table for edit, _ in told if (TRIED / crate / f'{edit.tried}.log').exists())
+    print(sum(len(told) for _, _, told in table), 'must-fail edits;', tried, 'were tried here, each refused for itself')
 
 
 if __name__ == '__main__':

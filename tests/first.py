@@ -2,7 +2,7 @@
 
     python3 -B tests/first.py
 
-A build takes minutes, so `rt` is played here: a script that writes what rt writes, with a pause for each batch of crates. For it
+A build takes minutes, so `rt` is played here: a script that writes what rt writes, with a pause for each crate. For it
 bin/plan is copied to a folder with five crates that `plan` stands on and one that it doesn't; `bin/run` there prints what it is
 lent, and `bin/records` what it is asked. That the real rt writes the same is tried by tests/plan.sh.
 """
@@ -29,30 +29,26 @@ right: low
 top: left right
 plan: top io
 '''
-# PAUSE is the seconds that a batch takes, BAD a crate that isn't proved, or `run`: all is proved, but the program prints what it
-# shouldn't. The model must not be eaten: it is for the program.
+# PAUSE is the seconds that a crate takes, BAD a crate that isn't proved, or `run`: all is proved, but no program is made. The
+# model must not be eaten: it is for the program.
 RT = '''#!/usr/bin/env bash
-cat >eaten
-echo "$*, $RT_JOBS at once" >asked
-echo $$ >processes
-mkdir -p target/log target/stamp target/bin
-tell() { echo "rt: $1 $2"; echo "rt: $1 $2" >target/log/$1.out; }
-for batch in low 'left right' top plan; do
-  for crate in $batch; do
-    : >target/log/$crate.out
-    [ -e target/stamp/$crate ] || pause=yes
-  done
-  [ -z "${pause:-}" ] || { sleep "$PAUSE" & echo $! >>processes; wait; }
-  for crate in $batch; do
-    if [ "$crate" = "${BAD:-}" ]; then tell $crate 'NOT PROVED (exit 1, 0 s)'; echo "rt: FAILED: $crate"; exit 1; fi
-    if [ -e target/stamp/$crate ]; then tell $crate 'proved (unchanged since it was last proved)'; continue; fi
-    tell $crate 'proved (0 s)'
-    touch target/stamp/$crate
-    [ $crate != plan ] || cp bin/run target/bin/plan
-  done
+top=$(cd ../.. && pwd)
+mkdir -p out "$top/target/stamp"
+if [ "$1" = run ]; then
+  [ "${BAD:-}" = run ] || cp "$top/bin/run" out/plan
+  exit
+fi
+cat >"$top/eaten"
+echo "$*" >"$top/asked"
+echo $$ >"$top/processes"
+for crate in low left right top plan; do
+  [ ! -e "$top/target/stamp/$crate" ] || continue
+  echo "rt: chose --jobs 2 for $crate"
+  sleep "$PAUSE" & echo $! >>"$top/processes"; wait
+  if [ "$crate" = "${BAD:-}" ]; then echo logic=not-proved; echo "rt: FAILED: $crate"; exit 1; fi
+  echo 'logic=proved functions=1'
+  touch "$top/target/stamp/$crate"
 done
-if [ "${BAD:-}" = run ]; then echo 'rt: FAILED: plan'; exit 1; fi
-echo 'rt: ok, 5 crates proved'
 '''
 # The text says what comes of it.
 RECORDS = '''#!/usr/bin/env bash
@@ -60,9 +56,9 @@ read -r status
 echo "$1 $status"
 exit $status
 '''
-TOOLS = 'bash cat cp dirname env find grep head mkdir mktemp mv od readlink rm setsid sleep tac tail touch uname'.split()
+TOOLS = 'bash cat cp dirname env find grep head mkdir mktemp mv od readlink rm sed setsid sleep tac tail touch uname wc'.split()
 GRADE = '\0the grade\n'
-SHOWN = re.compile(rb'\r\x1b\[Kplan: (\d) of 5 crates done, \d+ s(?:, now ([a-z ]+))?(?=\r)')
+SHOWN = re.compile(rb'\r\x1b\[Kplan: (\d) crates proved, \d+ s(?:, last ([a-z]+))?(?=\r)')
 
 
 def script(path, text):
@@ -84,14 +80,15 @@ class House:
         self.root = pathlib.Path(folder)
         self.tools = self.root / 'tools'
         self.tried = self.failed = 0
-        for name in ('bin', 'crates', 'examples', 'tools'):
-            (self.root / name).mkdir()
+        for name in ('bin', 'crates/plan/src', 'examples', 'tools'):
+            (self.root / name).mkdir(parents=True)
+        (self.root / 'crates' / 'plan' / 'src' / 'main.rt').write_text('')
         for tool in TOOLS:
             (self.tools / tool).symlink_to(shutil.which(tool))
         (self.root / 'crates.txt').write_text(CRATES)
         (self.root / 'examples' / 'grade.model').write_text(GRADE)
-        shutil.copy(ROOT / 'bin' / 'plan', self.root / 'bin')
-        shutil.copy(ROOT / 'bin' / 'build', self.root / 'bin')
+        for name in ('plan', 'build', 'prove'):
+            shutil.copy(ROOT / 'bin' / name, self.root / 'bin')
         script(self.root / 'bin' / 'run', '#!/usr/bin/env bash\nexec cat\n')
         script(self.root / 'bin' / 'records', RECORDS)
         script(self.tools / 'rt', RT)
@@ -105,7 +102,7 @@ class House:
         return done.returncode, done.stdout.decode(), done.stderr.decode()
 
     def starts(self, **more):
-        """bin/plan under way, as soon as its rt waits for the first batch."""
+        """bin/plan under way, as soon as its rt waits for the first crate."""
         (self.root / 'processes').unlink()
         started = subprocess.Popen([self.root / 'bin' / 'plan'], env=self.environment(**more),
                                    stdout=subprocess.DEVNULL, stderr=subprocess.DEVNULL)
@@ -176,18 +173,17 @@ def refusals(house):
 def without_terminal(house):
     status, told, said = house.plan('-', lent=b'\0lent\n')
     house.same('standard input', (status, told), (0, '\0lent\n'))
-    house.has('a build', said, 'first 5 crates are proved', 'target/plan.log', 'built: 5 of 5 crates done')
+    house.has('a build', said, 'first 5 crates are proved', 'target/plan.log', 'built: 5 crates proved')
     house.same('lines of a short build', said.count('\n'), 3)
-    house.same('what rt is asked', (house.read('asked'), house.read('eaten')), ('check plan, 4 at once\n', ''))
-    house.same('the log', re.findall(r'rt: (\w+) proved', house.read('target/plan.log')), 'low left right top plan'.split())
+    house.same('what rt is asked', (house.read('asked'), house.read('eaten')), ('check\n', ''))
+    house.same('the log', re.findall(r'for (\w+)', house.read('target/plan.log')), 'low left right top plan'.split())
     house.same('a second start', house.plan(), (0, GRADE, ''))
     os.utime(house.root / 'crates.txt')
-    house.has('a start after a change', house.plan()[2], 'built: 5 of 5 crates done')
+    house.has('a start after a change', house.plan()[2], 'built: 0 crates proved')
     house.same('the start after that', house.plan(), (0, GRADE, ''))
     house.changed()
-    said = house.plan(RT_JOBS='1', PAUSE='0.7', PLAN_EVERY='1')[2]
-    house.has('a long build', said, 'of 5 crates done, 1 s, now', 'built: 5 of 5 crates done')
-    house.same('what rt is asked then', house.read('asked'), 'check plan, 1 at once\n')
+    said = house.plan(PAUSE='0.7', PLAN_EVERY='1')[2]
+    house.has('a long build', said, 'crates proved, 1 s, last', 'built: 5 crates proved')
 
 
 def texts(house):
@@ -203,42 +199,42 @@ def texts(house):
 
 def bad(house):
     """A bad program isn't run, neither then nor at the next start. What moves during a build makes another one."""
-    for crate, failed in (('right', 'right'), ('run', 'plan')):
+    for crate, failed in (('right', 'rt: FAILED: right'), ('run', 'prove: rt has made no out/plan')):
         house.changed()
         status, told, said = house.plan(BAD=crate)
         house.same('a bad crate', (status, told), (2, ''))
-        house.has('a bad crate', said, 'could not be built (rt: FAILED: %s); target/plan.log says why' % failed)
+        house.has('a bad crate', said, 'could not be built (%s); target/plan.log says why' % failed)
         house.same('the start after a bad one', house.plan(BAD=crate)[:2], (2, ''))
     started = house.starts(PAUSE='0.5')
     os.utime(house.root / 'crates.txt')
     started.wait()
-    house.has('the start after a move', house.plan()[2], 'built: 5 of 5 crates done')
+    house.has('the start after a move', house.plan()[2], 'built: 0 crates proved')
 
 
 def shows(house):
-    """Each line is in place of the one before; the counts rise from 0, and both crates of a batch are named."""
+    """Each line is in place of the one before; the counts rise from 0, and each crate is named."""
     house.changed()
-    status, shown = house.on_terminal(PAUSE='2')
+    status, shown = house.on_terminal(PAUSE='1.5')
     lines = SHOWN.findall(shown)
     house.same('on a terminal', status, 0)
     counts, names = [int(count) for count, _ in lines], {now for _, now in lines}
-    house.same('the counts', ({0, 1, 3, 4} - set(counts), counts), (set(), sorted(counts)))
-    house.same('the crates that are named', {b'low', b'right left', b'top', b'plan'} - names, set())
+    house.same('the counts', ({0, 1, 2, 3, 4} - set(counts), counts), (set(), sorted(counts)))
+    house.same('the crates that are named', {b'low', b'left', b'right', b'top', b'plan'} - names, set())
     house.same('crates that plan doesn\'t use', [now for now in names if b'aside' in now], [])
-    last = re.search(rb'\r\x1b\[Kplan: built: 5 of 5 crates done, \d+ s\r\n\0the grade\r\n$', shown)
+    last = re.search(rb'\r\x1b\[Kplan: built: 5 crates proved, \d+ s, last plan\r\n\0the grade\r\n$', shown)
     house.same('the last line', last is not None or shown, True)
 
 
 def stopped(house):
-    """Ctrl-C in the second batch: no process is left, and the next start goes on with that batch. A signal ends all, too."""
+    """Ctrl-C in the third crate: no process is left, and the next start goes on with it. A signal ends all, too."""
     house.changed()
-    status, shown = house.on_terminal(stop_at=b'now right', PAUSE='1.5')
+    status, shown = house.on_terminal(stop_at=b'last right', PAUSE='1.5')
     house.same('stopped', (status, b'the grade' in shown), (130, False))
     house.has('stopped', shown.decode(), 'plan: stopped. What is proved is kept, and the next start goes on from there')
     house.same('processes that are left', house.left(), [])
-    house.same('proved so far', sorted(os.listdir(house.root / 'target' / 'stamp')), ['low'])
+    house.same('proved so far', sorted(os.listdir(house.root / 'target' / 'stamp')), ['left', 'low'])
     house.same('the next start', house.plan()[:2], (0, GRADE))
-    house.same('proved before', re.findall(r'rt: (\w+) proved \(unch', house.read('target/plan.log')), ['low'])
+    house.same('proved then', re.findall(r'for (\w+)', house.read('target/plan.log')), ['right', 'top', 'plan'])
     house.changed()
     started = house.starts(PAUSE='60')
     started.send_signal(signal.SIGTERM)

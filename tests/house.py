@@ -19,7 +19,7 @@ import native
 ROOT = native.ROOT
 LIST = ROOT / 'crates.txt'
 PAPER = ROOT / 'docs' / 'ARCHITECTURE.md'
-KIT = ['bytes', 'io', 'libc', 'os']
+KIT = ['itoa']
 # Types that a crate holds without naming them; `rt` says where one is missing.
 REACHED = {'try_shifts': ['run_by_value'], 'desk_c': ['run_by_value', 'row_struct']}
 # Crates whose specs and contracts still have numbers without a name.
@@ -37,7 +37,7 @@ def used(crate, known):
     for path in (ROOT / 'crates' / crate).rglob('*'):
         if path.suffix in ('.rt', '.antt'):
             text = path.read_text()
-            named |= set(re.findall(r'Rattle·(\w+?)(?=[·.])', text))
+            named |= set(re.findall(r'\bRattle\.(\w+)(?=\.)', text))
             if path.suffix == '.rt':
                 named |= set(re.findall(r'\b([a-z]\w*)::', re.sub(r'//.*', '', text)))
     return [name for name in known if name in named - {crate}]
@@ -48,7 +48,8 @@ def lists(table):
     known = list(table) + KIT
     for line in LIST.read_text().splitlines():
         crate = line.partition(':')[0]
-        yield ' '.join([crate + ':'] + used(crate, known)) if crate in table else line
+        name = crate.split()[0] if crate else ''
+        yield ' '.join([crate + ':'] + used(name, known)) if name in table else line
 
 
 def code(text):
@@ -61,7 +62,7 @@ def code(text):
 def contracts(text):
     """What `requires` and `ensures` of a source say."""
     text = re.sub(r'//.*', '', text)
-    return '\n'.join(re.findall(r'(?ms)^\s*(?:requires|ensures)\s*\{(.*?)\}\n(?=\s*(?:requires|ensures|\{|;))', text))
+    return '\n'.join(re.findall(r'(?ms)^\s*(?:requires|ensures)\*?(?:\s+\w+)?\s*\{(.*?)\}\n(?=\s*(?:requires|ensures|\{|;))', text))
 
 
 def spec(text):

@@ -98,8 +98,8 @@ def constants(text):
 
 
 def words(name):
-    """A name of the definitions as the page writes it: `resourceReturned` is `resource returned`."""
-    return re.sub('([A-Z])', r' \1', name).lower()
+    """A name of the definitions as the page writes it: `resourceReturned` and `resource_returned` are `resource returned`."""
+    return re.sub('([A-Z])', r' \1', name).lower().replace('_', ' ')
 
 
 def defined():
@@ -123,9 +123,9 @@ def of_sampler(at, most):
     text = spec('Record')
     name = re.search(r'samplerOf bs = record \{.*?(\w+) = [ui]32 bs %d\b' % at, text)[1]
     asks = re.search(r'(?s)\nsamplerValid x =\n(.*?)\n\n', text)[1]
-    above = re.search(r'leZ \(x \.%s\) \(x \.(\w+)\)' % name, asks)
-    spread = re.search(r'leZ \(x \.%s -ℤ x \.(\w+)\) \(pos No\.(\w+)\)' % name, asks)
-    stated = re.search(r'within (\d+) No\.(\w+) \(x \.%s\)' % name, asks)
+    above = re.search(r'le_z x\.%s x\.(\w+)' % name, asks)
+    spread = re.search(r'le_z \(x\.%s -ℤ x\.(\w+)\) \(pos No\.(\w+)\)' % name, asks)
+    stated = re.search(r'within (\d+) No\.(\w+) x\.%s' % name, asks)
     if above:
         return 'up to ' + above[1]
     return 'up to %s + %s' % (spread[1], format(most[spread[2]], ',')) if spread else between(stated, most)
@@ -189,7 +189,7 @@ def base(module, *but):
 
 def tables():
     refusals, faults, lines, barred, most = defined()
-    relations = re.search(r'relationOf r = getD \(\w+ ∷ ((?:\w+ ∷ )+)', spec('Record'))[1].split(' ∷ ')[:-1]
+    relations = re.search(r'relationOf r = get_or \(\w+ ∷ ((?:\w+ ∷ )+)', spec('Record'))[1].split(' ∷ ')[:-1]
     return [
         ('records', records(), defined_records()),
         ('refusals', numbered('No.', 'Refusal'), refusals),

@@ -3,8 +3,8 @@
     python3 -B tests/native.py         the program `plan`: target/native/plan/target/release/plan
     python3 -B tests/native.py desk    the desk's C functions: target/native/desk/target/release/libdesk_c.a
 
-The source of each crate that is needed is taken as it is, as a module, without its contracts; the kit's few functions for input,
-output and copying are written out below. It proves nothing: it is there for bench/steps.py and tests/changed.py, and stands in
+The source of each crate that is needed is taken as it is, as a module, without its contracts; the `main` of `plan`, which takes
+Rattle's runtime, is written out below. It proves nothing: it is there for bench/steps.py and tests/changed.py, and stands in
 for the proved library where that can't be linked. Sums are checked, and a panic in the library is told as an answer of all ones.
 """
 import pathlib
@@ -16,31 +16,15 @@ ROOT = pathlib.Path(__file__).resolve().parent.parent
 CRATES = ROOT / 'crates'
 NATIVE = ROOT / 'target' / 'native'
 
-KIT = '''
-pub mod bytes {
-    pub fn copy(from: &[u8], to: &mut [u8]) {
-        to[..from.len()].copy_from_slice(from);
-    }
-}
-pub mod libc {
-    pub const STDIN_FILENO: i32 = 0;
-    pub const STDOUT_FILENO: i32 = 1;
-}
-pub mod io {
-    use std::io::{stdin, stdout, Read, Write};
-    pub fn read_full(_: i32, room: &mut [u8]) -> usize {
-        let mut filled = 0;
-        loop {
-            match stdin().read(&mut room[filled..]) {
-                Ok(more) if more > 0 => filled += more,
-                _ => return filled,
-            }
-        }
-    }
-    pub fn write_all(_: i32, text: &[u8]) -> bool {
-        let mut out = stdout().lock();
-        out.write_all(text).is_ok() && out.flush().is_ok()
-    }
+# The program's `main`, in place of what reads and writes over the runtime: from the line PLANS on.
+PLANS = '// Reads a model, '
+MAIN = '''
+fn main() -> io::Result<()> {
+    let mut model = Vec::new();
+    io::stdin().take(limit::FILE as u64 + 1).read_to_end(&mut model)?;
+    let mut out = io::stdout().lock();
+    plan(&model, &mut [0u8; TEXT], &mut out).went?;
+    out.flush()
 }
 '''
 
@@ -95,9 +79,9 @@ CARGO = ('[package]\nname = "%s"\nversion = "0.1.0"\nedition = "2021"\n%s\n'
 
 
 def without_contracts(text):
-    """The source without `ghost use` lines, `requires` and `ensures`."""
-    text = re.sub(r'(?m)^ghost use .*\n', '', text)
-    clause = re.compile(r'\n\s*(requires|ensures)\s*\{')
+    """The source without `ghost use` lines, `requires` and `ensures`, and without what only the prover reads."""
+    text = re.sub(r'(?m)^ghost use .*\n|^ *#!?\[(tactic|cycle)\(.*\n', '', text)
+    clause = re.compile(r'\n\s*(requires|ensures)\*?(\s+\w+)?\s*\{')
     kept, at = [], 0
     while at < len(text):
         found = clause.match(text, at)
@@ -114,15 +98,16 @@ def without_contracts(text):
 
 def module(text):
     text = re.sub(r'(?m)^//.*\n', '', without_contracts(text))
-    text = re.sub(r'(?m)^( *)use (?!super)([a-z0-9_]+)::', r'\1use crate::\2::', text)
-    text = re.sub(r'(?m)^#\[no_mangle\]\npub extern "C" ', 'pub ', text)
-    return re.sub(r'(?m)^(pub )?(struct|enum) ', r'#[derive(Clone, Copy)]\n\1\2 ', text)
+    text = re.sub(r'(?m)^( *)use (?!super|std\b)([a-z0-9_]+)::', r'\1use crate::\2::', text)
+    text = re.sub(r'(?m)^#\[unsafe\(no_mangle\)\]\npub extern "C" ', 'pub ', text)
+    # What Rust drops by itself.
+    return re.sub(r'(?m)^ *#\[derive\(Drop\)\]\n', '', text)
 
 
 def listed():
     """What each crate uses, as crates.txt lists it."""
     rows = [line.partition(':') for line in (ROOT / 'crates.txt').read_text().split('\n') if line and line[0] != '#']
-    return {name: below.split() for name, _, below in rows}
+    return {name.split()[0]: below.split() for name, _, below in rows}
 
 
 def named(*crates):
@@ -149,7 +134,7 @@ def sources(*crates):
 
 
 def modules(texts):
-    return '\n'.join(['#![allow(warnings)]', KIT] + [
+    return '\n'.join(['#![allow(warnings)]'] + [
         'pub mod %s {\nuse crate::*;\n%s\n}' % (name, module(text)) for name, text in texts.items()])
 
 
@@ -161,7 +146,8 @@ def build(folder, name, text, library='', profile=''):
 
 
 def program(folder=NATIVE / 'plan'):
-    build(folder, 'plan', modules(sources('plan')) + module((CRATES / 'plan' / 'src' / 'main.rt').read_text()))
+    main = module((CRATES / 'plan' / 'src' / 'main.rt').read_text().partition(PLANS)[0])
+    build(folder, 'plan', modules(sources('plan')) + main.replace('use std::alloc::Global;\n', '') + MAIN)
 
 
 def library(folder=NATIVE / 'desk', texts=None, kind='staticlib'):

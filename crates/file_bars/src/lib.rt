@@ -11,7 +11,7 @@ ghost use Rattle.file_bars.specs.Bits.{names_nothing, within, named_at, covers_a
 use base_numbers::map;
 
 // What a branch names: bit i of a word is set if it names the i-th thing of that kind.
-#[derive(Drop)]
+#[derive(Clone, Copy)]
 struct Named {
     resources: u32,
     bins: u32,

@@ -1,6 +1,5 @@
 // The bound of a model file: from any bytes to the refusal, NONE, OVER or the number.
-ghost use Rattle.std.specs.Prelude.{◌≡◌, ◌+◌, ◌≤◌, ◌<◌, eqb, length, get_or};
-ghost use Rattle.semantics.specs.Words.{if◌then◌else◌};
+ghost use Rattle.std.specs.Prelude.{◌≡◌, ◌+◌, ◌≤◌, ◌<◌, eqb, length, get_or, if◌then◌else◌};
 ghost use Rattle.semantics.specs.Bytes.{u16, records_from};
 ghost use Rattle.semantics.specs.Decode.{gather};
 ghost use Rattle.semantics.specs.Bound.{bound as bound_of};
@@ -14,7 +13,7 @@ ghost use Rattle.file_bound.specs.Answer.{bounded_of};
 use base_numbers::{kind, limit};
 
 // The number and the place of a refusal, NONE, OVER, or the number.
-#[derive(Drop)]
+#[derive(Clone, Copy)]
 pub enum Bounded {
     Refused(u32, usize),
     None,

@@ -1,11 +1,10 @@
 // Checks 1 to 10 of a model file: from any bytes to the number and the place of a refusal, or accepted.
-ghost use Rattle.std.specs.Prelude.{◌≡◌, ◌&&◌, ◌+◌, ◌≤◌, ◌<◌, length, eqb, ltb};
+ghost use Rattle.std.specs.Prelude.{◌≡◌, ◌&&◌, ◌+◌, ◌≤◌, ◌<◌, length, eqb, ltb, if◌then◌else◌};
 ghost use Rattle.semantics.specs.Bytes.{u16, records_from};
 ghost use Rattle.semantics.specs.Decode.{first_pass, none_seen, opened as blocks_after, second_pass};
 ghost use Rattle.semantics.specs.Decode.{gather, third_pass, decode};
 ghost use Rattle.file_index.specs.Index.{Readable};
 ghost use Rattle.file_depth.specs.Deep.{Graph, Known, names_in, depth_of, measured};
-ghost use Rattle.semantics.specs.Words.{if◌then◌else◌};
 ghost use Rattle.base_numbers.specs.Byte as Byte;
 ghost use Rattle.file_check.specs.Check.{refusal_of, first_of, Named};
 

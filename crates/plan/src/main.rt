@@ -4,9 +4,13 @@
 // turns, each with an empty journal that has room for all that its steps may write, so that 30 is never met. What a turn wrote
 // is printed in one piece.
 //
-// No contract can say what was written. So `at` counts the bytes that were handed over to be written, and `print` asks that its
-// text is what the plan's text has from there on: from the first byte to the last, nothing twice and nothing left out.
-ghost use Rattle.std.specs.Prelude.{◌≡◌, ◌+◌, ◌<◌, min, length};
+// No contract can say what standard output was given. So `at` counts the bytes that were handed over to be written, and `print`
+// asks that its text is what the plan's text has from there on: from the first byte to the last, nothing twice and nothing left
+// out. And where a writer's bytes are known, they grow by that text and by nothing else, unless a write fails. What comes behind
+// one that fails is handed over all the same; the first of them ends the program.
+ghost use Rattle.std.specs.Prelude.{◌≡◌, ◌+◌, ◌<◌, min, length, take, IfSome, IfOk, OnOk};
+ghost use Rattle.std.specs.Io.KnownBytes.{Appends};
+ghost use Rattle.semantics.specs.Numbers as No;
 ghost use Rattle.semantics.specs.Desk.{bound_file};
 ghost use Rattle.base_numbers.specs.Byte as Byte;
 ghost use Rattle.file_bound.specs.Answer.{bounded_of};
@@ -16,6 +20,9 @@ ghost use Rattle.plan.specs.Room.{TEXT, TURN};
 
 use base_numbers::{answer, bound, limit, line, row};
 use file_bound::Bounded;
+use std::alloc::Global;
+use std::io;
+use std::io::{Read, Write};
 
 // The lines that the journal has room for, its bytes, and those of the lines as text.
 const LINES: usize = 4096;
@@ -27,6 +34,13 @@ const TEXT: usize = LINES * line::TEXT;
 // The steps of a turn. Each writes at most 65 lines (`step_Lines`), and a step that finds room for 66 writes straight into the
 // journal: 62 times 66 are within LINES.
 const TURN: u32 = 62;
+
+// How many bytes were handed over to be written, and the first write that failed.
+#[derive(Drop)]
+struct Written {
+    bytes: usize,
+    went: io::Result<()>,
+}
 
 // The bound in one word, as `plan_text::ending` takes it.
 fn bound_word(bounded: Bounded) -> u64
@@ -41,13 +55,15 @@ fn bound_word(bounded: Bounded) -> u64
 }
 
 // Prints the next piece of the plan of the file s, of which `at` bytes were printed before.
-fn print<'a>(s: &'a [u8], text: &'a [u8], at: &'a mut usize)
+fn print<W: Write>(s: &[u8], text: &[u8], at: &mut usize, writer: &mut W) -> io::Result<()>
     requires next { Next (plan_text s.now) at.old text.now }
     requires text_bound { at.old + length text.now < Byte.EIGHT }
-    ensures { at.new ≡ at.old + length text.now }
+    ensures at_after { at.new ≡ at.old + length text.now }
+    ensures written { OnOk result (Appends (W.contents writer.old) (W.contents writer.new) text.now) }
 {
-    io::write_all(libc::STDOUT_FILENO, text);
+    let went = writer.write_all(text);
     *at += text.len();
+    went
 }
 
 // How many steps the next turn may make.
@@ -58,12 +74,19 @@ fn turn_steps(left: u32) -> u32
 }
 
 // Runs an accepted model, and prints its lines and its last line: the whole plan.
-fn print_run<'a>(s: &'a [u8], bound: u64, out: &'a mut [u8], at: &'a mut usize)
+fn print_run<W: Write>(
+    s: &[u8],
+    bound: u64,
+    out: &mut [u8],
+    at: &mut usize,
+    writer: &mut W,
+) -> io::Result<()>
     requires accepted { Accepted s.now }
     requires bound_value { bound ≡ bound_word (bounded_of (bound_file s.now)) }
     requires out_len { length out.old ≡ TEXT }
     requires at_value { at.old ≡ 0 }
-    ensures { at.new ≡ length (plan_text s.now) }
+    ensures at_after { at.new ≡ length (plan_text s.now) }
+    ensures written { OnOk result (Appends (W.contents writer.old) (W.contents writer.new) (plan_text s.now)) }
 {
     let map = file_map::map_of(s);
     let mut w = [0u64; row::WORDS];
@@ -71,38 +94,57 @@ fn print_run<'a>(s: &'a [u8], bound: u64, out: &'a mut [u8], at: &'a mut usize)
     run_fresh::fresh(s, &map.words, &mut w);
     let mut steps: u32 = 0;
     let mut answer: u32 = answer::LIMIT;
+    let mut went = Ok(());
     while (answer == answer::LIMIT) & (steps < limit::PLAN_STEPS) {
         let limit = turn_steps(limit::PLAN_STEPS - steps);
         let turn = plan_turn::turn(s, &map.words, &mut w, limit, &mut journal, out);
         let bytes = turn.bytes;
-        print(s, &out[..bytes], at);
+        went = went.and(print(s, &out[..bytes], at, writer));
         steps += turn.steps;
         answer = turn.answer;
     }
     let bytes = plan_text::ending(answer, steps, bound, out);
-    print(s, &out[..bytes], at);
+    went.and(print(s, &out[..bytes], at, writer))
 }
 
-// Prints the plan of the model file s, or its refusal; answers how many bytes that is.
-fn plan<'a>(s: &'a [u8], out: &'a mut [u8]) -> usize
+// Prints the plan of the model file s, or its refusal; answers how many bytes that is, and the first write that failed.
+fn plan<W: Write>(s: &[u8], out: &mut [u8], writer: &mut W) -> Written
     requires { length out.old ≡ TEXT }
-    ensures { result ≡ length (plan_text s.now) }
+    ensures bytes { result.bytes ≡ length (plan_text s.now) }
+    ensures written { OnOk result.went (Appends (W.contents writer.old) (W.contents writer.new) (plan_text s.now)) }
 {
     let mut at = 0;
     let refusal = file_check::check(s);
     if refusal.number != 0 {
         let bytes = plan_text::refusal(refusal.number, refusal.place, out);
-        print(s, &out[..bytes], &mut at);
-        return at;
+        let went = print(s, &out[..bytes], &mut at, writer);
+        return Written { bytes: at, went };
     }
     let bound = bound_word(file_bound::bound(s));
-    print_run(s, bound, out, &mut at);
-    at
+    let went = print_run(s, bound, out, &mut at, writer);
+    Written { bytes: at, went }
 }
 
-fn main() {
-    let mut model = [0u8; limit::FILE + 1];
+// Reads a model, no further than one byte past the largest.
+fn read_model<R: Read>(alloc: Global, reader: &mut R) -> io::Result<Vec<u8>>
+    ensures { IfOk result (λ model. IfSome (R.remaining reader.old) (λ input.
+        model.items ≡ take (No.longest_file + 1) input)) }
+{
+    let mut model = Vec::new(alloc);
+    reader.take(limit::FILE as u64 + 1).read_to_end(&mut model)?;
+    Ok(model)
+}
+
+// Reads a model, and prints its plan and nothing else.
+fn run<R: Read, W: Write>(alloc: Global, reader: &mut R, writer: &mut W) -> io::Result<()>
+    ensures { OnOk result (IfSome (R.remaining reader.old) (λ input.
+        Appends (W.contents writer.old) (W.contents writer.new) (plan_text (take (No.longest_file + 1) input)))) }
+{
+    let model = read_model(alloc, reader)?;
     let mut out = [0u8; TEXT];
-    let size = io::read_full(libc::STDIN_FILENO, &mut model);
-    plan(&model[..size], &mut out);
+    plan(&model, &mut out, writer).went
+}
+
+fn main(rt: HostRuntime) -> io::Result<()> {
+    run(rt.alloc(), &mut rt.reader(), &mut io::writer(&rt))
 }

@@ -12,7 +12,7 @@ use base_numbers::{limit, process, row};
 
 // A process: its number, the code of its priority, how many blocks it is in and how many slaves it has; the codes of its locals,
 // what it holds, its blocks, and its slaves in the order claimed. What is not used is 0.
-#[derive(Drop)]
+#[derive(Clone, Copy)]
 pub struct Process {
     pub number: u64,
     pub priority: u64,
@@ -28,7 +28,7 @@ pub struct Process {
 // living places as bits, how many events and how many blocked there are, and 0. Then by number what is free, the bins, the codes
 // of the variables and how many wait for each sync; the blocked list; the keys of the events and what they do; 64 words for each
 // sync's waiting list; the processes by place; and the seeds of the samplers.
-#[derive(Drop)]
+#[derive(Clone, Copy)]
 pub struct State {
     pub clock: u64,
     pub closed: u64,

@@ -18,7 +18,7 @@ const WAKES: u64 = word::KINDS * most::PLACES;
 // ---- words and rows of words
 
 // What is asked of a word: that it is at most a number, or the word of a block, or of what an event does, or a seed.
-#[derive(Drop)]
+#[derive(Clone, Copy)]
 enum Rule {
     Most(u64),
     Frame,

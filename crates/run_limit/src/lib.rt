@@ -95,7 +95,8 @@ fn careful<'a>(
     }
     let size = line::BYTES * lines;
     let start = line::BYTES * at;
-    bytes::copy(&aside[..size], &mut journal[start..]);
+    let end = start + size;
+    journal[start..end].copy_from_slice(&aside[..size]);
     went
 }
 

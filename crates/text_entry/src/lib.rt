@@ -3,9 +3,8 @@ use text_tokens::mark;
 
 pub mod symbol;
 
-ghost use Rattle.std.specs.Prelude.{ℕ, ◌+◌, ◌-◌, ◌%◌, ◌/◌, ◌≤◌, ◌<◌, min, ◌≡◌, true, ◌||◌, List, [], ◌∷◌, ltb, eqb, length, get_or, take, drop, set, replicate};
+ghost use Rattle.std.specs.Prelude.{ℕ, ◌+◌, ◌-◌, ◌%◌, ◌/◌, ◌≤◌, ◌<◌, min, ◌≡◌, true, ◌||◌, List, [], ◌∷◌, ltb, eqb, length, get_or, take, drop, set, replicate, if◌then◌else◌};
 ghost use Rattle.std.proofs.lemmas.List.Edits.{sets};
-ghost use Rattle.semantics.specs.Words.{if◌then◌else◌};
 ghost use Rattle.text_semantics.specs.Numbers as No;
 ghost use Rattle.text_semantics.specs.Token as T;
 ghost use Rattle.text_semantics.specs.Meaning.{minus};
@@ -41,7 +40,7 @@ const HIGHEST: u32 = 4294967295;
 // Where its declaration or action begins in the text, its kind, what the next name is for; whether its body is more than is
 // kept, and how long it is; how many items or shares it has, and where their number stands in the body; a number that waits for
 // its relation; and how many expressions are open.
-#[derive(Drop)]
+#[derive(Clone, Copy)]
 pub struct Draft {
     pub line: usize,
     pub kind: u32,

@@ -105,7 +105,7 @@ fn find<'a>(
 
 // What is known of a name: where it stands in the table; whether it is known; what it is, its number, and whether it lacks its
 // body.
-#[derive(Drop)]
+#[derive(Clone, Copy)]
 pub struct Found {
     pub place: usize,
     pub known: bool,

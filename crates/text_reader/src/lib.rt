@@ -7,8 +7,7 @@ use text_tokens::{Token, mark};
 
 mod sort;
 
-ghost use Rattle.std.specs.Prelude.{◌≡◌, List, [], ℕ, ◌+◌, ◌≤◌, ◌<◌, eqb, true, false, not, length, get_or, take};
-ghost use Rattle.semantics.specs.Words.{if◌then◌else◌};
+ghost use Rattle.std.specs.Prelude.{◌≡◌, List, [], ℕ, ◌+◌, ◌≤◌, ◌<◌, eqb, true, false, not, length, get_or, take, if◌then◌else◌};
 ghost use Rattle.semantics.specs.Kinds as K;
 ghost use Rattle.semantics.specs.Decode.{judged};
 ghost use Rattle.text_semantics.specs.Numbers as No;
@@ -74,7 +73,7 @@ struct Turned {
 
 // What one token makes of the reader: the number of a refusal and its place; or number 0, and the height of the pile, how many
 // names are known, where the name of the class line stands, the draft and the sheet.
-#[derive(Drop)]
+#[derive(Clone, Copy)]
 struct Moved {
     number: u32,
     place: usize,

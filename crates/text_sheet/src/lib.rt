@@ -31,7 +31,7 @@ pub mod room {
 // How many records there are of each group, and their bytes; where the first declaration begins; the last action in the order
 // of the file, by its block and its line; the bytes of the declarations; how many classes there are, and the one that is being
 // read; how many pieces there are, and their bytes; how many blocks are open; and whether there was no room for something.
-#[derive(Drop)]
+#[derive(Clone, Copy)]
 pub struct Sheet {
     pub seen: [u32; group::MANY],
     pub total: usize,

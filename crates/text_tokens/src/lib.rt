@@ -10,7 +10,7 @@ ghost use Rattle.text_tokens.specs.Parts.{longest_keyword, found, word_kind, dou
 pub mod mark;
 
 // A token, from its place to just before its end. The value is that of a number.
-#[derive(Drop)]
+#[derive(Clone, Copy)]
 pub struct Token {
     pub kind: u8,
     pub place: usize,

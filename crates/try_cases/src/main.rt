@@ -2,18 +2,22 @@
 //
 // cases.bin, little-endian: u16 number of cases; each case: u16 number of runs; each run: u16 repeat, u16 length, bytes.
 // A file that is not so, or a case that the model's 70,000 bytes don't hold, ends the program with the line `damaged`.
-ghost use Rattle.std.specs.Prelude.{◌≤◌, length};
+ghost use Rattle.std.specs.Prelude.{◌≤◌, length, IfOk};
 
 use file_bound::Bounded;
 use file_check::Refusal;
+use std::alloc::Global;
+use std::fs::File;
+use std::io;
+use std::io::{Read, Write};
 
 // Room for cases.bin, and for a model: more than the largest that is accepted.
 const FILE: usize = 131072;
 
 const MODEL: usize = 70000;
 
-// Room for the digits of a u64.
-const DIGITS: usize = 20;
+// Room for the lines that are not written yet.
+const LINES: usize = 4096;
 
 // Where a function got to: the next byte of cases.bin, how much of its buffer is filled, and whether all was whole so far.
 #[derive(Drop)]
@@ -60,9 +64,8 @@ fn put_number(n: u64, room: &mut [u8], filled: usize) -> usize
     requires { filled ≤ length room.old }
     ensures { result ≤ length room.new }
 {
-    let mut digits = [0u8; DIGITS];
-    let k = io::decimal(n, &mut digits);
-    put(&digits[..k], room, filled)
+    let mut digits = itoa::Buffer::new();
+    put(digits.format(n).as_bytes(), room, filled)
 }
 
 // ---- a case's bytes
@@ -176,58 +179,64 @@ fn put_line(n: u32, model: &[u8], out: &mut [u8], filled: usize) -> usize
 // ---- all cases
 
 // Writes what `out` has once that is half of it or more, and answers how much is filled then.
-fn emptied(out: &[u8], filled: usize) -> usize
+fn emptied<W: Write>(out: &[u8], filled: usize, writer: &mut W) -> io::Result<usize>
     requires { filled ≤ length out.now }
-    ensures { result ≤ length out.now }
+    ensures { IfOk result (λ n. n ≤ length out.now) }
 {
     if filled < out.len() / 2 {
-        return filled;
+        return Ok(filled);
     }
-    io::write_all(libc::STDOUT_FILENO, &out[..filled]);
-    0
+    writer.write_all(&out[..filled])?;
+    Ok(0)
 }
 
 // Case `n`, from place `next` of the file: its line goes behind what `out` has.
-fn answer(
+fn answer<W: Write>(
     n: u32,
     file: &[u8],
     next: usize,
     model: &mut [u8],
     out: &mut [u8],
     filled: usize,
-) -> Place
+    writer: &mut W,
+) -> io::Result<Place>
     requires { (next ≤ length file.now) × (filled ≤ length out.old) }
-    ensures { (result.next ≤ length file.now) × (result.filled ≤ length out.new) }
+    ensures { IfOk result (λ p. (p.next ≤ length file.now) × (p.filled ≤ length out.new)) }
 {
     let p = expand(file, next, model);
     let after = p.next;
     let size = p.filled;
     if !p.whole {
-        return Place {
+        return Ok(Place {
             next: after,
             filled: filled,
             whole: false,
-        };
+        });
     }
     let end = put_line(n, &model[..size], out, filled);
-    let end = emptied(out, end);
-    Place {
+    let end = emptied(out, end, writer)?;
+    Ok(Place {
         next: after,
         filled: end,
         whole: true,
-    }
+    })
 }
 
 // Every case's line; `out` has those that are not written yet.
-fn answer_all(file: &[u8], model: &mut [u8], out: &mut [u8]) -> Place
-    ensures { (result.next ≤ length file.now) × (result.filled ≤ length out.new) }
+fn answer_all<W: Write>(
+    file: &[u8],
+    model: &mut [u8],
+    out: &mut [u8],
+    writer: &mut W,
+) -> io::Result<Place>
+    ensures { IfOk result (λ p. (p.next ≤ length file.now) × (p.filled ≤ length out.new)) }
 {
     if file.len() < 2 {
-        return Place {
+        return Ok(Place {
             next: 0,
             filled: 0,
             whole: false,
-        };
+        });
     }
     let cases = file_fields::u16_at(file, 0);
     let mut next = 2;
@@ -235,31 +244,41 @@ fn answer_all(file: &[u8], model: &mut [u8], out: &mut [u8]) -> Place
     let mut n = 0;
     while n < cases {
         n += 1;
-        let p = answer(n, file, next, model, out, filled);
+        let p = answer(n, file, next, model, out, filled, writer)?;
         next = p.next;
         filled = p.filled;
         if !p.whole {
-            return p;
+            return Ok(p);
         }
     }
-    Place {
+    Ok(Place {
         next: next,
         filled: filled,
         whole: next == file.len(),
-    }
+    })
 }
 
-fn main() {
-    let mut file = [0u8; FILE];
+// Reads the cases, as far as FILE.
+fn read_cases<R: Read>(alloc: Global, reader: &mut R) -> io::Result<Vec<u8>> {
+    let mut file = Vec::new(alloc);
+    reader.take(FILE as u64).read_to_end(&mut file)?;
+    Ok(file)
+}
+
+// Writes the line of each case, and `damaged` where the cases are not as they should be.
+fn write_answers<W: Write>(file: &[u8], writer: &mut W) -> io::Result<()> {
     let mut model = [0u8; MODEL];
-    let mut out = io::buffer();
-    let fd = os::open_read(b"cases.bin");
-    let size = io::read_full(fd, &mut file);
-    libc::close(fd);
-    let p = answer_all(&file[..size], &mut model, &mut out);
+    let mut out = [0u8; LINES];
+    let p = answer_all(file, &mut model, &mut out, writer)?;
     let filled = p.filled;
-    io::write_all(libc::STDOUT_FILENO, &out[..filled]);
+    writer.write_all(&out[..filled])?;
     if !p.whole {
-        io::write_all(libc::STDOUT_FILENO, b"damaged\n");
+        writer.write_all(b"damaged\n")?;
     }
+    Ok(())
+}
+
+fn main(rt: HostRuntime) -> io::Result<()> {
+    let file = read_cases(rt.alloc(), &mut File::open(&rt, "cases.bin")?)?;
+    write_answers(&file, &mut io::writer(&rt))
 }

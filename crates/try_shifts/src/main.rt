@@ -10,6 +10,9 @@ ghost use Rattle.base_numbers.specs.Line as Line;
 use base_numbers::{answer, bound, fault, limit, line};
 use file_bound::Bounded;
 use row_struct::State;
+use std::alloc::Global;
+use std::io;
+use std::io::{Read, Write};
 
 // The lines that the journal has room for, its bytes, and those of the lines as text.
 const LINES: usize = 2;
@@ -34,10 +37,6 @@ fn bound_word(bounded: Bounded) -> u64 {
         Bounded::None => bound::NONE,
         _ => bound::OVER,
     }
-}
-
-fn print(text: &[u8]) {
-    io::write_all(libc::STDOUT_FILENO, text);
 }
 
 // The limit that follows this one.
@@ -85,7 +84,13 @@ fn one_shift<'a>(
 }
 
 // Moves the run on until it has ended or made 1,000,000 steps, and prints its lines and its last line.
-fn print_run(s: &[u8], opened: State, bound: u64, out: &mut [u8])
+fn print_run<W: Write>(
+    s: &[u8],
+    opened: State,
+    bound: u64,
+    out: &mut [u8],
+    writer: &mut W,
+) -> io::Result<()>
     requires { length out.old ≡ 2 * Line.TEXT }
 {
     let mut journal = [0u8; JOURNAL];
@@ -98,7 +103,7 @@ fn print_run(s: &[u8], opened: State, bound: u64, out: &mut [u8])
         let most = lesser(limit, limit::PLAN_STEPS - steps);
         let shift = one_shift(s, run, most, &mut journal, out);
         let bytes = shift.bytes;
-        print(&out[..bytes]);
+        writer.write_all(&out[..bytes])?;
         run = shift.run;
         steps += shift.steps;
         answer = shift.answer;
@@ -106,27 +111,32 @@ fn print_run(s: &[u8], opened: State, bound: u64, out: &mut [u8])
         going = (0 < shift.steps) & ((answer == answer::LIMIT) | (answer == fault::JOURNAL));
     }
     let bytes = plan_text::ending(answer, steps, bound, out);
-    print(&out[..bytes]);
+    writer.write_all(&out[..bytes])
 }
 
 // Opens a run of the model file s and prints its plan, or its refusal.
-fn plan(s: &[u8], out: &mut [u8])
+fn plan<W: Write>(s: &[u8], out: &mut [u8], writer: &mut W) -> io::Result<()>
     requires { length out.old ≡ 2 * Line.TEXT }
 {
     let opened = run_lent::open_run(s);
     if opened.number != 0 {
         let bytes = plan_text::refusal(opened.number, opened.place, out);
-        print(&out[..bytes]);
-        return;
+        return writer.write_all(&out[..bytes]);
     }
     let bound = bound_word(file_bound::bound(s));
     let run = opened.state;
-    print_run(s, run, bound, out);
+    print_run(s, run, bound, out, writer)
 }
 
-fn main() {
-    let mut model = [0u8; limit::FILE + 1];
+// Reads a model, no further than one byte past the largest.
+fn read_model<R: Read>(alloc: Global, reader: &mut R) -> io::Result<Vec<u8>> {
+    let mut model = Vec::new(alloc);
+    reader.take(limit::FILE as u64 + 1).read_to_end(&mut model)?;
+    Ok(model)
+}
+
+fn main(rt: HostRuntime) -> io::Result<()> {
+    let model = read_model(rt.alloc(), &mut rt.reader())?;
     let mut out = [0u8; TEXT];
-    let size = io::read_full(libc::STDIN_FILENO, &mut model);
-    plan(&model[..size], &mut out);
+    plan(&model, &mut out, &mut io::writer(&rt))
 }
