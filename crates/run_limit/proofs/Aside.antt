@@ -39,24 +39,11 @@ bytes_aside ls out h =
     ap (take (Line.BYTES * length ls)) (ap (wrote_at 0 ls) (sym (written_none out)) ∙ wrote_written [] ls out (omega arith))
     ∙ take_at (journal ls) (drop (Line.BYTES * length ls) out) (Line.BYTES * length ls) (journal-length ls)
 
-pub as_many : (n : ℕ) (bs : List ℕ) → n ≤ length bs → n ≡ length (take n bs)
-as_many n bs h = sym (length-take-le n bs h)
-
-pub have_room : (j bs : List ℕ) (a n : ℕ) → a + n ≤ length j → length (take n bs) ≤ length (take (length j - a) (drop a j))
-have_room j bs a n h = simp (length-take, length-drop) (omega arith)
-
-laid_over : (j bs : List ℕ) (a : ℕ) → a + length bs ≤ length j
-    → put_mid a (length j - a) j (take (length bs) bs ++ drop (length bs) (take (length j - a) (drop a j))) ≡ sets j a bs
-laid_over j bs a h =
-    let d : List ℕ = drop a j in
-    let n : ℕ = length bs in
-    ap (λ l. take a j ++ ((l ++ drop n (take (length j - a) d)) ++ drop (length j - a) d)) (take-length bs)
-    ∙ ap (λ k. take a j ++ ((bs ++ drop n (take k d)) ++ drop k d)) (sym (length-drop a j))
-    ∙ ap (λ l. take a j ++ ((bs ++ drop n l) ++ drop (length d) d)) (take-length d)
-    ∙ ap (λ l. take a j ++ ((bs ++ drop n d) ++ l)) (drop-length d)
-    ∙ ap (λ l. take a j ++ l) (append-nil (bs ++ drop n d))
-    ∙ ap (λ l. take a j ++ (bs ++ l)) (drop-drop n a j)
-    ∙ sym (append_assoc (take a j) bs (drop (a + n) j))
+laid_over : (j bs : List ℕ) (a m : ℕ) → a + length bs ≤ length j → m ≡ length bs → put_mid a m j bs ≡ sets j a bs
+laid_over j bs a m h e =
+    ap (λ k. take a j ++ (bs ++ drop k (drop a j))) e
+    ∙ ap (λ l. take a j ++ (bs ++ l)) (drop-drop (length bs) a j)
+    ∙ sym (append_assoc (take a j) bs (drop (a + length bs) j))
     ∙ sym (sets-eq bs j a h)
 
 -- THE STEP o, of which `lines` lines were written: too many for the room, and so undone,
@@ -73,14 +60,13 @@ module _ (o : Outcome Next) (n fault lines : ℕ) (w w' : List ℕ) where
       by (fails k) s h e = let l = s.1.0 in absurd (omega arith)
 
   -- or not, and so the bytes that stand aside were laid over the journal.
-  pub taken_over : (at : ℕ) (out out' j part : List ℕ) → Stepped o fault lines w w' 0 out out' → lines ≤ n → n ≤ Limit.STEP_LINES
-      → length out ≡ Limit.STEP_LINES * Line.BYTES → Line.BYTES * (at + n) ≤ length j
-      → part ≡ take (length (take (Line.BYTES * lines) out')) (take (Line.BYTES * lines) out')
-      ++ drop (length (take (Line.BYTES * lines) out')) (take (length j - Line.BYTES * at) (drop (Line.BYTES * at) j))
-      → Stepped (fitted n o) fault lines w w' at j (put_mid (Line.BYTES * at) (length j - Line.BYTES * at) j part)
-  taken_over at out out' j part s h few long room e =
-      by o s (ap (put_mid (Line.BYTES * at) (length j - Line.BYTES * at) j) e
-      ∙ laid_over j (take (Line.BYTES * lines) out') (Line.BYTES * at) within)
+  pub taken_over : (at : ℕ) (out out' j part : List ℕ) (m : ℕ) → Stepped o fault lines w w' 0 out out' → lines ≤ n → n ≤ Limit.STEP_LINES
+      → length out ≡ Limit.STEP_LINES * Line.BYTES → Line.BYTES * (at + n) ≤ length j → Line.BYTES * lines ≤ length out'
+      → part ≡ take (Line.BYTES * lines) out' → m ≡ Line.BYTES * lines
+      → Stepped (fitted n o) fault lines w w' at j (put_mid (Line.BYTES * at) m j part)
+  taken_over at out out' j part m s h few long room there e k =
+      by o s (ap (put_mid (Line.BYTES * at) m j) e
+      ∙ laid_over j (take (Line.BYTES * lines) out') (Line.BYTES * at) m within (k ∙ sym (length-take-le (Line.BYTES * lines) out' there)))
     where
       within : Line.BYTES * at + length (take (Line.BYTES * lines) out') ≤ length j
       within = omega (arith, length-take (Line.BYTES * lines) out')

@@ -7,6 +7,7 @@ use Rattle.std.proofs.Common.{◌∙◌, ap₂}
 use Rattle.std.proofs.Math.Option.{Option, none, some}
 use Rattle.std.proofs.Math.Dec.{eqb, ltb}
 use Rattle.std.proofs.Math.ListN.{length}
+use Rattle.text_semantics.specs.Meaning.{kind_of, number_of}
 use Rattle.semantics.specs.Words.{if◌then◌else◌}
 use Rattle.semantics.specs.Words as W
 use Rattle.semantics.specs.Kinds as K
@@ -340,8 +341,8 @@ module _ (r : Reader) (t : Token) (p : ℕ) where
   clue_effect (one a_name) =
       clued (if eqb r.draft.role K.CLASS then name_in t else r.called) (cue_steady (steady_name (untouched r) _)) open_blocks
   clue_effect (one (a_number b)) = clued r.called (cue_number r b _) open_blocks
-  clue_effect (factor_s n) = clued r.called (cue_steady (steady_factor (untouched r) _ _ t)) open_blocks
-  clue_effect (minus_s n) = clued r.called (cue_steady (steady_minus (untouched r) _ _ t)) open_blocks
+  clue_effect (factor_s n) = clued r.called (cue_steady (steady_factor (untouched r) (kind_of r.known (name_in t)) (number_of r.known (name_in t)) t)) open_blocks
+  clue_effect (minus_s n) = clued r.called (cue_steady (steady_minus (untouched r) (kind_of r.known (name_in t)) (number_of r.known (name_in t)) t)) open_blocks
   clue_effect (more n k) =
       clued r.called (cue_steady (steady_more (untouched r) k (mark_in t)))
       (deep_keeps (eqb (mark_in t) T.SEMI) _ _ (deep_done open_blocks (draft_after r (more n k) t p)) open_blocks)

@@ -49,7 +49,7 @@ module _ (place : ℕ → ℕ) where
 
   pub last_append : (p : ℕ) (os qs : List Owned) → last_line p (os ++ qs) ≡ last_line (last_line p os) qs
   last_append p [] qs = refl
-  last_append p (o ∷ os) qs = last_append _ os qs
+  last_append p (o ∷ os) qs = last_append (if eqb (group_of o.entry) K.ACTION then place o.owner else p) os qs
 
   lines_append : (p : ℕ) (ns ms : List Note) → lines p (ns ++ ms) ≡ lines (lines p ns) ms
   lines_append p [] ms = refl

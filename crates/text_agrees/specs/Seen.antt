@@ -5,6 +5,7 @@ use Rattle.std.proofs.Common.{arith, ◌∙◌, length-set, get_or-set_other}
 use Rattle.std.proofs.Math.Path.{refl}
 use Rattle.std.proofs.Math.Option.{Option, none, some}
 use Rattle.std.proofs.Math.Dec.{eqb}
+use Rattle.text_semantics.specs.Meaning.{kind_of, number_of}
 use Rattle.semantics.specs.Words.{if◌then◌else◌}
 use Rattle.semantics.specs.Words as W
 use Rattle.semantics.specs.Kinds as K
@@ -16,7 +17,7 @@ use Rattle.text_semantics.specs.Written.{two}
 use Rattle.text_semantics.specs.Reading.{Symbol, one, the, a_name, a_number, factor_s, minus_s, more, signed_s, relation_s, item_s}
 use Rattle.text_semantics.specs.Reading.{claim_s, items_s, gives_s, given_s, actions_s, try_s, few_s, lines_s, body_s, text_s}
 use Rattle.text_machine.specs.Entry as E
-use Rattle.text_machine.specs.Entry.{Draft, asking, drafted, mark_in, put, at_number}
+use Rattle.text_machine.specs.Entry.{Draft, asking, drafted, mark_in, put, at_number, name_in}
 use Rattle.text_machine.specs.Entry.{at_item}
 use Rattle.text_machine.specs.Sheet as S
 use Rattle.text_machine.specs.Sheet.{Sheet, Kept, kept_in, declaring, declares, classed, classes, bodied, counts, stands, acts}
@@ -92,8 +93,8 @@ kind_kept r s t p h = (go s h).is
     go (one (the k)) h = kind_steady (steady_sign untouched _ k)
     go (one a_name) h = kind_steady (steady_name untouched _)
     go (one (a_number b)) h = kind_number r.draft b _
-    go (factor_s n) h = kind_steady (steady_factor untouched _ _ t)
-    go (minus_s n) h = kind_steady (steady_minus untouched _ _ t)
+    go (factor_s n) h = kind_steady (steady_factor untouched (kind_of r.known (name_in t)) (number_of r.known (name_in t)) t)
+    go (minus_s n) h = kind_steady (steady_minus untouched (kind_of r.known (name_in t)) (number_of r.known (name_in t)) t)
     go (more n c) h = kind_steady (steady_more untouched c (mark_in t))
     go signed_s h = kind_if (eqb (mark_in t) T.MINUS) _ _ same (record { is = refl })
     go relation_s h = record { is = refl }

@@ -1,5 +1,6 @@
 -- The body of a draft is as long as the machine counts, as long as it is kept: so of every reader that the machine comes to.
 -- Assumes nothing.
+use Rattle.text_semantics.specs.Meaning.{kind_of}
 use Prim.Native.Nat.{ℕ, suc, ◌+◌, min}
 use native.Mathlib.Omega.{arith}
 use Rattle.std.specs.Prelude.{◌≡◌, Bool, ◌&&◌, ◌||◌, get_or}
@@ -231,7 +232,7 @@ module _ (v i k p : ℕ) (kept d : Draft) (u : Whole kept) (w : Whole d) where
 -- EVERY READER that the machine comes to.
 pub whole_after : (r : Reader) (s : Symbol) (t : Token) (p : ℕ) → Whole r.draft → Whole (draft_after r s t p)
 unfolding draft_after
-whole_after r s t p w = whole_drafted _ _ _ p _ r.draft (whole_resumed (kept_in r.sheet.levels)) w s t
+whole_after r s t p w = whole_drafted (kind_of r.known (E.name_in t)) _ _ p _ r.draft (whole_resumed (kept_in r.sheet.levels)) w s t
 
 pub whole_draft : {r : Reader} → Comes r → Whole r.draft
 unfolding after

@@ -1,0 +1,71 @@
+-- `file_check::third_pass` meets its contract. The loop's invariant, `Turn`: the memo is right, and the pass from `at` on is the
+-- whole pass. Assumes nothing.
+use mathlib.Core.Path.{sym, ap}
+use native.Mathlib.Omega.{arith}
+use Rattle.file_check.proofs.Deep.{readable, begun, step, class_is, third_refused, turned, third_ends}
+use Rattle.file_check.specs.Check.{refusal_of}
+use Rattle.file_check.proofs.third_pass.Goals as goal
+
+pub index_of-i-requires : goal.index_of-i-requires
+index_of-i-requires c = readable _ c.requires
+
+pub graph_of-g-requires : goal.graph_of-g-requires
+graph_of-g-requires c = readable _ c.requires
+
+pub loop-at-init : goal.loop-at-init
+loop-at-init c = rw c.first-at.ensures
+    (begun _ c.requires _
+    c.index_of-i.ensures _
+    c.graph_of-g.ensures)
+
+pub overflow_add-at : goal.overflow_add-at
+overflow_add-at c = let p = step _ c.loop-at.invariant c.loop-at-test.true
+    c.read-x.ensures
+    c.next-end.ensures in omega (arith, p.far, p.within)
+
+pub slice_bounds-too_deep-count : goal.slice_bounds-too_deep-count
+slice_bounds-too_deep-count c = let p = step _ c.loop-at.invariant c.loop-at-test.true
+    c.read-x.ensures
+    c.next-end.ensures in omega (arith, p.far, p.within)
+
+pub slice_bounds-too_deep-start : goal.slice_bounds-too_deep-start
+slice_bounds-too_deep-start c = let p = step _ c.loop-at.invariant c.loop-at-test.true
+    c.read-x.ensures
+    c.next-end.ensures in omega (arith, p.far, p.within)
+
+pub slice_bounds-too_deep-end : goal.slice_bounds-too_deep-end
+slice_bounds-too_deep-end c = let p = step _ c.loop-at.invariant c.loop-at-test.true
+    c.read-x.ensures
+    c.next-end.ensures in omega (arith, p.far, p.within)
+
+pub too_deep-requires : goal.too_deep-requires
+too_deep-requires c = let w = c.loop-at.invariant in record {
+      graph = w.graph;
+      in_bounds = class_is _ w c.loop-at-test.true
+        c.read-x.ensures
+        c.next-end.ensures;
+      known = w.known;
+    }
+
+pub returns-then-too_deep : goal.returns-then-too_deep
+returns-then-too_deep c = ap refusal_of (sym (third_refused _
+    c.loop-at.invariant
+    c.loop-at-test.true
+    c.read-x.ensures
+    c.next-end.ensures c.too_deep.ensures.value
+    c.if-too_deep.true))
+
+pub loop-at-smaller : goal.loop-at-smaller
+loop-at-smaller c = let p = step _ c.loop-at.invariant
+    c.loop-at-test.true
+    c.read-x.ensures
+    c.next-end.ensures in omega (arith, p.far, p.within)
+
+pub loop-at-preserved : goal.loop-at-preserved
+loop-at-preserved c = turned _ c.loop-at.invariant
+    c.loop-at-test.true
+    c.read-x.ensures
+    c.next-end.ensures c.too_deep.ensures.value c.if-too_deep.false c.too_deep.ensures.known_2
+
+pub returns : goal.returns
+returns c = ap refusal_of (sym (third_ends _ c.loop-at.invariant (omega (arith, c.loop-at-test.false))))

@@ -1,0 +1,7 @@
+-- `row_process::rounds_at` meets its contract: the highest part of the innermost block's word. Assumes nothing.
+use native.Mathlib.Omega.{arith}
+use Rattle.row_process.proofs.Standing.{top_sized}
+use Rattle.row_process.proofs.rounds_at.Goals as goal
+
+pub returns : goal.returns
+returns c = λ v. omega (arith, c.top_word.ensures v, top_sized v v.given)

@@ -1,0 +1,35 @@
+-- `text_entry::at_factor` meets its contract. Assumes nothing.
+use mathlib.Core.Path.{sym, ap}
+use Rattle.text_machine.specs.Entry as M
+use Rattle.text_entry.specs.Draft.{draft_of}
+use Rattle.text_entry.specs.Steps.{wanted, stays}
+use Rattle.text_entry.specs.At.{a_bad}
+use Rattle.text_entry.specs.Tokens.{a_mark}
+use Rattle.text_entry.proofs.at_factor.Goals as goal
+
+pub returns-then-kind-le-END : goal.returns-then-kind-le-END
+unfolding M.at_factor
+returns-then-kind-le-END c x = let a = c.args in
+    wanted
+    (ap (λ u. M.at_factor a.w a.i u (draft_of a.d a.body.now a.starts.now))
+    (sym (a_mark a.kind a.value x c.if-kind-le-END.true)))
+    c.deep.ensures
+
+pub returns-in-48 : goal.returns-in-48
+unfolding M.at_factor
+returns-in-48 c x = rw c.in-48.is (c.put_node.ensures c.args.starts.now)
+
+pub returns-in-49 : goal.returns-in-49
+unfolding M.at_factor
+returns-in-49 c x = let a = c.args in
+    rw c.in-49.is
+    (wanted (ap (λ n. M.leaf n a.i (draft_of a.d a.body.now a.starts.now)) c.op_of.ensures.0)
+    (c.put_node-in-49.ensures a.starts.now))
+
+pub returns-in_default : goal.returns-in_default
+unfolding M.at_factor
+returns-in_default c x = let r = c.in_default.in_default-own.rest in
+    let y = draft_of c.args.d c.args.body.now c.args.starts.now in
+    stays c.requires
+    (ap (λ u. M.at_factor c.args.w c.args.i u y)
+    (sym (a_bad c.args.kind c.args.value x c.if-kind-le-END.false r.0.1 r.1)))
