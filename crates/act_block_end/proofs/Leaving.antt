@@ -1,4 +1,5 @@
 -- The end of a block: what the definitions make of it, and the states on the way. Assumes nothing.
+use Rattle.std.specs.Prelude.{if◌then◌else◌}
 use Prim.Native.Nat.{ℕ, ◌+◌, ◌≤◌, ◌<◌}
 use native.Mathlib.Omega.{arith}
 use mathlib.Core.Path.{◌≡◌, refl, sym, subst, ◌∙◌, ap}
@@ -8,7 +9,7 @@ use mathlib.Core.Option.{Option, none, some}
 use lib.Dec.{eqb}
 use borrow.Author.Tests.{lt-ltb, le-ltb, eqb-true}
 use lib.ListN.{length, get_or, get_elem?}
-use Rattle.semantics.specs.Words.{if◌then◌else◌, ok, fails, ◌>>◌, need, all, is_empty}
+use Rattle.semantics.specs.Words.{ok, fails, ◌>>◌, need, all, is_empty}
 use Rattle.semantics.specs.Numbers as No
 use Rattle.semantics.specs.Model.{Action, Model, block}
 use Rattle.semantics.specs.State.{State, Process, Frame, empty, nobody, process, put, onward, past}

@@ -1,4 +1,5 @@
 -- The parts of the work that an expression's value is read from, and the value that is read. Assumes nothing.
+use Rattle.std.specs.Prelude.{if◌then◌else◌}
 use Prim.Native.Nat.{ℕ, ◌+◌, ◌-◌, ◌*◌, ◌≤◌, ◌<◌}
 use native.Mathlib.Omega.{arith}
 use mathlib.Core.Path.{◌≡◌, refl, sym, ◌∙◌, ap}
@@ -10,7 +11,7 @@ use lib.Seq.{get_or-take, get_or-drop, length-take-le}
 use lib.IntN.{ℤ, pos}
 use lib.Signed.{non_neg}
 use borrow.Author.Tests.{lt-ltb, le-ltb, le-leb, lt-leb}
-use Rattle.semantics.specs.Words.{if◌then◌else◌, Outcome, ok, fails, ◌>>=◌}
+use Rattle.semantics.specs.Words.{Outcome, ok, fails, ◌>>=◌}
 use Rattle.semantics.specs.Numbers as No
 use Rattle.semantics.specs.Model.{Expr, Action, Model}
 use Rattle.semantics.specs.State.{State, Process, process, with_seeds}

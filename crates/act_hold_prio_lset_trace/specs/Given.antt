@@ -1,6 +1,6 @@
 -- The expression of an action where a process stands, and the state that its draws leave. Assumes nothing.
-use Rattle.std.specs.Prelude.{ℕ, List, Bool, ◌&&◌, leb}
-use Rattle.semantics.specs.Words.{if◌then◌else◌, Outcome}
+use Rattle.std.specs.Prelude.{ℕ, List, Bool, ◌&&◌, leb, if◌then◌else◌}
+use Rattle.semantics.specs.Words.{Outcome}
 use Rattle.semantics.specs.Model.{Expr, Action}
 use Rattle.semantics.specs.State.{State, process, with_seeds}
 use Rattle.semantics.specs.Value as Value

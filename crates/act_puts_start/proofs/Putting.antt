@@ -1,5 +1,6 @@
 -- PUTS: the states between its changes, each as the next change asks for it, and what the definition makes of it.
 -- Assumes nothing.
+use Rattle.std.specs.Prelude.{if◌then◌else◌}
 use Prim.Native.Nat.{ℕ, zero, suc, ◌+◌, ◌≤◌, ◌<◌}
 use native.Mathlib.Omega.{arith}
 use mathlib.Core.Path.{◌≡◌, refl, sym, subst, ◌∙◌, ap}
@@ -9,7 +10,7 @@ use lib.Dec.{eqb}
 use borrow.Author.Tests.{le-leb, lt-leb}
 use lib.ListN.{length, take}
 use lib.Seq.{sets, sets-eq, take_at, length-sets}
-use Rattle.semantics.specs.Words.{if◌then◌else◌, ◌>>◌, need, keep}
+use Rattle.semantics.specs.Words.{◌>>◌, need, keep}
 use Rattle.semantics.specs.Model.{PUTS}
 use Rattle.semantics.specs.State.{State, Process, Slave, process, put, past, wake}
 use Rattle.semantics.specs.Step.{freed, free_all, puts}

@@ -1,11 +1,11 @@
 -- Nobody has the floor: the first of the event list leaves it, and is put back where its step faults. Assumes nothing.
+use Rattle.std.specs.Prelude.{if◌then◌else◌}
 use Prim.Native.Nat.{ℕ, ◌+◌}
 use native.Mathlib.Omega.{arith}
 use mathlib.Core.Path.{◌≡◌, refl, sym, ◌∙◌, ap}
 use mathlib.Core.List.{List, [], ◌∷◌}
 use mathlib.Core.Bool.{Bool, true, false}
 use lib.ListN.{length, get_or}
-use Rattle.semantics.specs.Words.{if◌then◌else◌}
 use Rattle.semantics.specs.Model.{Model}
 use Rattle.semantics.specs.State.{State, Event, Floor, empty, held_by, with_events, at_clock}
 use Rattle.semantics.specs.Step.{moves, occurs, next, step}

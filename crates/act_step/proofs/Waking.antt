@@ -1,10 +1,10 @@
 -- Who is first in the event list takes the floor, and leaves it again where that faults. Assumes nothing.
+use Rattle.std.specs.Prelude.{if◌then◌else◌}
 use Prim.Native.Nat.{ℕ, ◌+◌, ◌<◌}
 use mathlib.Core.Path.{◌≡◌, refl, sym, ◌∙◌, ap}
 use mathlib.Core.List.{List}
 use lib.ListN.{length, set, length-set}
 use mathlib.Core.Bool.{Bool}
-use Rattle.semantics.specs.Words.{if◌then◌else◌}
 use Rattle.semantics.specs.State.{State, empty, held_by, with_floor}
 use Rattle.semantics.specs.Step.{moves, step}
 use Rattle.semantics.specs.Run.{Before, is_closed, goes_on}

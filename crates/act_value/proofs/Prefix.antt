@@ -1,5 +1,6 @@
 -- The pile of trees that the nodes from one on make is the tree that begins there, on the pile of what follows that tree.
 -- Assumes nothing.
+use Rattle.std.specs.Prelude.{if◌then◌else◌}
 use mathlib.Core.Path.{◌≡◌, refl, sym, ◌∙◌, ap}
 use mathlib.Core.List.{List, [], ◌∷◌}
 use mathlib.Core.Bool.{true}
@@ -12,7 +13,6 @@ use lib.Dec.{eqb}
 use lib.ListN.{length, take, drop, get_or}
 use lib.Seq.{drop-cons, drop-drop}
 use Rattle.semantics.specs.Model.{Model, Expr, literal, global, local, add, subtract, multiply, lesser, greater, negate}
-use Rattle.semantics.specs.Words.{if◌then◌else◌}
 use Rattle.semantics.specs.Model.{the_clock, draw}
 use Rattle.semantics.specs.Bytes.{u16, u32, signed, parts}
 use Rattle.semantics.specs.Record.{Node, leaf, unary, binary, node_of, onto, pile, nodes, one_tree, the_tree}

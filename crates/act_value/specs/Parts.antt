@@ -1,13 +1,13 @@
 -- The value of an expression and the seeds that its draws leave, each by itself, by what they are read from: the samplers of the
 -- model, variables, locals, clock and seeds.
 -- Assumes nothing.
-use Rattle.std.specs.Prelude.{ℕ, ◌≤◌, ◌≡◌, List, get_or, set, ℤ, pos, neg_ℤ, ◌+ℤ◌, ◌-ℤ◌, ◌*ℤ◌}
+use Rattle.std.specs.Prelude.{ℕ, ◌≤◌, ◌≡◌, List, get_or, set, ℤ, pos, neg_ℤ, ◌+ℤ◌, ◌-ℤ◌, ◌*ℤ◌, if◌then◌else◌}
 use native.Mathlib.Omega.{arith}
 use Rattle.std.proofs.Math.Path.{refl}
 use Rattle.std.proofs.Common.{◌∙◌, ap}
 use Rattle.std.proofs.Math.ListN.{length-set}
 use Rattle.std.specs.Int.Signed.{le_z}
-use Rattle.semantics.specs.Words.{if◌then◌else◌, Outcome, ok, fails, ◌>>=◌}
+use Rattle.semantics.specs.Words.{Outcome, ok, fails, ◌>>=◌}
 use Rattle.semantics.specs.Numbers as No
 use Rattle.semantics.specs.Model.{Model, Expr, literal, global, local, add, subtract, multiply, lesser, greater, negate, draw}
 use Rattle.semantics.specs.Model.{the_clock, sampler}

@@ -1,4 +1,5 @@
 -- Where sums, differences and products of two numbers stand, and which of them are in the i32 range. Assumes nothing.
+use Rattle.std.specs.Prelude.{if◌then◌else◌}
 use mathlib.Core.Path.{◌≡◌, refl, sym, ◌∙◌, ap}
 use mathlib.Core.Bool.{Bool, true, false, cond, beq}
 use Prim.Native.Nat.{ℕ, zero, suc, ◌+◌, ◌*◌, ◌-◌, ◌≤◌, ◌<◌}
@@ -8,7 +9,7 @@ use borrow.Author.Tests.{lt-ltb, le-ltb, ltb-true, ltb-false}
 use lib.Dec.{ltb}
 use lib.IntN.{ℤ, pos, negsuc, sub_ℕ, nat_abs, neg_ℤ, ◌+ℤ◌, ◌-ℤ◌, ◌*ℤ◌, +ℤ_idl}
 use lib.Signed.{mag}
-use Rattle.semantics.specs.Words.{if◌then◌else◌, ◌>>◌, need}
+use Rattle.semantics.specs.Words.{◌>>◌, need}
 use Rattle.semantics.specs.Value.{in_range}
 use Rattle.base_numbers.specs.Code as Code
 use Rattle.base_i32.specs.Code.{code, value_of, a_value, no_value, value_in, MIDDLE, Difference}

@@ -1,8 +1,8 @@
 -- A number v of the i32 range as its code, v + 2^31, and outcomes of arithmetic as the code's answers.
 -- Assumes nothing.
-use Rattle.std.specs.Prelude.{◌≡◌, true, false, ℕ, suc, ◌+◌, ◌-◌, ◌%◌, ◌<◌, ltb, ℤ, pos, negsuc}
+use Rattle.std.specs.Prelude.{◌≡◌, true, false, ℕ, suc, ◌+◌, ◌-◌, ◌%◌, ◌<◌, ltb, ℤ, pos, negsuc, if◌then◌else◌}
 use Rattle.std.specs.Int.Signed.{mag, le_z}
-use Rattle.semantics.specs.Words.{if◌then◌else◌, Outcome, ok, fails}
+use Rattle.semantics.specs.Words.{Outcome, ok, fails}
 use Rattle.semantics.specs.Numbers as No
 use Rattle.base_numbers.specs.Code as Code
 use Rattle.base_i32.specs.declared.Value.{Value}

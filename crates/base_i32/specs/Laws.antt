@@ -1,11 +1,11 @@
 -- Codes: each u32 is the code of one number of the i32 range, and the order of the codes is that of the numbers.
 -- Assumes nothing.
-use Rattle.std.specs.Prelude.{◌≡◌, refl, Bool, true, false, ℕ, zero, suc, ◌+◌, ◌-◌, ◌%◌, ◌≤◌, ◌<◌, leb, ltb, ℤ, pos, negsuc, ◌-ℤ◌}
+use Rattle.std.specs.Prelude.{◌≡◌, refl, Bool, true, false, ℕ, zero, suc, ◌+◌, ◌-◌, ◌%◌, ◌≤◌, ◌<◌, leb, ltb, ℤ, pos, negsuc, ◌-ℤ◌, if◌then◌else◌}
 use Rattle.std.proofs.Common.{sym, ◌∙◌, ap, arith, lt-ltb, le-ltb, ltb-true, ltb-false, le-leb, leb-true, leb-false}
 use Rattle.std.proofs.lemmas.Bool.{lt-leb}
 use Rattle.std.proofs.Math.IntN.{sub_ℕ}
 use Rattle.std.specs.Int.Signed.{mag, le_z}
-use Rattle.semantics.specs.Words.{if◌then◌else◌, Outcome, ok, fails, ◌>>◌, need}
+use Rattle.semantics.specs.Words.{Outcome, ok, fails, ◌>>◌, need}
 use Rattle.semantics.specs.Numbers as No
 use Rattle.semantics.specs.Bytes.{signed}
 use Rattle.semantics.specs.Journal.{twos}

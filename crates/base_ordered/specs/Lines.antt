@@ -1,7 +1,6 @@
 -- An ordered list as rows of numbers: the row that a list makes, a list with one more or one less, the key by which an entry
 -- stands, and its data in one word. Assumes nothing.
-use Rattle.std.specs.Prelude.{◌≡◌, List, [], ◌∷◌, ◌++◌, Bool, ℕ, zero, suc, ◌+◌, ◌-◌, ◌*◌, ◌/◌, ◌%◌, ◌≤◌, length, take, drop, replicate}
-use Rattle.semantics.specs.Words.{if◌then◌else◌}
+use Rattle.std.specs.Prelude.{◌≡◌, List, [], ◌∷◌, ◌++◌, Bool, ℕ, zero, suc, ◌+◌, ◌-◌, ◌*◌, ◌/◌, ◌%◌, ◌≤◌, length, take, drop, replicate, if◌then◌else◌}
 use Rattle.semantics.specs.State.{Event, Waiter, Notice, wakes, returns_r, returns_b}
 use Rattle.base_numbers.specs.Word as Word
 use Rattle.base_numbers.specs.Code as Code

@@ -1,5 +1,5 @@
 -- A row that shows a list: what the functions find in it and make of it, said of the list. Assumes nothing.
-use Rattle.std.specs.Prelude.{◌≡◌, Bool, true, false, leb, length, take, drop, replicate}
+use Rattle.std.specs.Prelude.{◌≡◌, Bool, true, false, leb, length, take, drop, replicate, if◌then◌else◌}
 use Rattle.std.proofs.Math.Path.{refl, ap, fun_ext}
 use Rattle.std.proofs.Common.{sym, ◌∙◌, arith, length-append}
 use mathlib.Core.List.{List, [], ◌∷◌, ◌++◌, map, map-append}
@@ -7,7 +7,7 @@ use Prim.Native.Nat.{ℕ, zero, suc, ◌+◌, ◌-◌, ◌*◌, ◌≤◌, ◌<�
 use Rattle.std.proofs.Math.Dec.{ltb}
 use Rattle.std.proofs.lemmas.List.{length-map, length-replicate}
 use Rattle.std.proofs.Math.Seq.{take-append_seam}
-use Rattle.semantics.specs.Words.{if◌then◌else◌, keep, insert}
+use Rattle.semantics.specs.Words.{keep, insert}
 use Rattle.semantics.specs.State.{Event, Waiter, sooner, enter, higher}
 use Rattle.semantics.specs.Step.{is_return}
 use Rattle.promises.specs.Fit.{I32}

@@ -1,4 +1,5 @@
 -- The digits of the number that shows the places, counted, and one of them written. Assumes nothing.
+use Rattle.std.specs.Prelude.{if◌then◌else◌}
 use mathlib.Core.Path.{◌≡◌, refl, ◌∙◌, ap}
 use mathlib.Core.List.{List, [], ◌∷◌}
 use mathlib.Core.Bool.{Bool, true, false, not}
@@ -10,7 +11,7 @@ use lib.Count.{ones, ones_step, count_trailing_zeros, under}
 use lib.IntN.{pos}
 use lib.Pow.{shl_exact}
 use lib.ListN.{length, set}
-use Rattle.semantics.specs.Words.{if◌then◌else◌, first_at, keep}
+use Rattle.semantics.specs.Words.{first_at, keep}
 use Rattle.semantics.specs.State.{Process, nobody, is_free}
 use Rattle.base_places.specs.Places.{lives, living_of, Shows}
 

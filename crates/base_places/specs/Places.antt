@@ -1,7 +1,6 @@
 -- The living places as the binary digits of one number, the lowest for place 0. Assumes nothing.
-use Rattle.std.specs.Prelude.{◌≡◌, List, [], ◌∷◌, ℕ, ◌+◌, ◌*◌, length}
+use Rattle.std.specs.Prelude.{◌≡◌, List, [], ◌∷◌, ℕ, ◌+◌, ◌*◌, length, if◌then◌else◌}
 use Rattle.semantics.specs.Numbers as No
-use Rattle.semantics.specs.Words.{if◌then◌else◌}
 use Rattle.semantics.specs.State.{Process, is_free}
 
 abbrev pub lives : Process → ℕ

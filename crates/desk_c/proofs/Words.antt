@@ -1,4 +1,5 @@
 -- What the numbers for C say, by what check, bound, run and opening answer. Assumes nothing.
+use Rattle.std.specs.Prelude.{if◌then◌else◌}
 use Prim.Native.Nat.{ℕ, ◌+◌, ◌≤◌}
 use mathlib.Core.Path.{◌≡◌, refl, sym, ◌∙◌, ap, subst}
 use mathlib.Core.List.{List}
@@ -9,7 +10,7 @@ use native.Mathlib.Omega.{arith}
 use borrow.Author.Tests.{eq-eqb, ne_eqb}
 use Rattle.semantics.specs.Model.{Model}
 use Rattle.semantics.specs.Decode.{Checked, refused, accepted, if_accepted, decode}
-use Rattle.semantics.specs.Words.{passed, if◌then◌else◌}
+use Rattle.semantics.specs.Words.{passed}
 use Rattle.semantics.specs.Numbers as No
 use Rattle.semantics.specs.Bound as definition
 use Rattle.semantics.specs.Bound.{NONE, OVER, AT, bound_is}

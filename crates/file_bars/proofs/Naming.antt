@@ -1,10 +1,11 @@
 -- The tests on bits are the tests on names. Assumes nothing.
+use Rattle.std.specs.Prelude.{if◌then◌else◌}
 use Prim.Native.Nat.{ℕ, ◌^◌}
 use mathlib.Core.Path.{◌≡◌, refl, sym, ◌∙◌}
 use mathlib.Core.List.{List, [], ◌∷◌}
 use mathlib.Core.Bool.{Bool, true, false, ◌&&◌, ◌||◌, and_assoc}
 use lib.Dec.{eqb}
-use Rattle.semantics.specs.Words.{if◌then◌else◌, all, any, is_empty}
+use Rattle.semantics.specs.Words.{all, any, is_empty}
 use Rattle.semantics.specs.Model.{Kind, resource, bin, sync, get, condition, Claim}
 use Rattle.semantics.specs.Claim.{Name, names_of, same_kind, same_name, strict_part, same_names}
 use Rattle.file_map.specs.Map.{mask_of}

@@ -1,4 +1,5 @@
 -- The ENTITY records among the records of a file: the entities that they make, and what they weigh. Assumes nothing.
+use Rattle.std.specs.Prelude.{if◌then◌else◌}
 use Prim.Native.Nat.{ℕ, ◌+◌, ◌≤◌}
 use mathlib.Core.Path.{◌≡◌, refl, sym, ◌∙◌, ap}
 use mathlib.Core.List.{List, [], ◌∷◌, ◌++◌, map}
@@ -6,7 +7,7 @@ use mathlib.Core.Bool.{Bool, true, false}
 use native.Mathlib.Omega.{arith}
 use lib.Dec.{eqb}
 use lib.ListN.{length}
-use Rattle.semantics.specs.Words.{if◌then◌else◌, sum}
+use Rattle.semantics.specs.Words.{sum}
 use Rattle.semantics.specs.Model.{Entity, Model}
 use Rattle.semantics.specs.Bytes.{Raw, raw, u16, u32}
 use Rattle.semantics.specs.Record.{Row, table, row_of}

@@ -1,4 +1,5 @@
 -- What the index and the graph of a file that passes 1 to 9 say of the depth of its blocks. Assumes nothing.
+use Rattle.std.specs.Prelude.{if◌then◌else◌}
 use mathlib.Core.Path.{◌≡◌, refl, sym, ◌∙◌, ap}
 use mathlib.Core.List.{List, [], ◌∷◌}
 use mathlib.Core.Bool.{Bool, true, false, ◌&&◌}
@@ -6,7 +7,7 @@ use Prim.Native.Nat.{ℕ, ◌≤◌, ◌<◌}
 use borrow.Author.Tests.{ltb-true, eqb-true}
 use lib.Dec.{eqb, ltb}
 use lib.ListN.{length, get_or, replicate}
-use Rattle.semantics.specs.Words.{if◌then◌else◌, passed, collect}
+use Rattle.semantics.specs.Words.{passed, collect}
 use Rattle.semantics.specs.Numbers as No
 use Rattle.semantics.specs.Model.{Action, Model, block}
 use Rattle.semantics.specs.Bytes.{Raw, raw, torn, u16, records_from}

@@ -1,4 +1,5 @@
 -- A refusal's number is one of 1 to 10, and its place is not behind the file's bytes. Assumes nothing.
+use Rattle.std.specs.Prelude.{if◌then◌else◌}
 use mathlib.Core.Path.{◌≡◌, refl}
 use mathlib.Core.List.{List, [], ◌∷◌}
 use mathlib.Core.Bool.{Bool, true, false, ◌&&◌}
@@ -7,7 +8,7 @@ use native.Mathlib.Omega.{arith}
 use borrow.Author.Tests.{leb-true}
 use lib.Dec.{eqb, leb, ltb}
 use lib.ListN.{length, take, drop, length-drop}
-use Rattle.semantics.specs.Words.{if◌then◌else◌, Outcome, ok, fails, Passed, passed}
+use Rattle.semantics.specs.Words.{Outcome, ok, fails, Passed, passed}
 use Rattle.semantics.specs.Numbers as No
 use Rattle.semantics.specs.Bytes.{Raw, raw, torn, whole, spans, u16, cut, records_from}
 use Rattle.semantics.specs.Model.{Model}

@@ -1,4 +1,5 @@
 -- From what the code tests to the number of a record, row by row of the table. Assumes nothing.
+use Rattle.std.specs.Prelude.{if◌then◌else◌}
 use mathlib.Core.Path.{◌≡◌, refl, sym, ◌∙◌, ap}
 use mathlib.Core.List.{List, [], ◌∷◌, map}
 use mathlib.Core.Bool.{Bool, true, false, ◌&&◌, not}
@@ -8,7 +9,7 @@ use borrow.Author.Tests.{eqb-true, leb-true, le-leb, lt-leb}
 use lib.Dec.{leb, ltb, eqb}
 use lib.ListN.{length, get_or, take, drop}
 use lib.Signed.{le_z}
-use Rattle.semantics.specs.Words.{if◌then◌else◌, need, ◌>>◌, all, within}
+use Rattle.semantics.specs.Words.{need, ◌>>◌, all, within}
 use Rattle.semantics.specs.Numbers as No
 use Rattle.semantics.specs.Kinds as K
 use Rattle.semantics.specs.Bytes.{u16, u32, i32}

@@ -1,4 +1,5 @@
 -- The table of kinds as the code's numbers. Assumes nothing.
+use Rattle.std.specs.Prelude.{if◌then◌else◌}
 use mathlib.Core.Path.{◌≡◌, refl}
 use mathlib.Core.List.{List, [], ◌∷◌}
 use mathlib.Core.Bool.{Bool, true, false, ◌&&◌}
@@ -7,7 +8,7 @@ use native.Mathlib.Omega.{arith}
 use borrow.Author.Tests.{ne_eqb, leb-true, eqb-true}
 use lib.Dec.{leb, eqb}
 use lib.ListN.{length, get_or}
-use Rattle.semantics.specs.Words.{all, if◌then◌else◌}
+use Rattle.semantics.specs.Words.{all}
 use Rattle.semantics.specs.Kinds as K
 use Rattle.semantics.specs.Record.{Row, Tail, nothing, expression, branches, list_of, item, share, table, no_row, row_in, row_of}
 use Rattle.base_numbers.specs.Limit as Limit

@@ -1,6 +1,6 @@
 -- A row of the table of kinds as numbers, and the number of an outcome. Assumes nothing.
-use Rattle.std.specs.Prelude.{ℕ, ◌≤◌, ◌≡◌, List, [], ◌∷◌, true, eqb, length, get_or, drop}
-use Rattle.semantics.specs.Words.{if◌then◌else◌, Outcome, ok, fails, Passed}
+use Rattle.std.specs.Prelude.{ℕ, ◌≤◌, ◌≡◌, List, [], ◌∷◌, true, eqb, length, get_or, drop, if◌then◌else◌}
+use Rattle.semantics.specs.Words.{Outcome, ok, fails, Passed}
 use Rattle.semantics.specs.Bytes.{u16, u32}
 use Rattle.semantics.specs.Record.{Row, Tail, nothing, expression, branches, list_of, item, share, sized}
 use Rattle.semantics.specs.Record.{Field, any_value, u16_in, u32_in, of_sampler, Naming, nameless, names, names_local}

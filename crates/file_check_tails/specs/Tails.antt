@@ -1,8 +1,8 @@
 -- The tails of a record, and the tests on a branch of a TRY, by the numbers that the code gives them.
 -- Assumes nothing.
-use Rattle.std.specs.Prelude.{ℕ, suc, ◌+◌, ◌-◌, List, [], ◌∷◌, Bool, not, ◌&&◌, leb, ltb, length, get_or, drop}
+use Rattle.std.specs.Prelude.{ℕ, suc, ◌+◌, ◌-◌, List, [], ◌∷◌, Bool, not, ◌&&◌, leb, ltb, length, get_or, drop, if◌then◌else◌}
 use Rattle.std.proofs.Math.Option.{Option, none, some}
-use Rattle.semantics.specs.Words.{if◌then◌else◌, all}
+use Rattle.semantics.specs.Words.{all}
 use Rattle.semantics.specs.Model.{Expr}
 use Rattle.semantics.specs.Bytes.{u16}
 use Rattle.semantics.specs.Record.{Tail, nothing, expression, branches, claim, shares, item, parts_of, list_valid, list_twice}

@@ -1,4 +1,5 @@
 -- One item further down a claim: how much it has of a thing, and what is left to be compared. Assumes nothing.
+use Rattle.std.specs.Prelude.{if◌then◌else◌}
 use Prim.Native.Nat.{ℕ, zero, suc, ◌+◌, ◌-◌, ◌≤◌, ◌<◌}
 use native.Mathlib.Omega.{arith}
 use mathlib.Core.Path.{◌≡◌, refl, sym, ◌∙◌, ap}
@@ -7,7 +8,7 @@ use mathlib.Core.Bool.{Bool, true, false, ◌&&◌, ◌||◌, and-false}
 use borrow.Author.Tests.{ltb-true, ltb-false, le-ltb, le-leb, lt-leb, ne_eqb}
 use lib.Dec.{eqb, leb, ltb}
 use lib.ListN.{length, get_or, take, drop}
-use Rattle.semantics.specs.Words.{if◌then◌else◌, all, any}
+use Rattle.semantics.specs.Words.{all, any}
 use Rattle.semantics.specs.Bytes.{u8, u16, u32, i32}
 use Rattle.semantics.specs.Model.{resource, bin, sync, Item, get, condition, Claim}
 use Rattle.semantics.specs.Record.{relation_of, item_of, claim_in}

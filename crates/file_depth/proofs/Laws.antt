@@ -1,5 +1,6 @@
 -- Depth, and what a memo becomes, by recursion over the blocks named; the arrays; and what a memo knows.
 -- Assumes nothing.
+use Rattle.std.specs.Prelude.{if◌then◌else◌}
 use Prim.Native.Nat.{ℕ, zero, suc, ◌+◌, ◌-◌, ◌≤◌, ◌<◌}
 use mathlib.Core.Path.{◌≡◌, refl, ◌∙◌, ap, fun_ext}
 use mathlib.Core.List.{List, [], ◌∷◌, map}
@@ -10,7 +11,7 @@ use borrow.Author.Tests.{eqb-true, eqb-false, eq-eqb, ne_eqb}
 use lib.Dec.{eqb}
 use lib.ListN.{length, take, get_or, set, length-set, replicate, length-replicate, get_or-replicate}
 use lib.Seq.{slice, slice-cons, slice_empty, length-slice, get_or-take, get_or-drop, get_or-set_same, get_or-set_other}
-use Rattle.semantics.specs.Words.{if◌then◌else◌, largest}
+use Rattle.semantics.specs.Words.{largest}
 use Rattle.promises.specs.Laws.{AllOf, all_map}
 use Rattle.base_numbers.specs.Limit as Limit
 use Rattle.file_depth.specs.Deep.{depth_in, depth_of, start_of, Laid, Later, Graph, Known}

@@ -1,8 +1,8 @@
 -- How deep blocks nest, over what each block names; and the arrays that carry it.
 -- Assumes nothing.
-use Rattle.std.specs.Prelude.{ℕ, zero, suc, ◌+◌, ◌-◌, ◌≤◌, ◌<◌, ◌≡◌, List, [], ◌∷◌, map, eqb, length, get_or, set}
+use Rattle.std.specs.Prelude.{ℕ, zero, suc, ◌+◌, ◌-◌, ◌≤◌, ◌<◌, ◌≡◌, List, [], ◌∷◌, map, eqb, length, get_or, set, if◌then◌else◌}
 use Rattle.std.proofs.Math.Seq.{slice}
-use Rattle.semantics.specs.Words.{if◌then◌else◌, largest}
+use Rattle.semantics.specs.Words.{largest}
 use Rattle.promises.specs.Laws.{AllOf}
 use Rattle.base_numbers.specs.Limit as Limit
 

@@ -1,4 +1,5 @@
 -- The tables of fine records, and what the records make: the model. Assumes nothing.
+use Rattle.std.specs.Prelude.{if◌then◌else◌}
 use mathlib.Core.Path.{◌≡◌, refl, sym, ◌∙◌, ap, subst}
 use mathlib.Core.List.{List, [], ◌∷◌, ◌++◌, map}
 use mathlib.Core.Bool.{Bool, true, false, ◌||◌}
@@ -7,7 +8,7 @@ use native.Mathlib.Omega.{arith}
 use lib.Dec.{eqb, leb, ltb, leb-suc-suc}
 use borrow.Author.Tests.{leb-false, ne_eqb}
 use lib.ListN.{length, get_or, drop}
-use Rattle.semantics.specs.Words.{if◌then◌else◌, more, collect, any}
+use Rattle.semantics.specs.Words.{more, collect, any}
 use Rattle.semantics.specs.Kinds as K
 use Rattle.semantics.specs.Model.{Action, Model, body}
 use Rattle.semantics.specs.Bytes.{Raw, raw, torn, u16}

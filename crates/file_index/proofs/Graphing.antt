@@ -1,4 +1,5 @@
 -- The loop that makes the graph: how far it has come, and one turn of it. Assumes nothing.
+use Rattle.std.specs.Prelude.{if◌then◌else◌}
 use mathlib.Core.Path.{◌≡◌, refl, sym, ◌∙◌, ap}
 use mathlib.Core.List.{List, [], ◌∷◌, map}
 use mathlib.Core.Bool.{Bool}
@@ -6,7 +7,7 @@ use Prim.Native.Nat.{ℕ, ◌+◌, ◌≤◌, ◌<◌}
 use native.Mathlib.Omega.{arith}
 use lib.ListN.{length, set, length-map}
 use lib.Seq.{sets}
-use Rattle.semantics.specs.Words.{if◌then◌else◌, collect}
+use Rattle.semantics.specs.Words.{collect}
 use Rattle.semantics.specs.Bytes.{Raw, records_from}
 use Rattle.base_numbers.specs.Limit as Limit
 use Rattle.file_index.specs.Index.{Act, Readable, given, acts, acts_of, own_in, times_in, goes_in, goes_by, runs, graph_of}

@@ -1,4 +1,5 @@
 -- How many records of each kind a file has that the first pass accepts: no more than the arrays have room for. Assumes nothing.
+use Rattle.std.specs.Prelude.{if◌then◌else◌}
 use mathlib.Core.Path.{◌≡◌, refl, ◌∙◌, ap}
 use mathlib.Core.List.{List, [], ◌∷◌}
 use mathlib.Core.Bool.{Bool, true, false}
@@ -6,7 +7,7 @@ use Prim.Native.Nat.{ℕ, zero, suc, ◌+◌, ◌*◌, ◌≤◌, ◌<◌}
 use native.Mathlib.Omega.{arith}
 use lib.Dec.{eqb}
 use lib.ListN.{length, get_or, length-set, length-append}
-use Rattle.semantics.specs.Words.{if◌then◌else◌, more, collect}
+use Rattle.semantics.specs.Words.{more, collect}
 use Rattle.semantics.specs.Kinds as K
 use Rattle.semantics.specs.Bytes.{Raw, raw, torn, records_from, u16}
 use Rattle.semantics.specs.Record.{sampler_of, Row, table, row_of}

@@ -1,4 +1,5 @@
 -- The loop that notes what the samplers draw from: how far it has come, and one turn of it. Assumes nothing.
+use Rattle.std.specs.Prelude.{if◌then◌else◌}
 use mathlib.Core.Path.{◌≡◌, refl, sym, ◌∙◌, ap}
 use mathlib.Core.List.{List, map}
 use Prim.Native.Nat.{ℕ, ◌+◌, ◌≤◌, ◌<◌}
@@ -6,7 +7,6 @@ use native.Mathlib.Omega.{arith}
 use lib.Dec.{eqb}
 use lib.ListN.{length, length-map}
 use lib.Seq.{sets}
-use Rattle.semantics.specs.Words.{if◌then◌else◌}
 use Rattle.semantics.specs.Kinds as K
 use Rattle.semantics.specs.Model.{Sampler}
 use Rattle.semantics.specs.Bytes.{records_from}

@@ -1,4 +1,5 @@
 -- Where the records of a file stand, and how a file that is accepted is read. Assumes nothing.
+use Rattle.std.specs.Prelude.{if◌then◌else◌}
 use mathlib.Core.Path.{◌≡◌, refl, ap}
 use mathlib.Core.List.{List, [], ◌∷◌}
 use mathlib.Core.Bool.{Bool, true, false}
@@ -8,7 +9,7 @@ use lib.Dec.{eqb, leb}
 use borrow.Author.Tests.{leb-true}
 use lib.ListN.{length, take, drop, length-drop}
 use lib.Seq.{drop-drop}
-use Rattle.semantics.specs.Words.{if◌then◌else◌, Passed}
+use Rattle.semantics.specs.Words.{Passed}
 use Rattle.semantics.specs.Numbers as No
 use Rattle.semantics.specs.Model.{Model}
 use Rattle.semantics.specs.Bytes.{Raw, raw, torn, cut, records_from, whole, spans, u16}

@@ -1,9 +1,9 @@
 -- What the rest of the engine reads an accepted model file by: where its blocks, classes and actions stand, which blocks each
 -- action names, whether it may loop, how many things it declares, and what its samplers draw from.
 -- Assumes nothing.
-use Rattle.std.specs.Prelude.{ℕ, ◌+◌, ◌-◌, ◌≤◌, ◌<◌, ◌≡◌, List, [], ◌∷◌, ◌++◌, map, Bool, true, false, ◌&&◌, ◌||◌, eqb, leb, ltb, length, get_or, drop, replicate}
+use Rattle.std.specs.Prelude.{ℕ, ◌+◌, ◌-◌, ◌≤◌, ◌<◌, ◌≡◌, List, [], ◌∷◌, ◌++◌, map, Bool, true, false, ◌&&◌, ◌||◌, eqb, leb, ltb, length, get_or, drop, replicate, if◌then◌else◌}
 use Rattle.std.proofs.lemmas.List.Edits.{sets}
-use Rattle.semantics.specs.Words.{if◌then◌else◌, ok, passed, collect}
+use Rattle.semantics.specs.Words.{ok, passed, collect}
 use Rattle.semantics.specs.Numbers as No
 use Rattle.semantics.specs.Kinds as K
 use Rattle.semantics.specs.Model.{Sampler, Model}

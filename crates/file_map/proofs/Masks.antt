@@ -1,5 +1,6 @@
 -- The bits that the bytes of a claim make are those of the claim, in a model that fits: its numbers are below 32.
 -- Assumes nothing.
+use Rattle.std.specs.Prelude.{if◌then◌else◌}
 use mathlib.Core.Path.{◌≡◌, refl}
 use mathlib.Core.List.{List, [], ◌∷◌, map}
 use mathlib.Core.Bool.{Bool, true, false, ◌&&◌}
@@ -10,7 +11,6 @@ use lib.Bits.{bit_or}
 use lib.Dec.{eqb, ltb}
 use lib.IntN.{ℤ}
 use lib.ListN.{get_or}
-use Rattle.semantics.specs.Words.{if◌then◌else◌}
 use Rattle.semantics.specs.Model.{Kind, resource, bin, sync, Relation, Item, get, condition, Claim, Action, HOLD, PRIO, TRACE}
 use Rattle.semantics.specs.Model.{SET, LSET, DO, PUTR, PUTB, PUTS, BECOME, REQ, TRY, WHILE, START, CLOSE, Model}
 use Rattle.semantics.specs.Bytes.{u8, u16, u32, i32}

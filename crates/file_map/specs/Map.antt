@@ -1,10 +1,10 @@
 -- What the engine reads an accepted model by, as one row of numbers, the map: where blocks and actions begin, class bodies, and
 -- of each branch where its claim stands and what it names; of each sampler what it draws from. Assumes nothing.
-use Rattle.std.specs.Prelude.{ℕ, ◌+◌, ◌-◌, ◌*◌, ◌^◌, ◌≤◌, ◌<◌, ◌≡◌, List, [], ◌∷◌, true, length, get_or, drop}
+use Rattle.std.specs.Prelude.{ℕ, ◌+◌, ◌-◌, ◌*◌, ◌^◌, ◌≤◌, ◌<◌, ◌≡◌, List, [], ◌∷◌, true, length, get_or, drop, if◌then◌else◌}
 use Rattle.std.proofs.Math.Option.{some}
 use Rattle.std.specs.Int.Bits.{bit_or}
 use Rattle.std.proofs.Math.ListN.{get_elem?}
-use Rattle.semantics.specs.Words.{if◌then◌else◌, all}
+use Rattle.semantics.specs.Words.{all}
 use Rattle.semantics.specs.Model.{Kind, resource, bin, sync, get, condition, Claim, Action, Model, block, body, sampler}
 use Rattle.semantics.specs.Bytes.{u16}
 use Rattle.semantics.specs.Record.{item, part_valid, parts_of, claim_in}

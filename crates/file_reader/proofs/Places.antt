@@ -1,4 +1,5 @@
 -- When a whole record stands at a place, and what the bytes there say. Assumes nothing.
+use Rattle.std.specs.Prelude.{if◌then◌else◌}
 use Prim.Native.Nat.{ℕ, ◌+◌, ◌≤◌, ◌<◌}
 use native.Mathlib.Omega.{arith}
 use borrow.Author.Tests.{leb-true, le-leb}
@@ -8,7 +9,6 @@ use mathlib.Core.Bool.{Bool, true, false, ◌&&◌}
 use lib.Dec.{leb}
 use lib.ListN.{length, drop, length-drop}
 use lib.Seq.{get_or-drop}
-use Rattle.semantics.specs.Words.{if◌then◌else◌}
 use Rattle.semantics.specs.Bytes.{u16, spans, whole}
 use Rattle.file_reader.specs.declared.Record.{Record}
 use Rattle.file_reader.specs.Reads.{span_at, stands, none, record_at}

@@ -1,8 +1,7 @@
 -- What stands at a place of a model file, and a reader that moves on from record to record (document 01, "The model file").
 -- Assumes nothing.
-use Rattle.std.specs.Prelude.{ℕ, ◌+◌, List, true, false, drop}
+use Rattle.std.specs.Prelude.{ℕ, ◌+◌, List, true, false, drop, if◌then◌else◌}
 use Rattle.std.specs.Borrow.{Bor}
-use Rattle.semantics.specs.Words.{if◌then◌else◌}
 use Rattle.semantics.specs.Bytes.{u16, spans, whole}
 use Rattle.file_reader.specs.declared.Record.{Record}
 use Rattle.file_reader.specs.declared.Reader.{Reader}

@@ -1,7 +1,6 @@
 -- A reader that moves on from the first byte reads the records of the file, and no others. Assumes nothing.
-use Rattle.std.specs.Prelude.{ℕ, zero, suc, ◌+◌, ◌-◌, ◌≡◌, refl, List, [], ◌∷◌, Bool, true, false, leb, eqb, length, take, drop}
+use Rattle.std.specs.Prelude.{ℕ, zero, suc, ◌+◌, ◌-◌, ◌≡◌, refl, List, [], ◌∷◌, Bool, true, false, leb, eqb, length, take, drop, if◌then◌else◌}
 use Rattle.std.proofs.Common.{arith, leb-true, leb-false, ne_eqb, length-drop, drop-drop}
-use Rattle.semantics.specs.Words.{if◌then◌else◌}
 use Rattle.semantics.specs.Bytes.{spans, whole, Raw, raw, torn, cut, records_from}
 use Rattle.file_reader.specs.Reads.{record_at}
 use Rattle.file_reader.specs.declared.Record.{Record}

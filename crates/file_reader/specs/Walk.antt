@@ -4,10 +4,9 @@ use Rattle.std.proofs.Common.{arith, leb-true, eqb-true, ne_eqb, ◌∙◌, ap, 
 use Rattle.std.proofs.lemmas.Bool.{eqb-false}
 use Rattle.std.proofs.Math.Path.{◌≡◌, refl, sym}
 use mathlib.Core.List.{List, [], ◌∷◌}
-use Rattle.std.specs.Prelude.{Bool, ◌&&◌, eqb, leb, take, drop}
+use Rattle.std.specs.Prelude.{Bool, ◌&&◌, eqb, leb, take, drop, if◌then◌else◌}
 use Rattle.std.proofs.Math.Bool.{true, false}
 use Rattle.std.proofs.Math.ListN.{length, length-drop}
-use Rattle.semantics.specs.Words.{if◌then◌else◌}
 use Rattle.semantics.specs.Bytes.{Raw, raw, torn, cut, records_from, whole, spans, u16}
 use Rattle.file_reader.specs.Reads.{stands, none, record_at}
 use Rattle.file_reader.specs.Records.{body_at}

@@ -1,4 +1,5 @@
 -- The fresh run of an accepted file is open, and the turns of a run come to an end. Assumes nothing.
+use Rattle.std.specs.Prelude.{if◌then◌else◌}
 use Prim.Native.Nat.{ℕ, ◌+◌, ◌-◌, ◌<◌, min}
 use native.Mathlib.Omega.{arith}
 use mathlib.Core.Path.{◌≡◌, refl}
@@ -9,7 +10,6 @@ use lib.Dec.{eqb, ltb}
 use mir.Syntax.{w8}
 use mir.Val.{Fits}
 use lib.ListN.{get_or, replicate}
-use Rattle.semantics.specs.Words.{if◌then◌else◌}
 use Rattle.semantics.specs.Numbers as No
 use Rattle.semantics.specs.Bytes.{records_from}
 use Rattle.semantics.specs.State.{fresh}

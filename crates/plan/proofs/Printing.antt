@@ -1,4 +1,5 @@
 -- What was printed so far, and what comes next: the text of the whole plan, piece by piece. Assumes nothing.
+use Rattle.std.specs.Prelude.{if◌then◌else◌}
 use Prim.Native.Nat.{ℕ, ◌+◌, ◌*◌, ◌-◌, ◌≤◌, ◌<◌, min}
 use native.Mathlib.Omega.{arith}
 use native.Mathlib.Nat.{zero-add, add-zero, add_assoc}
@@ -9,7 +10,6 @@ use lib.Dec.{eqb, leb, ltb}
 use lib.ListN.{length, take, length-append}
 use lib.Seq.{take-append_seam, length-take-le}
 use borrow.Author.Tests.{eqb-true, leb-true, ltb-true}
-use Rattle.semantics.specs.Words.{if◌then◌else◌}
 use Rattle.semantics.specs.Numbers as No
 use Rattle.semantics.specs.Model.{Model}
 use Rattle.semantics.specs.State.{State, fresh}

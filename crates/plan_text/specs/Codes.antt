@@ -1,7 +1,6 @@
 -- The numbers by which an answer and a bound are handed over to be printed. Assumes nothing.
-use Rattle.std.specs.Prelude.{◌≡◌, ℕ, ◌≤◌, ◌<◌, eqb, ltb}
+use Rattle.std.specs.Prelude.{◌≡◌, ℕ, ◌≤◌, ◌<◌, eqb, ltb, if◌then◌else◌}
 use Rattle.std.proofs.Common.{arith, lt-ltb, le-ltb, ne_eqb}
-use Rattle.semantics.specs.Words.{if◌then◌else◌}
 use Rattle.semantics.specs.Run.{Answer, CLOSED, IDLE, LIMIT, FAULT}
 use Rattle.semantics.specs.Bound.{Bounded, NONE, OVER, AT}
 use Rattle.base_numbers.specs.Bound as Bound

@@ -1,9 +1,9 @@
 -- The test sound_in decides Sound: its clauses, split in document 01's order, against the record that the promises carry.
 -- Assumes nothing.
-use Rattle.std.specs.Prelude.{ℕ, zero, suc, ◌+◌, ◌≤◌, ◌<◌, ◌≡◌, refl, List, [], ◌∷◌, map, Bool, true, false, ◌&&◌, ◌||◌, eqb, leb, ltb, length, get_or, ℤ, pos}
+use Rattle.std.specs.Prelude.{ℕ, zero, suc, ◌+◌, ◌≤◌, ◌<◌, ◌≡◌, refl, List, [], ◌∷◌, map, Bool, true, false, ◌&&◌, ◌||◌, eqb, leb, ltb, length, get_or, ℤ, pos, if◌then◌else◌}
 use Rattle.std.proofs.Common.{arith, sym, ap, ◌∙◌, ltb-true, ltb-false}
 use Rattle.std.proofs.Math.ListN.{get_or-eq_default}
-use Rattle.semantics.specs.Words.{if◌then◌else◌, all, is_empty, keep}
+use Rattle.semantics.specs.Words.{all, is_empty, keep}
 use Rattle.semantics.specs.Numbers as No
 use Rattle.semantics.specs.Numbers.{lowest, of_returns}
 use Rattle.semantics.specs.Model.{Model}

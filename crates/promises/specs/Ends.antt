@@ -1,8 +1,8 @@
 -- What has ended stays ended, and a journal that is not met changes nothing.
 -- Assumes nothing.
-use Rattle.std.specs.Prelude.{ℕ, zero, suc, ◌≡◌, refl, List, Bool, true, false, eqb}
+use Rattle.std.specs.Prelude.{ℕ, zero, suc, ◌≡◌, refl, List, Bool, true, false, eqb, if◌then◌else◌}
 use Rattle.std.proofs.Common.{sym, ap, ne_eqb}
-use Rattle.semantics.specs.Words.{if◌then◌else◌, Outcome, ok, fails}
+use Rattle.semantics.specs.Words.{Outcome, ok, fails}
 use Rattle.semantics.specs.Numbers as No
 use Rattle.semantics.specs.Model.{Model}
 use Rattle.semantics.specs.State.{State}

@@ -1,9 +1,9 @@
 -- The orders that a run's lists keep, entering such a list, and who is alive.
 -- Assumes nothing.
-use Rattle.std.specs.Prelude.{ℕ, zero, suc, ◌+◌, ◌≤◌, ◌<◌, ◌≡◌, refl, List, [], ◌∷◌, true, not, eqb, ltb, length, get_or, ℤ, pos, negsuc}
+use Rattle.std.specs.Prelude.{ℕ, zero, suc, ◌+◌, ◌≤◌, ◌<◌, ◌≡◌, refl, List, [], ◌∷◌, true, not, eqb, ltb, length, get_or, ℤ, pos, negsuc, if◌then◌else◌}
 use Rattle.std.proofs.Common.{arith, ap, ◌∙◌, ltb-true, eqb-true}
 use Rattle.std.specs.Int.Signed.{lt_z}
-use Rattle.semantics.specs.Words.{if◌then◌else◌, is_empty, first_at}
+use Rattle.semantics.specs.Words.{is_empty, first_at}
 use Rattle.semantics.specs.Model.{Model}
 use Rattle.semantics.specs.State.{State, Process, Frame, Waiter, Event, nobody, process, is_free, living, sooner, higher, enter}
 use Rattle.semantics.specs.State.{join}

@@ -1,13 +1,13 @@
 -- Laws on tests, outcomes, lists and sums over lists, which the promises lean on.
 -- Assumes nothing.
-use Rattle.std.specs.Prelude.{ℕ, zero, suc, ◌+◌, ◌-◌, ◌≤◌, ◌<◌, ◌≡◌, Bool, true, false, not, ◌&&◌, ◌||◌, eqb, length, get_or, set, take, drop, replicate}
+use Rattle.std.specs.Prelude.{ℕ, zero, suc, ◌+◌, ◌-◌, ◌≤◌, ◌<◌, ◌≡◌, Bool, true, false, not, ◌&&◌, ◌||◌, eqb, length, get_or, set, take, drop, replicate, if◌then◌else◌}
 use Rattle.std.proofs.Common.{arith, add-one, sym, ap, ◌∙◌, eqb-true}
 use Rattle.std.proofs.Math.Path.{refl}
 use mathlib.Core.List.{List, [], ◌∷◌, ◌++◌, map}
 use Rattle.std.proofs.Math.Option.{Option, none, some}
 use Rattle.std.proofs.lemmas.Bool.{eqb-false}
 use Rattle.std.proofs.Math.ListN.{get_elem?}
-use Rattle.semantics.specs.Words.{if◌then◌else◌, Outcome, ok, fails, Passed, passed, ◌>>=◌, ◌>>◌, need, all, any, keep, is_empty}
+use Rattle.semantics.specs.Words.{Outcome, ok, fails, Passed, passed, ◌>>=◌, ◌>>◌, need, all, any, keep, is_empty}
 use Rattle.semantics.specs.Words.{insert, collect, sum, more, fewer}
 
 -- TESTS.

@@ -4,7 +4,7 @@ use Prim.Native.Nat.{ℕ, zero, suc, ◌+◌, ◌*◌, ◌-◌, ◌≤◌, ◌<�
 use native.Mathlib.Omega.{arith}
 use Rattle.std.proofs.Math.Nat.{suc-mul}
 use Rattle.std.proofs.Common.{zero-mul, ◌∙◌, length-set}
-use Rattle.std.specs.Prelude.{◌≡◌, Bool, true, false, not, eqb, ltb, get_or, set, drop}
+use Rattle.std.specs.Prelude.{◌≡◌, Bool, true, false, not, eqb, ltb, get_or, set, drop, if◌then◌else◌}
 use Rattle.std.proofs.Math.Path.{refl, ap}
 use mathlib.Core.List.{List, [], ◌∷◌, ◌++◌, map}
 use Rattle.std.proofs.Math.Option.{Option, none, some}
@@ -12,7 +12,7 @@ use borrow.Author.Tests.{ltb-true, ltb-false}
 use Rattle.std.proofs.Math.IntN.{ℤ, nat_abs}
 use Rattle.std.specs.Int.Signed.{le_z}
 use Rattle.std.proofs.Math.ListN.{length, length-append}
-use Rattle.semantics.specs.Words.{if◌then◌else◌, Outcome, ok, fails, is_empty, all, largest, more, fewer}
+use Rattle.semantics.specs.Words.{Outcome, ok, fails, is_empty, all, largest, more, fewer}
 use Rattle.semantics.specs.Numbers as No
 use Rattle.semantics.specs.Numbers.{lowest, of_returns}
 use Rattle.semantics.specs.Model.{Action, HOLD, PRIO, TRACE, SET, LSET, DO, PUTR, PUTB, PUTS, BECOME, REQ, TRY, WHILE, START}

@@ -1,10 +1,10 @@
 -- An accepted file has passed three times, each time record by record; and each record has a row of the table.
 -- Assumes nothing.
-use Rattle.std.specs.Prelude.{ℕ, ◌<◌, ◌≡◌, refl, List, [], ◌∷◌, Bool, ◌&&◌, eqb, leb, length, get_or, drop}
+use Rattle.std.specs.Prelude.{ℕ, ◌<◌, ◌≡◌, refl, List, [], ◌∷◌, Bool, ◌&&◌, eqb, leb, length, get_or, drop, if◌then◌else◌}
 use Rattle.std.proofs.Common.{arith, subst, ltb-true, eqb-true}
 use Rattle.std.proofs.Math.Bool.{true, false}
 use Rattle.std.proofs.Math.Dec.{ltb}
-use Rattle.semantics.specs.Words.{if◌then◌else◌, Outcome, ok, fails, Passed, passed, ◌>>◌, need, all}
+use Rattle.semantics.specs.Words.{Outcome, ok, fails, Passed, passed, ◌>>◌, need, all}
 use Rattle.semantics.specs.Numbers as No
 use Rattle.semantics.specs.Kinds as K
 use Rattle.semantics.specs.Model.{Model}

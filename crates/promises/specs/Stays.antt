@@ -2,7 +2,7 @@
 -- Assumes nothing.
 use Prim.Native.Nat.{ℕ, zero, suc, ◌+◌, ◌≤◌, ◌<◌}
 use native.Mathlib.Omega.{arith}
-use Rattle.std.specs.Prelude.{◌≡◌, ◌&&◌, get_or, set}
+use Rattle.std.specs.Prelude.{◌≡◌, ◌&&◌, get_or, set, if◌then◌else◌}
 use Rattle.std.proofs.Math.Path.{refl, ap}
 use Rattle.std.proofs.Common.{sym, subst, ◌∙◌, length-set}
 use mathlib.Core.List.{List, [], ◌∷◌, map}
@@ -13,7 +13,7 @@ use borrow.Author.Tests.{ltb-true, leb-true, le-leb, eqb-true, eq-eqb}
 use Rattle.std.proofs.Math.ListN.{length, length-map}
 use Rattle.std.proofs.Math.IntN.{ℤ, nat_abs}
 use Rattle.std.specs.Int.Signed.{le_z, non_neg}
-use Rattle.semantics.specs.Words.{if◌then◌else◌, Outcome, ok, ◌>>=◌, all, keep, is_empty, more, fewer, within}
+use Rattle.semantics.specs.Words.{Outcome, ok, ◌>>=◌, all, keep, is_empty, more, fewer, within}
 use Rattle.semantics.specs.Numbers as No
 use Rattle.semantics.specs.Numbers.{lowest, of_returns}
 use Rattle.semantics.specs.Model.{Expr, Share, Model, Action, HOLD, PRIO, TRACE, SET, LSET, DO, PUTR, PUTB, PUTS, BECOME, REQ}

@@ -1,4 +1,5 @@
 -- An event enters: the place that its key finds is the one where document 01 inserts it. Assumes nothing.
+use Rattle.std.specs.Prelude.{if◌then◌else◌}
 use Prim.Native.Nat.{ℕ, ◌+◌, ◌≤◌, ◌<◌}
 use native.Mathlib.Omega.{arith}
 use mathlib.Core.Path.{◌≡◌, ◌∙◌, ap, fun_ext}
@@ -6,7 +7,7 @@ use mathlib.Core.List.{List, [], ◌∷◌}
 use mathlib.Core.Bool.{Bool, true, false}
 use lib.Dec.{leb, ltb}
 use lib.ListN.{get_or, take, drop}
-use Rattle.semantics.specs.Words.{if◌then◌else◌, insert}
+use Rattle.semantics.specs.Words.{insert}
 use Rattle.semantics.specs.State.{State, Event, enter, sooner}
 use Rattle.promises.specs.Laws.{AllOf, all_map}
 use Rattle.base_numbers.specs.Row as Row

@@ -1,7 +1,7 @@
 -- What is read and what is changed of one process in the work. Assumes nothing.
-use Rattle.std.specs.Prelude.{ℕ, ◌-◌, ◌≤◌, ◌<◌, ◌≡◌, List, [], ◌∷◌, Bool, false, length, get_or}
+use Rattle.std.specs.Prelude.{ℕ, ◌-◌, ◌≤◌, ◌<◌, ◌≡◌, List, [], ◌∷◌, Bool, false, length, get_or, if◌then◌else◌}
 use Rattle.semantics.specs.Numbers as No
-use Rattle.semantics.specs.Words.{if◌then◌else◌, is_empty}
+use Rattle.semantics.specs.Words.{is_empty}
 use Rattle.semantics.specs.State.{State, Process, Frame, process, put, with_frames, onward}
 use Rattle.base_numbers.specs.Code as Code
 use Rattle.row_work.specs.Work.{work_of, Sized, Doing}

@@ -1,8 +1,8 @@
 -- Where a process stands, as the map and the bytes of a model tell, and whether its blocks are chained. Assumes nothing.
-use Rattle.std.specs.Prelude.{ℕ, ◌+◌, ◌-◌, ◌/◌, ◌%◌, ◌≤◌, ◌<◌, ◌≡◌, List, ◌∷◌, Bool, true, ◌&&◌, eqb, leb, ltb, length, get_or}
+use Rattle.std.specs.Prelude.{ℕ, ◌+◌, ◌-◌, ◌/◌, ◌%◌, ◌≤◌, ◌<◌, ◌≡◌, List, ◌∷◌, Bool, true, ◌&&◌, eqb, leb, ltb, length, get_or, if◌then◌else◌}
 use Rattle.std.proofs.Math.Option.{Option, none, some}
 use Rattle.semantics.specs.Numbers as No
-use Rattle.semantics.specs.Words.{if◌then◌else◌, any, up_to}
+use Rattle.semantics.specs.Words.{any, up_to}
 use Rattle.semantics.specs.Model.{Action, Model, block}
 use Rattle.semantics.specs.Bytes.{u16}
 use Rattle.semantics.specs.State.{State, Frame, process}

@@ -1,4 +1,5 @@
 -- The amounts of each resource: free, held and returning. Assumes nothing.
+use Rattle.std.specs.Prelude.{if◌then◌else◌}
 use Prim.Native.Nat.{ℕ, ◌+◌, ◌<◌}
 use native.Mathlib.Omega.{arith}
 use mathlib.Core.Path.{◌≡◌, sym, ◌∙◌, ap}
@@ -7,7 +8,6 @@ use mathlib.Core.Bool.{◌&&◌}
 use lib.Dec.{eqb}
 use lib.ListN.{length, get_or}
 use Rattle.semantics.specs.Numbers as No
-use Rattle.semantics.specs.Words.{if◌then◌else◌}
 use Rattle.semantics.specs.Model.{Model}
 use Rattle.semantics.specs.State.{State, Notice, wakes, returns_r, returns_b, nobody}
 use Rattle.semantics.specs.Sound.{returning, held_of, returning_of, adds_up}

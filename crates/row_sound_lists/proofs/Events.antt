@@ -1,4 +1,5 @@
 -- The test of the event list: it is in order, no time is before the clock, and each event fits. Assumes nothing.
+use Rattle.std.specs.Prelude.{if◌then◌else◌}
 use Prim.Native.Nat.{ℕ, suc, ◌+◌, ◌-◌, ◌/◌, ◌%◌, ◌≤◌, ◌<◌}
 use native.Mathlib.Omega.{arith}
 use native.Mathlib.Numerals.{add-one}
@@ -9,7 +10,7 @@ use lib.Dec.{eqb, leb, ltb}
 use borrow.Author.Tests.{le-leb}
 use lib.ListN.{length, get_or}
 use lib.IntN.{ℤ}
-use Rattle.semantics.specs.Words.{if◌then◌else◌, all, ordered, within}
+use Rattle.semantics.specs.Words.{all, ordered, within}
 use Rattle.semantics.specs.Model.{Model}
 use Rattle.semantics.specs.State.{State, Event, Notice, wakes, returns_r, returns_b, process, sooner}
 use Rattle.semantics.specs.Sound.{same, event_tied, event_in_range, return_in_range}

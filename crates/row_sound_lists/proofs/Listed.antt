@@ -1,4 +1,5 @@
 -- How often a place is listed, and that each living one is once. Assumes nothing.
+use Rattle.std.specs.Prelude.{if◌then◌else◌}
 use Prim.Native.Nat.{ℕ, suc, ◌+◌, ◌%◌, ◌<◌}
 use native.Mathlib.Omega.{arith}
 use mathlib.Core.Path.{◌≡◌, refl, sym, ◌∙◌, ap}
@@ -7,7 +8,7 @@ use mathlib.Core.Bool.{Bool, true, false, not, ◌&&◌}
 use lib.Dec.{eqb, ltb}
 use borrow.Author.Tests.{lt-ltb, ne_eqb, eq-eqb, eqb-true, eqb-false}
 use lib.ListN.{length, get_or}
-use Rattle.semantics.specs.Words.{if◌then◌else◌, is_empty, keep, collect}
+use Rattle.semantics.specs.Words.{is_empty, keep, collect}
 use Rattle.semantics.specs.State.{State, Frame, Slave, Waiter, Notice, wakes, returns_r, returns_b, Floor, empty, held_by, nobody}
 use Rattle.semantics.specs.State.{process, is_free}
 use Rattle.semantics.specs.Sound.{on_floor, woken, waiters_places, listed, in_one}

@@ -1,5 +1,6 @@
 -- The test of a place: nobody is there and it is vacant, or somebody whose numbers are in range and whose number is its own.
 -- Assumes nothing.
+use Rattle.std.specs.Prelude.{if◌then◌else◌}
 use Prim.Native.Nat.{ℕ, suc, ◌+◌, ◌/◌, ◌<◌}
 use native.Mathlib.Omega.{arith}
 use mathlib.Core.Path.{◌≡◌, refl, sym, ◌∙◌, ap}
@@ -10,7 +11,7 @@ use borrow.Author.Tests.{lt-ltb, eq-eqb, ne_eqb}
 use lib.ListN.{length, get_or}
 use lib.IntN.{pos}
 use lib.Signed.{mag, le_z}
-use Rattle.semantics.specs.Words.{if◌then◌else◌, all, keep, is_empty, within}
+use Rattle.semantics.specs.Words.{all, keep, is_empty, within}
 use Rattle.semantics.specs.Model.{Model}
 use Rattle.semantics.specs.State.{State, Process, Frame, Slave, nobody, process, is_free}
 use Rattle.semantics.specs.Value.{is_i32}

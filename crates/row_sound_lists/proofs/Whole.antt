@@ -1,4 +1,5 @@
 -- All the tests together decide soundness, the blocks apart. Assumes nothing.
+use Rattle.std.specs.Prelude.{if◌then◌else◌}
 use Prim.Native.Nat.{ℕ, ◌≤◌}
 use native.Mathlib.Omega.{arith}
 use mathlib.Core.Path.{◌≡◌, sym, ◌∙◌, ap}
@@ -8,7 +9,7 @@ use lib.Dec.{leb}
 use borrow.Author.Tests.{le-leb, lt-ltb, eq-eqb}
 use lib.ListN.{length}
 use lib.Signed.{mag}
-use Rattle.semantics.specs.Words.{if◌then◌else◌, all, keep, within}
+use Rattle.semantics.specs.Words.{all, keep, within}
 use Rattle.semantics.specs.Model.{Model}
 use Rattle.semantics.specs.State.{State, is_free}
 use Rattle.semantics.specs.Step.{is_return}

@@ -1,7 +1,7 @@
 -- The clauses of a sound run as tests on the numbers of the work. Assumes nothing.
-use Rattle.std.specs.Prelude.{ℕ, ◌+◌, ◌-◌, ◌*◌, ◌/◌, ◌%◌, ◌≤◌, ◌<◌, ◌≡◌, List, map, Bool, not, ◌&&◌, eqb, leb, ltb, length, get_or}
+use Rattle.std.specs.Prelude.{ℕ, ◌+◌, ◌-◌, ◌*◌, ◌/◌, ◌%◌, ◌≤◌, ◌<◌, ◌≡◌, List, map, Bool, not, ◌&&◌, eqb, leb, ltb, length, get_or, if◌then◌else◌}
 use Rattle.semantics.specs.Numbers as No
-use Rattle.semantics.specs.Words.{if◌then◌else◌, all, sum, up_to, within}
+use Rattle.semantics.specs.Words.{all, sum, up_to, within}
 use Rattle.base_numbers.specs.Row as Row
 use Rattle.base_numbers.specs.Process as Process
 use Rattle.base_numbers.specs.Word as Word

@@ -1,6 +1,6 @@
 -- Which rows show a state that the work can hold, and how the code tests it, part by part. Assumes nothing.
-use Rattle.std.specs.Prelude.{ℕ, zero, suc, ◌*◌, ◌/◌, ◌%◌, ◌≤◌, ◌≡◌, List, [], ◌∷◌, Bool, ◌&&◌, eqb, leb, ltb, length, get_or, take, drop}
-use Rattle.semantics.specs.Words.{if◌then◌else◌, all, within}
+use Rattle.std.specs.Prelude.{ℕ, zero, suc, ◌*◌, ◌/◌, ◌%◌, ◌≤◌, ◌≡◌, List, [], ◌∷◌, Bool, ◌&&◌, eqb, leb, ltb, length, get_or, take, drop, if◌then◌else◌}
+use Rattle.semantics.specs.Words.{all, within}
 use Rattle.semantics.specs.Numbers as No
 use Rattle.semantics.specs.Model.{Model}
 use Rattle.base_numbers.specs.Row as Row

@@ -1,13 +1,13 @@
 -- What stands where in the work, and what a number written there makes of the state. Assumes nothing.
 use Prim.Native.Nat.{ℕ, zero, suc, ◌+◌, ◌-◌, ◌*◌, ◌≤◌, ◌<◌}
 use Rattle.std.proofs.Common.{arith, sym, ◌∙◌, length-append, length-set}
-use Rattle.std.specs.Prelude.{◌≡◌, refl, replicate, ℤ, pos}
+use Rattle.std.specs.Prelude.{◌≡◌, refl, replicate, ℤ, pos, if◌then◌else◌}
 use Rattle.std.proofs.Math.Path.{ap}
 use mathlib.Core.List.{List, [], ◌∷◌, ◌++◌, map}
 use Rattle.std.proofs.Math.ListN.{length, get_or, set, length-map, get_or-append}
 use Rattle.std.proofs.lemmas.List.{length-replicate, set-append_left}
 use Rattle.semantics.specs.Numbers as No
-use Rattle.semantics.specs.Words.{if◌then◌else◌, collect}
+use Rattle.semantics.specs.Words.{collect}
 use Rattle.semantics.specs.State.{State, Process, Frame, Waiter, nobody, is_free, process, put}
 use Rattle.semantics.specs.State.{with_free, with_bins, with_globals}
 use Rattle.promises.specs.Laws.{all_map, ◌&◌}

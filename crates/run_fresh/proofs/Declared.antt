@@ -1,11 +1,11 @@
 -- What one more record adds to the model, by its kind and its bytes. Assumes nothing.
+use Rattle.std.specs.Prelude.{if◌then◌else◌}
 use Prim.Native.Nat.{ℕ, ◌<◌}
 use mathlib.Core.Path.{◌≡◌, sym, subst}
 use mathlib.Core.List.{List, ◌∷◌, ◌++◌, map}
 use mathlib.Core.Bool.{Bool}
 use lib.Dec.{eqb}
 use lib.ListN.{length}
-use Rattle.semantics.specs.Words.{if◌then◌else◌}
 use Rattle.semantics.specs.Kinds as K
 use Rattle.semantics.specs.Model.{Entity}
 use Rattle.semantics.specs.Bytes.{Raw, raw, u16, u32}

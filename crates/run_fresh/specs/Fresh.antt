@@ -1,6 +1,6 @@
 -- A fresh run: what is read of each record, and what the work shows in between. Assumes nothing.
-use Rattle.std.specs.Prelude.{ℕ, ◌+◌, ◌<◌, ◌≡◌, List, ◌++◌, ◌||◌, eqb, length, get_or, replicate}
-use Rattle.semantics.specs.Words.{if◌then◌else◌, collect}
+use Rattle.std.specs.Prelude.{ℕ, ◌+◌, ◌<◌, ◌≡◌, List, ◌++◌, ◌||◌, eqb, length, get_or, replicate, if◌then◌else◌}
+use Rattle.semantics.specs.Words.{collect}
 use Rattle.semantics.specs.Numbers as No
 use Rattle.semantics.specs.Kinds as K
 use Rattle.semantics.specs.Model.{Model}

@@ -1,4 +1,5 @@
 -- A step made aside, and then undone or taken over; and a step that fits in any case. Assumes nothing.
+use Rattle.std.specs.Prelude.{if◌then◌else◌}
 use Prim.Native.Nat.{ℕ, ◌+◌, ◌-◌, ◌*◌, ◌≤◌, ◌<◌}
 use native.Mathlib.Omega.{arith}
 use mathlib.Core.Path.{◌≡◌, refl, sym, ◌∙◌, ap, subst}
@@ -7,7 +8,7 @@ use borrow.Author.Tests.{le-leb, lt-leb}
 use borrow.Rule.Slice.PartMut.{put_mid}
 use lib.ListN.{length, take, drop, length-take, length-drop}
 use lib.Seq.{sets, sets-eq, length-take-le, take-length, take_at, drop-drop, drop-length}
-use Rattle.semantics.specs.Words.{Outcome, ok, fails, if◌then◌else◌}
+use Rattle.semantics.specs.Words.{Outcome, ok, fails}
 use Rattle.semantics.specs.Numbers as No
 use Rattle.semantics.specs.Walk.{Line, Next}
 use Rattle.semantics.specs.Journal.{journal, written}

@@ -1,4 +1,5 @@
 -- What the head of the work tells of the state before a step. Assumes nothing.
+use Rattle.std.specs.Prelude.{if◌then◌else◌}
 use Prim.Native.Nat.{ℕ, suc, ◌+◌, ◌≤◌}
 use native.Mathlib.Omega.{arith}
 use mathlib.Core.Path.{◌≡◌, refl, sym, ◌∙◌, ap}
@@ -7,7 +8,7 @@ use mathlib.Core.Bool.{Bool, true, false, not, ◌&&◌}
 use lib.Dec.{eqb}
 use borrow.Author.Tests.{ne_eqb}
 use lib.ListN.{length, get_or}
-use Rattle.semantics.specs.Words.{if◌then◌else◌, is_empty}
+use Rattle.semantics.specs.Words.{is_empty}
 use Rattle.semantics.specs.State.{State, Event, Floor, empty, held_by}
 use Rattle.semantics.specs.Run.{CLOSED, IDLE, LIMIT, Before, is_closed, is_idle, goes_on, nobody_has, before}
 use Rattle.row_work.specs.Work.{closed_word, floor_word, work_of}

@@ -1,6 +1,6 @@
 -- A step that is made only if its lines fit. Assumes nothing.
-use Rattle.std.specs.Prelude.{ℕ, leb, length}
-use Rattle.semantics.specs.Words.{if◌then◌else◌, Outcome, ok, fails}
+use Rattle.std.specs.Prelude.{ℕ, leb, length, if◌then◌else◌}
+use Rattle.semantics.specs.Words.{Outcome, ok, fails}
 use Rattle.semantics.specs.Numbers as No
 use Rattle.semantics.specs.Walk.{Next}
 

@@ -1,4 +1,5 @@
 -- What opening a run is, by what the check and the fresh work say. Assumes nothing.
+use Rattle.std.specs.Prelude.{if◌then◌else◌}
 use Prim.Native.Nat.{ℕ}
 use mathlib.Core.Path.{◌≡◌, refl, sym, ◌∙◌, ap, subst}
 use mathlib.Core.List.{List}
@@ -7,7 +8,6 @@ use borrow.Author.Tests.{eqb-true}
 use lib.ListN.{length, replicate}
 use lib.Dec.{eqb}
 use Rattle.semantics.specs.Numbers as No
-use Rattle.semantics.specs.Words.{if◌then◌else◌}
 use Rattle.semantics.specs.Bytes.{records_from}
 use Rattle.semantics.specs.Decode.{accepted, decode}
 use Rattle.semantics.specs.State.{fresh}

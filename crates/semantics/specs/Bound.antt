@@ -1,7 +1,7 @@
 -- The bound (document 01, "The bound").
 -- Assumes nothing.
-use Rattle.std.specs.Prelude.{ℕ, zero, suc, ◌+◌, ◌*◌, ◌-◌, List, [], ◌∷◌, map, Bool, true, false, ◌||◌, length, get_or, leb}
-use Rattle.semantics.specs.Words.{if◌then◌else◌, sum, largest, any}
+use Rattle.std.specs.Prelude.{ℕ, zero, suc, ◌+◌, ◌*◌, ◌-◌, List, [], ◌∷◌, map, Bool, true, false, ◌||◌, length, get_or, leb, if◌then◌else◌}
+use Rattle.semantics.specs.Words.{sum, largest, any}
 use Rattle.semantics.specs.Numbers as No
 use Rattle.semantics.specs.Kinds as K
 use Rattle.semantics.specs.Model.{Action, HOLD, PRIO, TRACE, SET, LSET, DO, PUTR, PUTB, PUTS, BECOME, REQ, TRY, WHILE}

@@ -1,7 +1,6 @@
 -- Numbers as bytes, little-endian, and a file cut into records (document 01, "The model file").
 -- Assumes nothing.
-use Rattle.std.specs.Prelude.{ℕ, zero, suc, ◌+◌, ◌*◌, ◌-◌, List, [], ◌∷◌, Bool, ◌&&◌, eqb, leb, ltb, length, get_or, take, drop, ℤ, pos, negsuc}
-use Rattle.semantics.specs.Words.{if◌then◌else◌}
+use Rattle.std.specs.Prelude.{ℕ, zero, suc, ◌+◌, ◌*◌, ◌-◌, List, [], ◌∷◌, Bool, ◌&&◌, eqb, leb, ltb, length, get_or, take, drop, ℤ, pos, negsuc, if◌then◌else◌}
 
 -- The number that begins k bytes into bs.
 abbrev pub u8 : List ℕ → ℕ → ℕ

@@ -1,11 +1,11 @@
 -- When a claim is met, what taking it does, who is barred, and which branch is taken or why none is (document 01, "One step", as
 -- document 02's requests Two and Three amend it).
 -- Assumes nothing.
-use Rattle.std.specs.Prelude.{ℕ, suc, List, [], ◌∷◌, ◌++◌, map, Bool, true, false, not, ◌&&◌, ◌||◌, eqb, leb, ltb, length, get_or, set, take, drop, ℤ, pos}
+use Rattle.std.specs.Prelude.{ℕ, suc, List, [], ◌∷◌, ◌++◌, map, Bool, true, false, not, ◌&&◌, ◌||◌, eqb, leb, ltb, length, get_or, set, take, drop, ℤ, pos, if◌then◌else◌}
 use Rattle.std.proofs.Math.Option.{Option, none, some}
 use Rattle.std.proofs.Math.ListN.{get_elem?}
 use Rattle.std.specs.Int.Signed.{lt_z, le_z}
-use Rattle.semantics.specs.Words.{if◌then◌else◌, all, any, is_empty, more, fewer}
+use Rattle.semantics.specs.Words.{all, any, is_empty, more, fewer}
 use Rattle.semantics.specs.Numbers as No
 use Rattle.semantics.specs.Model.{Kind, resource, bin, sync, Relation, below, at_most, equals, differs, at_least, above}
 use Rattle.semantics.specs.Model.{Item, get, condition, Claim, Action, HOLD, PRIO, TRACE, SET, LSET, DO, PUTR, PUTB, PUTS}

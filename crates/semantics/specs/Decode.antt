@@ -1,10 +1,10 @@
 -- From the bytes of a model file to the model, or the number and the place of its refusal: checks 1 to 10 in their order
 -- (document 01, "Numbers the desk sees").
 -- Assumes nothing.
-use Rattle.std.specs.Prelude.{ℕ, zero, suc, ◌+◌, ◌-◌, Bool, true, false, not, ◌&&◌, ◌||◌, leb, length, get_or, drop, replicate, ℤ}
+use Rattle.std.specs.Prelude.{ℕ, zero, suc, ◌+◌, ◌-◌, Bool, true, false, not, ◌&&◌, ◌||◌, leb, length, get_or, drop, replicate, ℤ, if◌then◌else◌}
 use mathlib.Core.List.{List, [], ◌∷◌, ◌++◌, map}
 use Rattle.std.proofs.Math.Dec.{eqb, ltb}
-use Rattle.semantics.specs.Words.{if◌then◌else◌, Outcome, ok, fails, Passed, passed, ◌>>=◌, ◌>>◌, need, all, collect}
+use Rattle.semantics.specs.Words.{Outcome, ok, fails, Passed, passed, ◌>>=◌, ◌>>◌, need, all, collect}
 use Rattle.semantics.specs.Words.{largest, more}
 use Rattle.semantics.specs.Numbers as No
 use Rattle.semantics.specs.Kinds as K

@@ -1,10 +1,10 @@
 -- The table of record kinds (document 01, "The model file"; samplers and op 10: document 02, One): what a record of each kind
 -- must be by checks 5, 6 and 7, what it names, and what it says.
 -- Assumes nothing.
-use Rattle.std.specs.Prelude.{ℕ, zero, suc, ◌+◌, ◌*◌, ◌/◌, ◌%◌, List, [], ◌∷◌, map, Bool, true, false, not, ◌&&◌, ◌||◌, eqb, leb, length, get_or, take, drop, ℤ, pos, ◌-ℤ◌}
+use Rattle.std.specs.Prelude.{ℕ, zero, suc, ◌+◌, ◌*◌, ◌/◌, ◌%◌, List, [], ◌∷◌, map, Bool, true, false, not, ◌&&◌, ◌||◌, eqb, leb, length, get_or, take, drop, ℤ, pos, ◌-ℤ◌, if◌then◌else◌}
 use Rattle.std.proofs.Math.Option.{Option, none, some}
 use Rattle.std.specs.Int.Signed.{le_z}
-use Rattle.semantics.specs.Words.{if◌then◌else◌, Outcome, Passed, ◌>>◌, need, all, any, within}
+use Rattle.semantics.specs.Words.{Outcome, Passed, ◌>>◌, need, all, any, within}
 use Rattle.semantics.specs.Numbers as No
 use Rattle.semantics.specs.Kinds as K
 use Rattle.semantics.specs.Model.{Expr, literal, global, local, add, subtract, multiply, lesser, greater, negate, draw}

@@ -1,8 +1,8 @@
 -- A run with a step limit and room for journal lines; the call on an open run; several calls in a row (document 01, "Numbers the
 -- desk sees").
 -- Assumes nothing.
-use Rattle.std.specs.Prelude.{ℕ, zero, suc, ◌+◌, ◌-◌, List, [], ◌∷◌, ◌++◌, Bool, true, false, ◌&&◌, eqb, leb, length}
-use Rattle.semantics.specs.Words.{if◌then◌else◌, ok, fails, is_empty}
+use Rattle.std.specs.Prelude.{ℕ, zero, suc, ◌+◌, ◌-◌, List, [], ◌∷◌, ◌++◌, Bool, true, false, ◌&&◌, eqb, leb, length, if◌then◌else◌}
+use Rattle.semantics.specs.Words.{ok, fails, is_empty}
 use Rattle.semantics.specs.Numbers as No
 use Rattle.semantics.specs.Model.{Model}
 use Rattle.semantics.specs.Decode.{refused, accepted, decode}

@@ -1,10 +1,10 @@
 -- When an open run is sound (document 01, "Numbers the desk sees"): its clauses in their order, as tests that compute.
 -- Assumes nothing.
-use Rattle.std.specs.Prelude.{ℕ, ◌+◌, List, [], ◌∷◌, ◌++◌, map, Bool, true, false, not, ◌&&◌, ◌||◌, eqb, leb, ltb, length, get_or, ℤ, pos}
+use Rattle.std.specs.Prelude.{ℕ, ◌+◌, List, [], ◌∷◌, ◌++◌, map, Bool, true, false, not, ◌&&◌, ◌||◌, eqb, leb, ltb, length, get_or, ℤ, pos, if◌then◌else◌}
 use Rattle.std.proofs.Math.Option.{Option, none, some}
 use Rattle.std.proofs.Math.ListN.{get_elem?}
 use Rattle.std.specs.Int.Signed.{le_z}
-use Rattle.semantics.specs.Words.{if◌then◌else◌, all, any, keep, is_empty, ordered, collect, sum, up_to, within}
+use Rattle.semantics.specs.Words.{all, any, keep, is_empty, ordered, collect, sum, up_to, within}
 use Rattle.semantics.specs.Numbers as No
 use Rattle.semantics.specs.Kinds as K
 use Rattle.semantics.specs.Model.{Model, block, Action, HOLD, PRIO, TRACE, SET, LSET, DO, PUTR, PUTB, PUTS, BECOME, REQ}

@@ -3,12 +3,12 @@
 -- Assumes nothing.
 use Prim.Native.Nat.{ℕ, zero, suc, ◌+◌, ◌-◌}
 use mathlib.Core.List.{List, [], ◌∷◌, map}
-use Rattle.std.specs.Prelude.{Bool, true, false, ◌&&◌, length, get_or, set, pos}
+use Rattle.std.specs.Prelude.{Bool, true, false, ◌&&◌, length, get_or, set, pos, if◌then◌else◌}
 use Rattle.std.proofs.Math.Option.{none, some}
 use Rattle.std.proofs.Math.Dec.{eqb, leb, ltb}
 use Rattle.std.proofs.Math.IntN.{nat_abs}
 use Rattle.std.specs.Int.Signed.{le_z, non_neg}
-use Rattle.semantics.specs.Words.{if◌then◌else◌, Outcome, ok, fails, ◌>>=◌, ◌>>◌, need, all, keep, is_empty, more, fewer}
+use Rattle.semantics.specs.Words.{Outcome, ok, fails, ◌>>=◌, ◌>>◌, need, all, keep, is_empty, more, fewer}
 use Rattle.semantics.specs.Numbers as No
 use Rattle.semantics.specs.Kinds as K
 use Rattle.semantics.specs.Model.{Expr, Share, Model, Action, HOLD, PRIO, TRACE, SET, LSET, DO, PUTR, PUTB, PUTS, BECOME}

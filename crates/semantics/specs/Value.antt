@@ -1,8 +1,8 @@
 -- The value of an expression (document 01, "The model file", and fault 21), and the seeds after its draws (document 02, One).
 -- Assumes nothing.
-use Rattle.std.specs.Prelude.{ℕ, List, Bool, ltb, get_or, set, ℤ, pos, neg_ℤ, ◌+ℤ◌, ◌-ℤ◌, ◌*ℤ◌}
+use Rattle.std.specs.Prelude.{ℕ, List, Bool, ltb, get_or, set, ℤ, pos, neg_ℤ, ◌+ℤ◌, ◌-ℤ◌, ◌*ℤ◌, if◌then◌else◌}
 use Rattle.std.specs.Int.Signed.{le_z, mag}
-use Rattle.semantics.specs.Words.{if◌then◌else◌, Outcome, ok, ◌>>=◌, ◌>>◌, need}
+use Rattle.semantics.specs.Words.{Outcome, ok, ◌>>=◌, ◌>>◌, need}
 use Rattle.semantics.specs.Numbers as No
 use Rattle.semantics.specs.Model.{Expr, literal, global, local, add, subtract, multiply, lesser, greater, negate, draw}
 use Rattle.semantics.specs.Model.{the_clock, Model, Sampler, sampler}

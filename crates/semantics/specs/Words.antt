@@ -1,14 +1,9 @@
--- The plain words that the definitions are written in: a choice, an outcome, and a few words on lists.
+-- The plain words that the definitions are written in: an outcome, and a few words on lists; the choice is the library's.
 -- Assumes nothing.
-use Rattle.std.specs.Prelude.{ℕ, zero, suc, ◌+◌, ◌-◌, max, List, [], ◌∷◌, ◌++◌, Bool, true, false, ◌&&◌, ◌||◌, leb, get_or, set}
+use Rattle.std.specs.Prelude.{ℕ, zero, suc, ◌+◌, ◌-◌, max, List, [], ◌∷◌, ◌++◌, Bool, true, false, ◌&&◌, ◌||◌, leb, get_or, set, if◌then◌else◌}
 
-infix 5 if◌then◌else◌
 infixr 10 ◌>>=◌
 infixr 10 ◌>>◌
-abbrev pub if◌then◌else◌ : {A : Type 0} → Bool → A → A → A
-if◌then◌else◌ true x y = x
-if◌then◌else◌ false x y = y
-
 -- A value, or the number under which document 01's table refuses a model or stops a step.
 pub data Outcome (A : Type 0) : Type 0 where
   ok : A → Outcome A

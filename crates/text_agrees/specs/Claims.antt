@@ -5,12 +5,12 @@ use native.Mathlib.Omega.{arith}
 use Rattle.std.proofs.Math.Path.{◌≡◌, refl, sym, ap, subst}
 use Rattle.std.proofs.Common.{◌∙◌, length-append}
 use mathlib.Core.List.{List, [], ◌∷◌, ◌++◌, map, append_assoc, append-nil}
-use Rattle.std.specs.Prelude.{Bool, ◌||◌}
+use Rattle.std.specs.Prelude.{Bool, ◌||◌, if◌then◌else◌}
 use Rattle.std.proofs.Math.Bool.{true, false}
 use Rattle.std.proofs.Math.Dec.{leb, ltb, eqb}
 use Rattle.std.proofs.Math.ListN.{length, set}
 use borrow.Author.Tests.{ltb-false, le-ltb, le-leb, ne_eqb}
-use Rattle.semantics.specs.Words.{if◌then◌else◌, collect}
+use Rattle.semantics.specs.Words.{collect}
 use Rattle.semantics.specs.Kinds as K
 use Rattle.semantics.specs.Model as M
 use Rattle.text_semantics.specs.Numbers as No

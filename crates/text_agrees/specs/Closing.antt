@@ -1,11 +1,10 @@
 -- At a cut only braces and the end are still to come: what these make of the machine's reader, and what its sheet is then.
 -- Assumes nothing.
-use Rattle.std.specs.Prelude.{ℕ, zero, suc, ◌+◌, ◌≤◌, ◌≡◌, Bool, true, false, not, ◌&&◌, ◌||◌, ◌⊎◌, T, eqb, leb, ltb, length}
+use Rattle.std.specs.Prelude.{ℕ, zero, suc, ◌+◌, ◌≤◌, ◌≡◌, Bool, true, false, not, ◌&&◌, ◌||◌, ◌⊎◌, T, eqb, leb, ltb, length, if◌then◌else◌}
 use Rattle.std.proofs.Common.{arith, sym, ◌∙◌, inl, inr, ne_eqb}
 use Rattle.std.proofs.Math.Path.{refl, ap, subst}
 use mathlib.Core.List.{List, [], ◌∷◌, ◌++◌, append-nil}
 use Rattle.std.proofs.Math.Option.{Option, none, some}
-use Rattle.semantics.specs.Words.{if◌then◌else◌}
 use Rattle.semantics.specs.Words as W
 use Rattle.semantics.specs.Numbers as F
 use Rattle.semantics.specs.Kinds as L

@@ -1,14 +1,13 @@
 -- What a token makes of the clue alone: all else of a reader may be forgotten, where only names are asked for.
 -- Assumes nothing.
 use Prim.Native.Nat.{ℕ, zero, suc, ◌+◌}
-use Rattle.std.specs.Prelude.{◌≡◌, List, [], ◌∷◌, Bool, true, false, ◌&&◌, ◌||◌, leb}
+use Rattle.std.specs.Prelude.{◌≡◌, List, [], ◌∷◌, Bool, true, false, ◌&&◌, ◌||◌, leb, if◌then◌else◌}
 use Rattle.std.proofs.Math.Path.{refl, ap}
 use Rattle.std.proofs.Common.{◌∙◌, ap₂}
 use Rattle.std.proofs.Math.Option.{Option, none, some}
 use Rattle.std.proofs.Math.Dec.{eqb, ltb}
 use Rattle.std.proofs.Math.ListN.{length}
 use Rattle.text_semantics.specs.Meaning.{kind_of, number_of}
-use Rattle.semantics.specs.Words.{if◌then◌else◌}
 use Rattle.semantics.specs.Words as W
 use Rattle.semantics.specs.Kinds as K
 use Rattle.semantics.specs.Numbers as F

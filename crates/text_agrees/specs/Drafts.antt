@@ -2,9 +2,8 @@
 -- Assumes nothing.
 use Prim.Native.Nat.{ℕ, ◌+◌, min}
 use Rattle.std.proofs.Common.{arith, sym, ◌∙◌, append_assoc, length-append, take_at, drop_at, lt-ltb, ltb-true, ltb-false}
-use Rattle.std.specs.Prelude.{◌≡◌, refl, List, [], ◌++◌, Bool, true, false, ◌||◌, ltb, length, take, drop}
+use Rattle.std.specs.Prelude.{◌≡◌, refl, List, [], ◌++◌, Bool, true, false, ◌||◌, ltb, length, take, drop, if◌then◌else◌}
 use Rattle.std.proofs.Math.Path.{ap}
-use Rattle.semantics.specs.Words.{if◌then◌else◌}
 use Rattle.text_machine.specs.Entry.{Draft, KEPT, FULL, with_body, put, put_at}
 
 -- The length of a body is its size, as long as it is kept.

@@ -1,13 +1,12 @@
 -- The machine writes an expression as its nodes: what the tokens of an expression make of a draft is its nodes, put behind the
 -- body.
 -- Assumes nothing.
-use Rattle.std.specs.Prelude.{ℕ, suc, ◌+◌, ◌≡◌, Bool, true, false, ◌&&◌, leb, length}
+use Rattle.std.specs.Prelude.{ℕ, suc, ◌+◌, ◌≡◌, Bool, true, false, ◌&&◌, leb, length, if◌then◌else◌}
 use Rattle.std.proofs.Common.{arith, ◌∙◌, lt-ltb}
 use Rattle.std.proofs.Math.Path.{refl, ap}
 use mathlib.Core.List.{List, [], ◌∷◌, ◌++◌}
 use Rattle.std.proofs.Math.Option.{Option}
 use Rattle.std.proofs.Math.Dec.{eqb}
-use Rattle.semantics.specs.Words.{if◌then◌else◌}
 use Rattle.semantics.specs.Kinds as K
 use Rattle.semantics.specs.Model as M
 use Rattle.semantics.specs.Model.{Expr}

@@ -1,10 +1,10 @@
 -- Every record that the machine has written down passed checks 5 to 7 when it was: what is so of every reader that it comes to.
 -- Assumes nothing.
-use Rattle.std.specs.Prelude.{ℕ, zero, suc, ◌+◌, ◌-◌, ◌/◌, ◌%◌, ◌≤◌, ◌<◌, ◌≡◌, refl, List, [], ◌∷◌, ◌++◌, map, Bool, true, false, not, ◌&&◌, ◌||◌, ◌⊎◌, eqb, leb, ltb, length, get_or, take, drop}
+use Rattle.std.specs.Prelude.{ℕ, zero, suc, ◌+◌, ◌-◌, ◌/◌, ◌%◌, ◌≤◌, ◌<◌, ◌≡◌, refl, List, [], ◌∷◌, ◌++◌, map, Bool, true, false, not, ◌&&◌, ◌||◌, ◌⊎◌, eqb, leb, ltb, length, get_or, take, drop, if◌then◌else◌}
 use Rattle.std.proofs.Common.{arith, sym, ◌∙◌, ap, subst, append-nil, append_assoc, inl, inr, length-append, take_at, drop_at, eqb-true, eq-eqb, ne_eqb}
 use Rattle.std.proofs.Math.Option.{Option, none, some}
 use Rattle.std.proofs.lemmas.Bool.{eqb-false}
-use Rattle.semantics.specs.Words.{if◌then◌else◌, Outcome, ok, fails, Passed, passed, ◌>>◌, need, any, keep, collect}
+use Rattle.semantics.specs.Words.{Outcome, ok, fails, Passed, passed, ◌>>◌, need, any, keep, collect}
 use Rattle.semantics.specs.Words as W
 use Rattle.semantics.specs.Numbers as F
 use Rattle.semantics.specs.Kinds as K

@@ -1,10 +1,9 @@
 -- How the tree of a text grows from cut to cut: a line is put at its open end, and what that does to its spelling.
 -- Assumes nothing.
-use Rattle.std.specs.Prelude.{ℕ, zero, suc, ◌+◌, ◌≡◌, refl, List, [], ◌∷◌, ◌++◌, Bool, true, false, ◌⊎◌, length}
+use Rattle.std.specs.Prelude.{ℕ, zero, suc, ◌+◌, ◌≡◌, refl, List, [], ◌∷◌, ◌++◌, Bool, true, false, ◌⊎◌, length, if◌then◌else◌}
 use Rattle.std.proofs.Common.{arith, sym, ◌∙◌, ap, ap₂, subst, append_assoc, inl, inr, length-append}
 use Rattle.std.proofs.Math.Option.{Option, none, some}
 use Rattle.promises.specs.Laws.{not_some, if_has, AllOf}
-use Rattle.semantics.specs.Words.{if◌then◌else◌}
 use Rattle.semantics.specs.Model as M
 use Rattle.text_semantics.specs.Token as Tk
 use Rattle.text_semantics.specs.Token.{Token, mark}

@@ -1,9 +1,9 @@
 -- Names that stay known: what a class line that comes later finds of those before it, and when a body is awaited.
 -- Assumes nothing.
-use Rattle.std.specs.Prelude.{ℕ, ◌≡◌, refl, List, [], ◌∷◌, ◌++◌, map, Bool, true, false, not, ◌&&◌, ◌||◌}
+use Rattle.std.specs.Prelude.{ℕ, ◌≡◌, refl, List, [], ◌∷◌, ◌++◌, map, Bool, true, false, not, ◌&&◌, ◌||◌, if◌then◌else◌}
 use Rattle.std.proofs.Common.{sym, ◌∙◌, ap, subst}
 use Rattle.std.proofs.Math.Option.{none}
-use Rattle.semantics.specs.Words.{if◌then◌else◌, any, keep}
+use Rattle.semantics.specs.Words.{any, keep}
 use Rattle.promises.specs.Laws.{no_way, or-false, not-true, if_has}
 use Rattle.text_semantics.specs.Numbers as No
 use Rattle.text_semantics.specs.Lexing.{same_bytes}

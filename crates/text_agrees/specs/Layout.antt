@@ -2,11 +2,10 @@
 -- Assumes nothing.
 use Prim.Native.Nat.{ℕ, suc, ◌+◌, ◌*◌, ◌≤◌}
 use Rattle.std.proofs.Common.{arith, sym, ◌∙◌, ap, ap₂, subst, length-append, eq-eqb, le-leb}
-use Rattle.std.specs.Prelude.{◌≡◌, Bool, false, eqb, length, get_or}
+use Rattle.std.specs.Prelude.{◌≡◌, Bool, false, eqb, length, get_or, if◌then◌else◌}
 use Rattle.std.proofs.Math.Path.{refl}
 use mathlib.Core.List.{List, [], ◌∷◌, ◌++◌, append-nil, append_assoc}
 use Rattle.std.proofs.Math.Option.{Option, none}
-use Rattle.semantics.specs.Words.{if◌then◌else◌}
 use Rattle.semantics.specs.Kinds as K
 use Rattle.semantics.specs.Record as R
 use Rattle.promises.specs.Laws.{AllOf, all_map, only, only-add, only_none, once, over-append}

@@ -2,10 +2,10 @@
 -- Assumes nothing.
 use Prim.Native.Nat.{ℕ, zero, suc, ◌+◌, ◌≤◌, ◌<◌}
 use Rattle.std.proofs.Common.{arith, ◌∙◌, ap, append-nil, append_assoc, eq-eqb, ne_eqb, le-leb, leb-true, leb-false}
-use Rattle.std.specs.Prelude.{◌≡◌, List, [], ◌∷◌, ◌++◌, Bool, true, false, eqb, leb, length}
+use Rattle.std.specs.Prelude.{◌≡◌, List, [], ◌∷◌, ◌++◌, Bool, true, false, eqb, leb, length, if◌then◌else◌}
 use Rattle.std.proofs.Math.Path.{refl, sym, ap₂}
 use Rattle.std.proofs.lemmas.Bool.{lt-leb}
-use Rattle.semantics.specs.Words.{if◌then◌else◌, keep, collect}
+use Rattle.semantics.specs.Words.{keep, collect}
 use Rattle.semantics.specs.Kinds as K
 use Rattle.semantics.specs.Record as R
 use Rattle.promises.specs.Laws.{AllOf, all_map, all_append}

@@ -1,12 +1,11 @@
 -- What a token makes of a draft's kind, and what each change of a sheet makes of the records that it has counted.
 -- Assumes nothing.
-use Rattle.std.specs.Prelude.{ℕ, ◌+◌, ◌≡◌, List, Bool, true, false, ◌&&◌, ◌||◌, leb, ltb, length, get_or}
+use Rattle.std.specs.Prelude.{ℕ, ◌+◌, ◌≡◌, List, Bool, true, false, ◌&&◌, ◌||◌, leb, ltb, length, get_or, if◌then◌else◌}
 use Rattle.std.proofs.Common.{arith, ◌∙◌, length-set, get_or-set_other}
 use Rattle.std.proofs.Math.Path.{refl}
 use Rattle.std.proofs.Math.Option.{Option, none, some}
 use Rattle.std.proofs.Math.Dec.{eqb}
 use Rattle.text_semantics.specs.Meaning.{kind_of, number_of}
-use Rattle.semantics.specs.Words.{if◌then◌else◌}
 use Rattle.semantics.specs.Words as W
 use Rattle.semantics.specs.Kinds as K
 use Rattle.semantics.specs.Numbers as F

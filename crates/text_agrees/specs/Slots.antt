@@ -1,9 +1,9 @@
 -- The records of declarations so far: what is written of each class now, and what will stand there in the end.
 -- Assumes nothing.
-use Rattle.std.specs.Prelude.{ℕ, suc, ◌+◌, ◌≡◌, refl, List, [], ◌∷◌, ◌++◌, map, Bool, true, false, not, ◌&&◌, ◌||◌, eqb, length, get_or, take, drop}
+use Rattle.std.specs.Prelude.{ℕ, suc, ◌+◌, ◌≡◌, refl, List, [], ◌∷◌, ◌++◌, map, Bool, true, false, not, ◌&&◌, ◌||◌, eqb, length, get_or, take, drop, if◌then◌else◌}
 use Rattle.std.proofs.Common.{arith, sym, ◌∙◌, ap, ap₂, subst, append_assoc, length-append, eqb-true, eq-eqb}
 use Rattle.std.proofs.Math.Seq.{take-append_seam, drop-append-add}
-use Rattle.semantics.specs.Words.{if◌then◌else◌, any, collect}
+use Rattle.semantics.specs.Words.{any, collect}
 use Rattle.semantics.specs.Kinds as K
 use Rattle.semantics.specs.Record as R
 use Rattle.semantics.specs.Record.{Entry}

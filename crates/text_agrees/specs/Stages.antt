@@ -2,7 +2,7 @@
 -- Assumes nothing.
 use Prim.Native.Nat.{ℕ, zero, suc, ◌+◌, ◌≤◌, ◌<◌}
 use Rattle.std.proofs.Common.{arith, sym, ◌∙◌, inl, inr, get_or-set_other}
-use Rattle.std.specs.Prelude.{◌≡◌, Bool, not, ◌&&◌, ◌||◌, ◌⊎◌, length, set}
+use Rattle.std.specs.Prelude.{◌≡◌, Bool, not, ◌&&◌, ◌||◌, ◌⊎◌, length, set, if◌then◌else◌}
 use Rattle.std.proofs.Math.Path.{refl, ap, subst}
 use mathlib.Core.List.{List, [], ◌∷◌, ◌++◌, map}
 use Rattle.std.proofs.Math.Bool.{true, false}
@@ -10,7 +10,7 @@ use Rattle.std.proofs.Math.Option.{Option, none, some}
 use Rattle.std.proofs.Math.Dec.{eqb, leb, ltb}
 use Rattle.std.proofs.Math.ListN.{get_or}
 use borrow.Author.Tests.{lt-leb, ltb-true, ltb-false, not-false, not-true, eq-eqb, ne_eqb}
-use Rattle.semantics.specs.Words.{if◌then◌else◌, Outcome, Passed, ◌>>◌, need}
+use Rattle.semantics.specs.Words.{Outcome, Passed, ◌>>◌, need}
 use Rattle.semantics.specs.Words as W
 use Rattle.semantics.specs.Kinds as K
 use Rattle.semantics.specs.Numbers as F

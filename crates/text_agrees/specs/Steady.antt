@@ -1,8 +1,7 @@
 -- A token in the middle of a declaration or action leaves the draft's kind, and what its next name is for.
 -- Assumes nothing.
-use Rattle.std.specs.Prelude.{ℕ, ◌≡◌, refl, List, Bool, true, false, ◌&&◌, ◌||◌, ltb, length}
+use Rattle.std.specs.Prelude.{ℕ, ◌≡◌, refl, List, Bool, true, false, ◌&&◌, ◌||◌, ltb, length, if◌then◌else◌}
 use Rattle.std.proofs.Math.Dec.{eqb, leb}
-use Rattle.semantics.specs.Words.{if◌then◌else◌}
 use Rattle.semantics.specs.Kinds as K
 use Rattle.text_semantics.specs.Token as T
 use Rattle.text_semantics.specs.Token.{Token, name, number, mark, bad}

@@ -1,10 +1,10 @@
 -- How many names of each kind are known, by the records that have been counted: so there is room for all of them.
 -- Assumes nothing.
-use Rattle.std.specs.Prelude.{ℕ, zero, suc, ◌+◌, ◌≤◌, ◌<◌, ◌≡◌, refl, List, [], ◌∷◌, ◌++◌, map, Bool, true, false, not, eqb, length, get_or, replicate}
+use Rattle.std.specs.Prelude.{ℕ, zero, suc, ◌+◌, ◌≤◌, ◌<◌, ◌≡◌, refl, List, [], ◌∷◌, ◌++◌, map, Bool, true, false, not, eqb, length, get_or, replicate, if◌then◌else◌}
 use Rattle.std.proofs.Common.{arith, sym, ◌∙◌, ap, length-set, length-append, get_or-set_same, get_or-set_other, eqb-true, eq-eqb, ne_eqb}
 use Rattle.std.proofs.lemmas.List.{length-map}
 use Rattle.std.proofs.lemmas.Bool.{eqb-false}
-use Rattle.semantics.specs.Words.{if◌then◌else◌, keep}
+use Rattle.semantics.specs.Words.{keep}
 use Rattle.semantics.specs.Words as W
 use Rattle.semantics.specs.Kinds as K
 use Rattle.semantics.specs.Numbers as F

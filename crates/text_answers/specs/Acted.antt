@@ -2,13 +2,13 @@
 -- Assumes nothing.
 use Prim.Native.Nat.{ℕ, zero, suc}
 use Rattle.std.proofs.Common.{arith, sym, ◌∙◌}
-use Rattle.std.specs.Prelude.{◌≡◌, Bool, true, length}
+use Rattle.std.specs.Prelude.{◌≡◌, Bool, true, length, if◌then◌else◌}
 use Rattle.std.proofs.Math.Path.{refl, ap, subst}
 use mathlib.Core.List.{List, [], ◌∷◌, ◌++◌}
 use Rattle.std.proofs.Math.Bool.{false}
 use Rattle.std.proofs.Math.Dec.{eqb}
 use borrow.Author.Tests.{ne_eqb}
-use Rattle.semantics.specs.Words.{if◌then◌else◌, collect}
+use Rattle.semantics.specs.Words.{collect}
 use Rattle.semantics.specs.Kinds as K
 use Rattle.semantics.specs.Model as M
 use Rattle.semantics.specs.Model.{Action}

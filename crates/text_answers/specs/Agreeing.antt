@@ -1,9 +1,9 @@
 -- At every cut the machine's limits say what the checks say of the records so far: so the machine answers what it should.
 -- Assumes nothing.
-use Rattle.std.specs.Prelude.{ℕ, ◌≤◌, ◌<◌, ◌≡◌, refl, List, [], ◌∷◌, ◌++◌, Bool, true, false, ◌⊎◌, length, get_or}
+use Rattle.std.specs.Prelude.{ℕ, ◌≤◌, ◌<◌, ◌≡◌, refl, List, [], ◌∷◌, ◌++◌, Bool, true, false, ◌⊎◌, length, get_or, if◌then◌else◌}
 use Rattle.std.proofs.Common.{arith, sym, ◌∙◌, ap, ap₂, inl, inr}
 use Rattle.std.proofs.Math.Option.{none, some}
-use Rattle.semantics.specs.Words.{if◌then◌else◌, passed}
+use Rattle.semantics.specs.Words.{passed}
 use Rattle.semantics.specs.Numbers as F
 use Rattle.semantics.specs.Kinds as K
 use Rattle.semantics.specs.Decode as D

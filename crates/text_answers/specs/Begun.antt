@@ -2,13 +2,13 @@
 -- Assumes nothing.
 use Prim.Native.Nat.{ℕ, ◌+◌}
 use native.Mathlib.Omega.{arith}
-use Rattle.std.specs.Prelude.{◌≡◌, Bool, true, false, eqb, get_or}
+use Rattle.std.specs.Prelude.{◌≡◌, Bool, true, false, eqb, get_or, if◌then◌else◌}
 use Rattle.std.proofs.Math.Path.{refl, ap}
 use Rattle.std.proofs.Common.{sym, ◌∙◌, length-append}
 use mathlib.Core.List.{List, [], ◌∷◌, ◌++◌, append_assoc}
 use Rattle.std.proofs.Math.Option.{none}
 use Rattle.std.proofs.Math.ListN.{length}
-use Rattle.semantics.specs.Words.{if◌then◌else◌, any}
+use Rattle.semantics.specs.Words.{any}
 use Rattle.semantics.specs.Kinds as K
 use Rattle.semantics.specs.Decode.{none_seen}
 use Rattle.promises.specs.Laws.{AllOf, all_split, all_get, all_replicate, over-append, once, if_has}

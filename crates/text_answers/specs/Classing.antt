@@ -2,7 +2,7 @@
 -- Assumes nothing.
 use Prim.Native.Nat.{ℕ, ◌+◌, ◌≤◌, ◌<◌}
 use Rattle.std.proofs.Common.{arith, ◌∙◌, ap₂, subst}
-use Rattle.std.specs.Prelude.{◌≡◌, Bool, eqb, ltb, get_or}
+use Rattle.std.specs.Prelude.{◌≡◌, Bool, eqb, ltb, get_or, if◌then◌else◌}
 use Rattle.std.proofs.Math.Path.{refl, sym, ap}
 use mathlib.Core.List.{List, [], ◌∷◌, ◌++◌, map, append-nil, append_assoc}
 use Rattle.std.proofs.Math.Bool.{true, false, not}
@@ -11,7 +11,7 @@ use Rattle.std.proofs.Math.ListN.{length}
 use Rattle.std.proofs.lemmas.List.{length-map}
 use Rattle.std.proofs.Math.Seq.{get_or-append_seam}
 use Rattle.std.proofs.lemmas.Bool.{lt-leb, eqb-false}
-use Rattle.semantics.specs.Words.{if◌then◌else◌, any, keep, more}
+use Rattle.semantics.specs.Words.{any, keep, more}
 use Rattle.semantics.specs.Kinds as K
 use Rattle.semantics.specs.Numbers as F
 use Rattle.semantics.specs.Record as R

@@ -1,10 +1,10 @@
 -- When the draft of the machine's reader is a record, and what the machine's test of the draft says then.
 -- Assumes nothing.
-use Rattle.std.specs.Prelude.{ℕ, ◌+◌, ◌≡◌, List, [], Bool, ◌&&◌, ◌||◌, ltb, length, get_or, set}
+use Rattle.std.specs.Prelude.{ℕ, ◌+◌, ◌≡◌, List, [], Bool, ◌&&◌, ◌||◌, ltb, length, get_or, set, if◌then◌else◌}
 use Rattle.std.proofs.Common.{arith, sym, ◌∙◌, get_or-set_same, get_or-set_other, ltb-true}
 use Rattle.std.proofs.Math.Path.{refl, ap}
 use Rattle.std.proofs.Math.Bool.{true, false, not}
-use Rattle.semantics.specs.Words.{if◌then◌else◌, Outcome, ok, fails, Passed, passed}
+use Rattle.semantics.specs.Words.{Outcome, ok, fails, Passed, passed}
 use Rattle.semantics.specs.Kinds as K
 use Rattle.semantics.specs.Model as M
 use Rattle.semantics.specs.Model.{Action}

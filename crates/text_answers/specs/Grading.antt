@@ -1,11 +1,11 @@
 -- The checks at a cut say what the machine's limits say: on the records of a text that has grown by one line.
 -- Assumes nothing.
-use Rattle.std.specs.Prelude.{ℕ, zero, suc, ◌+◌, ◌≤◌, ◌<◌, ◌≡◌, refl, List, [], ◌∷◌, ◌++◌, Bool, true, false, ◌||◌, eqb, length, get_or}
+use Rattle.std.specs.Prelude.{ℕ, zero, suc, ◌+◌, ◌≤◌, ◌<◌, ◌≡◌, refl, List, [], ◌∷◌, ◌++◌, Bool, true, false, ◌||◌, eqb, length, get_or, if◌then◌else◌}
 use Rattle.std.proofs.Common.{arith, zero-add, sym, ap, ◌∙◌, subst, append_assoc, append-nil, ⊎_elim, ltb-true, ltb-false, eq-eqb, ne_eqb, eqb-true}
 use Rattle.std.proofs.Math.Option.{Option, none, some}
 use Rattle.std.proofs.Math.Dec.{ltb}
 use Rattle.std.proofs.lemmas.Bool.{eqb-false}
-use Rattle.semantics.specs.Words.{if◌then◌else◌, Passed, passed, ◌>>◌, need}
+use Rattle.semantics.specs.Words.{Passed, passed, ◌>>◌, need}
 use Rattle.semantics.specs.Numbers as F
 use Rattle.semantics.specs.Kinds as K
 use Rattle.semantics.specs.Model.{Model}

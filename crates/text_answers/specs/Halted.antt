@@ -1,12 +1,11 @@
 -- At a cut: what was to come there, what the machine looks at, and how that is told from what the tokens make of its reader.
 -- Assumes nothing.
-use Rattle.std.specs.Prelude.{ℕ, zero, suc, ◌+◌, ◌<◌, ◌≡◌, refl, Bool, true, false, not, ◌&&◌, ◌||◌, T, eqb, get_or}
+use Rattle.std.specs.Prelude.{ℕ, zero, suc, ◌+◌, ◌<◌, ◌≡◌, refl, Bool, true, false, not, ◌&&◌, ◌||◌, T, eqb, get_or, if◌then◌else◌}
 use Rattle.std.proofs.Common.{arith, ◌∙◌, eqb-true, ltb-true}
 use Rattle.std.proofs.Math.Path.{sym, ap, subst}
 use mathlib.Core.List.{List, [], ◌∷◌, ◌++◌, append-nil}
 use Rattle.std.proofs.Math.Option.{none, some}
 use Rattle.std.proofs.Math.ListN.{length}
-use Rattle.semantics.specs.Words.{if◌then◌else◌}
 use Rattle.semantics.specs.Words as W
 use Rattle.semantics.specs.Kinds as K
 use Rattle.promises.specs.Laws.{no_way, or-true}

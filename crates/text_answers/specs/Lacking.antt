@@ -1,11 +1,11 @@
 -- The classes that lack a body at the end of a text: those that are known without one are those whose records say so, in order.
 -- Assumes nothing.
-use Rattle.std.specs.Prelude.{ℕ, ◌+◌, ◌≤◌, ◌≡◌, refl, List, [], ◌∷◌, ◌++◌, map, Bool, true, false, not, ◌&&◌, ◌||◌, eqb, length}
+use Rattle.std.specs.Prelude.{ℕ, ◌+◌, ◌≤◌, ◌≡◌, refl, List, [], ◌∷◌, ◌++◌, map, Bool, true, false, not, ◌&&◌, ◌||◌, eqb, length, if◌then◌else◌}
 use Rattle.std.proofs.Common.{arith, sym, ap, ap₂, ◌∙◌, append-nil, append_assoc, eqb-true, ne_eqb}
 use Rattle.std.proofs.lemmas.List.{map-append}
 use Rattle.std.proofs.Math.Option.{none}
 use Rattle.std.proofs.lemmas.Bool.{not-false}
-use Rattle.semantics.specs.Words.{if◌then◌else◌, any, keep}
+use Rattle.semantics.specs.Words.{any, keep}
 use Rattle.semantics.specs.Kinds as K
 use Rattle.semantics.specs.Record as R
 use Rattle.promises.specs.Laws.{or-false, if_two}

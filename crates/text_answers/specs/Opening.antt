@@ -1,12 +1,11 @@
 -- At a cut as many blocks are open on the machine's sheet as there are braces to be closed.
 -- Assumes nothing.
-use Rattle.std.specs.Prelude.{ℕ, zero, suc, ◌+◌, ◌≤◌, ◌≡◌, Bool, true, false, ◌&&◌, ◌⊎◌, T, eqb}
+use Rattle.std.specs.Prelude.{ℕ, zero, suc, ◌+◌, ◌≤◌, ◌≡◌, Bool, true, false, ◌&&◌, ◌⊎◌, T, eqb, if◌then◌else◌}
 use Rattle.std.proofs.Common.{arith, sym, ◌∙◌, inl, inr, eqb-true}
 use Rattle.std.proofs.Math.Path.{refl, ap, subst}
 use mathlib.Core.List.{List, [], ◌∷◌, ◌++◌}
 use Rattle.std.proofs.Math.Option.{Option, none, some}
 use Rattle.std.proofs.Math.ListN.{length}
-use Rattle.semantics.specs.Words.{if◌then◌else◌}
 use Rattle.promises.specs.Laws.{no_way, not_some}
 use Rattle.text_semantics.specs.Token as K
 use Rattle.text_semantics.specs.Token.{Token}

@@ -2,14 +2,14 @@
 -- Assumes nothing.
 use Prim.Native.Nat.{ℕ, suc, ◌+◌, ◌≤◌, ◌<◌}
 use Rattle.std.proofs.Common.{arith, sym, ◌∙◌, subst, eqb-true}
-use Rattle.std.specs.Prelude.{◌≡◌, Bool, not, eqb, get_or}
+use Rattle.std.specs.Prelude.{◌≡◌, Bool, not, eqb, get_or, if◌then◌else◌}
 use Rattle.std.proofs.Math.Path.{refl, ap}
 use mathlib.Core.List.{List, [], ◌∷◌, ◌++◌, map}
 use Rattle.std.proofs.Math.Bool.{true, false}
 use Rattle.std.proofs.Math.Option.{none}
 use Rattle.std.proofs.Math.ListN.{length}
 use Rattle.std.proofs.lemmas.Bool.{eqb-false}
-use Rattle.semantics.specs.Words.{if◌then◌else◌, any, keep}
+use Rattle.semantics.specs.Words.{any, keep}
 use Rattle.semantics.specs.Kinds as K
 use Rattle.semantics.specs.Record as R
 use Rattle.semantics.specs.Record.{Entry}

@@ -1,11 +1,11 @@
 -- What passes at a cut passes at the cut before it: a text without its last line has fewer records, or smaller ones.
 -- Assumes nothing.
-use Rattle.std.specs.Prelude.{ℕ, suc, ◌+◌, ◌≤◌, ◌<◌, ◌≡◌, refl, List, [], ◌∷◌, ◌++◌, Bool, true, false, not, eqb, ltb, length}
+use Rattle.std.specs.Prelude.{ℕ, suc, ◌+◌, ◌≤◌, ◌<◌, ◌≡◌, refl, List, [], ◌∷◌, ◌++◌, Bool, true, false, not, eqb, ltb, length, if◌then◌else◌}
 use native.Mathlib.Omega.{arith}
 use Rattle.std.proofs.Common.{sym, ap, ◌∙◌, subst, append-nil, append_assoc, ltb-true, ltb-false, length-append}
 use Rattle.std.proofs.Math.Option.{none}
 use Rattle.std.proofs.Math.Seq.{take-append_seam}
-use Rattle.semantics.specs.Words.{if◌then◌else◌, any, collect, passed, ◌>>◌, need}
+use Rattle.semantics.specs.Words.{any, collect, passed, ◌>>◌, need}
 use Rattle.semantics.specs.Numbers as F
 use Rattle.semantics.specs.Kinds as K
 use Rattle.semantics.specs.Model as M

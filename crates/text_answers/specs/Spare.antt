@@ -1,13 +1,13 @@
 -- The machine's sheet never lacks room: what it has written down is within what it has counted, and that is within its limits.
 -- Assumes nothing.
-use Rattle.std.specs.Prelude.{ℕ, zero, suc, ◌+◌, ◌*◌, ◌-◌, ◌≤◌, ◌<◌, refl, Bool, true, false, ◌&&◌, ◌||◌, ◌⊎◌, eqb, leb, ltb, take, drop}
+use Rattle.std.specs.Prelude.{ℕ, zero, suc, ◌+◌, ◌*◌, ◌-◌, ◌≤◌, ◌<◌, refl, Bool, true, false, ◌&&◌, ◌||◌, ◌⊎◌, eqb, leb, ltb, take, drop, if◌then◌else◌}
 use Rattle.std.proofs.Common.{arith, ◌∙◌, subst, inl, inr, length-set, length-take, length-drop}
 use Rattle.std.proofs.Math.Path.{◌≡◌, sym, ap}
 use mathlib.Core.List.{List, [], ◌∷◌, ◌++◌}
 use Rattle.std.proofs.Math.Option.{Option, none, some}
 use Rattle.std.proofs.Math.ListN.{length, get_or, length-append}
 use borrow.Author.Tests.{eqb-true, eqb-false, leb-true, ltb-true, ltb-false, le-ltb, lt-leb, not-false}
-use Rattle.semantics.specs.Words.{if◌then◌else◌, Outcome, ok, Passed, passed, ◌>>◌, need}
+use Rattle.semantics.specs.Words.{Outcome, ok, Passed, passed, ◌>>◌, need}
 use Rattle.semantics.specs.Words as W
 use Rattle.semantics.specs.Numbers as F
 use Rattle.semantics.specs.Kinds as K

@@ -1,10 +1,10 @@
 -- The reader takes every text that is right: what a text says is written, wherever there is room for it.
 -- Assumes nothing.
-use Rattle.std.specs.Prelude.{ℕ, zero, suc, ◌+◌, ◌≤◌, ◌<◌, ◌≡◌, refl, List, [], ◌∷◌, ◌++◌, map, Bool, true, false, ◌⊎◌, leb, ltb, length}
+use Rattle.std.specs.Prelude.{ℕ, zero, suc, ◌+◌, ◌≤◌, ◌<◌, ◌≡◌, refl, List, [], ◌∷◌, ◌++◌, map, Bool, true, false, ◌⊎◌, leb, ltb, length, if◌then◌else◌}
 use Rattle.std.proofs.Common.{arith, sym, ap, ap₂, ◌∙◌, subst, append-nil, append_assoc, inl, inr, le-leb, ltb-true, ltb-false, length-append}
 use Rattle.std.proofs.Math.Option.{none, some}
 use Rattle.std.proofs.lemmas.Bool.{lt-leb}
-use Rattle.semantics.specs.Words.{if◌then◌else◌, Passed, passed, any}
+use Rattle.semantics.specs.Words.{Passed, passed, any}
 use Rattle.semantics.specs.Numbers as F
 use Rattle.semantics.specs.Model.{Model}
 use Rattle.semantics.specs.Bytes.{Raw}

@@ -1,7 +1,6 @@
 -- The machine's draft that a struct shows with the bytes and the starts that are lent beside it, and what is asked of a struct.
 -- Assumes nothing.
-use Rattle.std.specs.Prelude.{ℕ, zero, suc, ◌+◌, ◌-◌, ◌/◌, ◌%◌, ◌≤◌, ◌<◌, ◌≡◌, Bool, true, false, List, [], ◌∷◌, ◌++◌, eqb, length, get_or, take, drop, replicate}
-use Rattle.semantics.specs.Words.{if◌then◌else◌}
+use Rattle.std.specs.Prelude.{ℕ, zero, suc, ◌+◌, ◌-◌, ◌/◌, ◌%◌, ◌≤◌, ◌<◌, ◌≡◌, Bool, true, false, List, [], ◌∷◌, ◌++◌, eqb, length, get_or, take, drop, replicate, if◌then◌else◌}
 use Rattle.semantics.specs.Kinds as K
 use Rattle.text_semantics.specs.Token as T
 use Rattle.text_semantics.specs.Written.{BYTE}

@@ -1,13 +1,12 @@
 -- Laws of drafts: bytes put one after the other, what is stored into what is lent, and the open expressions.
 -- Assumes nothing.
-use Rattle.std.specs.Prelude.{ℕ, zero, suc, ◌+◌, ◌-◌, ◌/◌, ◌%◌, ◌≤◌, ◌<◌, min, ◌≡◌, refl, Bool, true, false, ◌||◌, List, [], ◌∷◌, ◌++◌, ltb, leb, length, get_or, take, drop, set}
+use Rattle.std.specs.Prelude.{ℕ, zero, suc, ◌+◌, ◌-◌, ◌/◌, ◌%◌, ◌≤◌, ◌<◌, min, ◌≡◌, refl, Bool, true, false, ◌||◌, List, [], ◌∷◌, ◌++◌, ltb, leb, length, get_or, take, drop, set, if◌then◌else◌}
 use Rattle.std.proofs.Common.{le_of_lt, add-one, arith, sym, ap, ◌∙◌, append_assoc, append-nil, length-append, length-set, drop_of_length-le, get_or-set_same, get_or-set_other, take-suc, drop-set-lt, drop-cons, lt-length-set, get_or-take, length-take-le, take_at, drop_at, take_all, ltb-true, ltb-false, leb-true, leb-false, lt-ltb, le-ltb}
 use Rattle.std.proofs.Math.Nat.{div-div-eq-div-mul}
 use Rattle.std.proofs.lemmas.List.Edits.{sets, sets-eq}
 use Rattle.std.proofs.lemmas.List.{take-set-le}
 use Rattle.std.proofs.Math.Seq.{take-append-add, take-length, drop-length}
 use Rattle.std.proofs.lemmas.Bool.{lt-leb}
-use Rattle.semantics.specs.Words.{if◌then◌else◌}
 use Rattle.text_semantics.specs.Written.{BYTE, two, four, node}
 use Rattle.text_machine.specs.Entry as M
 use Rattle.text_machine.specs.Entry.{KEPT, DEPTH, FULL, with_body, with_count, with_starts, put, first_start, outer}

@@ -1,7 +1,6 @@
 -- What a token has, by the number of its kind. Assumes nothing.
-use Rattle.std.specs.Prelude.{ℕ, zero, suc, ◌-◌, ◌≤◌, ◌≡◌, refl, Bool, true, false, List, eqb, leb}
+use Rattle.std.specs.Prelude.{ℕ, zero, suc, ◌-◌, ◌≤◌, ◌≡◌, refl, Bool, true, false, List, eqb, leb, if◌then◌else◌}
 use Rattle.std.proofs.Common.{arith, ap, ◌∙◌, leb-true, le-leb, ne_eqb}
-use Rattle.semantics.specs.Words.{if◌then◌else◌}
 use Rattle.text_semantics.specs.Token as T
 use Rattle.text_semantics.specs.Token.{name, number, mark, bad}
 use Rattle.text_semantics.specs.Meaning.{minus}

@@ -1,7 +1,6 @@
 -- The symbols of the grammar and the tokens as numbers, as the code has them.
 -- Assumes nothing.
-use Rattle.std.specs.Prelude.{ℕ, ◌-◌, ◌/◌, ◌%◌, List, [], ◌∷◌, eqb, leb, ltb, get_or}
-use Rattle.semantics.specs.Words.{if◌then◌else◌}
+use Rattle.std.specs.Prelude.{ℕ, ◌-◌, ◌/◌, ◌%◌, List, [], ◌∷◌, eqb, leb, ltb, get_or, if◌then◌else◌}
 use Rattle.text_semantics.specs.Numbers as No
 use Rattle.text_semantics.specs.Token as T
 use Rattle.text_semantics.specs.Token.{Token, name, number, mark, bad}

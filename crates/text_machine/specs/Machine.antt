@@ -1,9 +1,9 @@
 -- The reader of texts as a machine: it goes over the tokens once, from the left, and keeps only what it needs. That it answers
 -- what the definitions say is promised (text_promises); the code meets it.
 -- Assumes nothing.
-use Rattle.std.specs.Prelude.{ℕ, ◌+◌, ◌-◌, List, [], ◌∷◌, ◌++◌, Bool, true, false, not, ◌&&◌, ◌||◌, eqb, leb, ltb, length, get_or, set}
+use Rattle.std.specs.Prelude.{ℕ, ◌+◌, ◌-◌, List, [], ◌∷◌, ◌++◌, Bool, true, false, not, ◌&&◌, ◌||◌, eqb, leb, ltb, length, get_or, set, if◌then◌else◌}
 use Rattle.std.proofs.Math.Option.{Option, none, some}
-use Rattle.semantics.specs.Words.{if◌then◌else◌, Outcome, ok, fails, Passed, ◌>>◌, need, any, keep, first_at}
+use Rattle.semantics.specs.Words.{Outcome, ok, fails, Passed, ◌>>◌, need, any, keep, first_at}
 use Rattle.semantics.specs.Numbers as F
 use Rattle.semantics.specs.Kinds as K
 use Rattle.semantics.specs.Decode.{none_seen, judged}

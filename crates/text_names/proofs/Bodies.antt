@@ -1,5 +1,6 @@
 -- A class gets its body: where each name is known once, only the one that a search finds changes.
 -- Assumes nothing.
+use Rattle.std.specs.Prelude.{if◌then◌else◌}
 use Prim.Native.Nat.{ℕ, zero, suc, ◌+◌, ◌≤◌, ◌<◌}
 use native.Mathlib.Nat.{zero-add, eq-or-lt_of_le}
 use native.Mathlib.Omega.{arith}
@@ -11,7 +12,7 @@ use borrow.Author.Tests.{eqb-true, eqb-false, le-leb, lt-ltb, le-ltb}
 use lib.Dec.{eqb, leb, ltb}
 use lib.ListN.{length, get_or, set}
 use lib.Seq.{get_or-set_same, get_or-set_other}
-use Rattle.semantics.specs.Words.{if◌then◌else◌, any, first_at}
+use Rattle.semantics.specs.Words.{any, first_at}
 use Rattle.semantics.specs.Kinds as K
 use Rattle.text_semantics.specs.Grammar.{Name}
 use Rattle.text_semantics.specs.Names.{Known, named, bodied, knows, embodies}

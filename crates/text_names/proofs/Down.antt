@@ -1,5 +1,6 @@
 -- The locals go, row by row: what is still to be done to a row makes it what it comes to.
 -- Assumes nothing.
+use Rattle.std.specs.Prelude.{if◌then◌else◌}
 use Prim.Native.Nat.{ℕ, suc, ◌+◌, ◌-◌, ◌≤◌, ◌<◌}
 use native.Mathlib.Numerals.{add-one}
 use native.Mathlib.Omega.{arith}
@@ -9,7 +10,6 @@ use mathlib.Core.Bool.{Bool, false}
 use borrow.Author.Tests.{eq-eqb, ne_eqb}
 use lib.Dec.{eqb}
 use lib.ListN.{get_or, set}
-use Rattle.semantics.specs.Words.{if◌then◌else◌}
 use Rattle.text_semantics.specs.Names.{LOCAL}
 use Rattle.text_names.specs.Row.{down, row_left}
 

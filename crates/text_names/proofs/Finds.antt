@@ -1,5 +1,6 @@
 -- What a search over the table found: the one that has the name, or nobody.
 -- Assumes nothing.
+use Rattle.std.specs.Prelude.{if◌then◌else◌}
 use Prim.Native.Nat.{ℕ, zero, suc, ◌+◌, ◌≤◌, ◌<◌}
 use native.Mathlib.Nat.{zero-add}
 use native.Mathlib.Omega.{arith}
@@ -7,7 +8,7 @@ use mathlib.Core.Path.{◌≡◌, refl, sym, ◌∙◌, ap}
 use mathlib.Core.List.{List, [], ◌∷◌}
 use mathlib.Core.Bool.{Bool, true, false, ◌||◌}
 use lib.ListN.{length}
-use Rattle.semantics.specs.Words.{if◌then◌else◌, any, first_at}
+use Rattle.semantics.specs.Words.{any, first_at}
 use Rattle.text_semantics.specs.Grammar.{Name}
 use Rattle.text_semantics.specs.Names.{Known, named, LOCAL}
 use Rattle.text_semantics.specs.Meaning.{kind_of, number_of}

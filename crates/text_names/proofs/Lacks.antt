@@ -1,5 +1,6 @@
 -- What is left to be looked at for a class that lacks its body: so many classes before, and whether another name lacked one.
 -- Assumes nothing.
+use Rattle.std.specs.Prelude.{if◌then◌else◌}
 use Prim.Native.Nat.{ℕ, suc, ◌+◌, ◌-◌, ◌≤◌, ◌<◌}
 use native.Mathlib.Nat.{zero-add}
 use native.Mathlib.Omega.{arith}
@@ -8,7 +9,7 @@ use mathlib.Core.List.{List}
 use mathlib.Core.Bool.{Bool, true, false, ◌||◌, or_assoc}
 use borrow.Author.Tests.{eq-eqb, ne_eqb}
 use lib.Dec.{eqb}
-use Rattle.semantics.specs.Words.{if◌then◌else◌, any, keep, first_at}
+use Rattle.semantics.specs.Words.{any, keep, first_at}
 use Rattle.semantics.specs.Kinds as K
 use Rattle.text_semantics.specs.Names.{Known}
 use Rattle.text_machine.specs.Machine.{most_names, lacking}

@@ -1,5 +1,6 @@
 -- The locals go: row by row, those that stay move down. What is shown of rows goes over to what is known and to a fine table.
 -- Assumes nothing.
+use Rattle.std.specs.Prelude.{if◌then◌else◌}
 use Prim.Native.Nat.{ℕ, zero, suc, ◌+◌, ◌-◌, ◌≤◌, ◌<◌}
 use native.Mathlib.Nat.{zero-add, eq-or-lt_of_le}
 use native.Mathlib.Numerals.{add-one}
@@ -12,7 +13,7 @@ use borrow.Author.Tests.{eq-eqb, ne_eqb}
 use lib.Dec.{eqb}
 use lib.ListN.{length, get_or, set, take, drop}
 use lib.Seq.{get_or-set_same, get_or-set_other}
-use Rattle.semantics.specs.Words.{if◌then◌else◌, keep}
+use Rattle.semantics.specs.Words.{keep}
 use Rattle.text_semantics.specs.Names.{Known, stays, knows, leaves, LOCAL}
 use Rattle.text_machine.specs.Machine.{most_names}
 use Rattle.text_names.specs.Table.{span, known_of, key_of, Fine, Room}

@@ -1,5 +1,6 @@
 -- One more in each row: the table stays fine, and what is known has one more.
 -- Assumes nothing.
+use Rattle.std.specs.Prelude.{if◌then◌else◌}
 use Prim.Native.Nat.{ℕ, ◌+◌, ◌≤◌, ◌<◌}
 use native.Mathlib.Nat.{zero-add}
 use native.Mathlib.Numerals.{add-one}
@@ -12,7 +13,7 @@ use borrow.Author.Tests.{le-leb, lt-leb}
 use lib.Dec.{eqb, leb}
 use lib.ListN.{length, get_or, set, take, drop, length-set}
 use lib.Seq.{get_or-set_same, get_or-set_other}
-use Rattle.semantics.specs.Words.{if◌then◌else◌, keep}
+use Rattle.semantics.specs.Words.{keep}
 use Rattle.text_semantics.specs.Names.{Known, one_more}
 use Rattle.text_machine.specs.Machine.{most_names}
 use Rattle.text_names.specs.Table.{span, known_at, known_of, key_of, Fine, Room}

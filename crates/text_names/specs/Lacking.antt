@@ -1,9 +1,9 @@
 -- Whether any name lacks its body, by the number of the first class that does: it is below as many as are kept. It is told by
 -- what the names are and by which of them lack a body, whatever they are called.
 -- Assumes nothing.
-use Rattle.std.specs.Prelude.{ℕ, suc, ◌≤◌, ◌<◌, ◌≡◌, refl, List, [], ◌∷◌, map, Bool, true, false, ◌||◌, eqb, ltb, length}
+use Rattle.std.specs.Prelude.{ℕ, suc, ◌≤◌, ◌<◌, ◌≡◌, refl, List, [], ◌∷◌, map, Bool, true, false, ◌||◌, eqb, ltb, length, if◌then◌else◌}
 use Rattle.std.proofs.Common.{arith, sym, ◌∙◌, ap, lt-ltb}
-use Rattle.semantics.specs.Words.{if◌then◌else◌, any, keep, first_at}
+use Rattle.semantics.specs.Words.{any, keep, first_at}
 use Rattle.semantics.specs.Kinds as K
 use Rattle.text_semantics.specs.Names.{Known}
 use Rattle.text_machine.specs.Machine.{most_names, lacking}

@@ -1,13 +1,13 @@
 -- Names of which each is known once: then what is said of any that has the name is said of the one that a search finds.
 -- What a text does with names keeps it so, where it is in no trouble.
 -- Assumes nothing.
-use Rattle.std.specs.Prelude.{ℕ, ◌≡◌, Bool, not, ◌&&◌, ◌||◌, eqb, leb, length}
+use Rattle.std.specs.Prelude.{ℕ, ◌≡◌, Bool, not, ◌&&◌, ◌||◌, eqb, leb, length, if◌then◌else◌}
 use Rattle.std.proofs.Common.{arith, ◌∙◌, ap}
 use Rattle.std.proofs.Math.Path.{refl}
 use mathlib.Core.List.{List, [], ◌∷◌, ◌++◌, map}
 use Rattle.std.proofs.Math.Bool.{true, false, or-false}
 use Rattle.std.proofs.Math.Option.{none}
-use Rattle.semantics.specs.Words.{if◌then◌else◌, any, keep}
+use Rattle.semantics.specs.Words.{any, keep}
 use Rattle.semantics.specs.Kinds as K
 use Rattle.text_semantics.specs.Numbers as No
 use Rattle.text_semantics.specs.Grammar.{Name}

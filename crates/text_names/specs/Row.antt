@@ -1,8 +1,8 @@
 -- What becomes of the rows of the table, each by itself and whole, and how many names there are then.
 -- Assumes nothing.
-use Rattle.std.specs.Prelude.{ℕ, zero, suc, ◌+◌, ◌≡◌, List, Bool, false, not, eqb, leb, ltb, length, get_or, set}
+use Rattle.std.specs.Prelude.{ℕ, zero, suc, ◌+◌, ◌≡◌, List, Bool, false, not, eqb, leb, ltb, length, get_or, set, if◌then◌else◌}
 use Rattle.std.proofs.Common.{sym, ◌∙◌, ap}
-use Rattle.semantics.specs.Words.{if◌then◌else◌, keep, first_at}
+use Rattle.semantics.specs.Words.{keep, first_at}
 use Rattle.text_semantics.specs.Lexing.{same_bytes}
 use Rattle.text_semantics.specs.Grammar.{Name}
 use Rattle.text_semantics.specs.Names.{named, LOCAL}

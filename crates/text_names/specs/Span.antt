@@ -5,9 +5,9 @@ use Prim.Native.Nat.{ℕ, zero, suc, ◌+◌, ◌-◌, ◌≤◌, ◌<◌}
 use Rattle.std.proofs.Common.{zero-add, ◌∙◌}
 use Rattle.std.proofs.Math.Numerals.{add-one}
 use native.Mathlib.Omega.{arith}
-use Rattle.std.specs.Prelude.{◌≡◌, List, [], ◌∷◌, ◌++◌, map, Bool, true, false, length}
+use Rattle.std.specs.Prelude.{◌≡◌, List, [], ◌∷◌, ◌++◌, map, Bool, true, false, length, if◌then◌else◌}
 use Rattle.std.proofs.Math.Path.{refl, ap}
-use Rattle.semantics.specs.Words.{if◌then◌else◌, keep, first_at}
+use Rattle.semantics.specs.Words.{keep, first_at}
 use Rattle.text_names.specs.Table.{span}
 
 module _ {A : Type 0} (f : ℕ → A) where

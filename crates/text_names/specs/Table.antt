@@ -1,9 +1,9 @@
 -- The names that are known as rows of numbers, each lent by itself, and how many names there are: where each stands in the
 -- text, its length, its key, what it is, its number, and whether it lacks its body. What stands past them is never read.
 -- Assumes nothing.
-use Rattle.std.specs.Prelude.{ℕ, zero, suc, ◌+◌, ◌*◌, ◌-◌, ◌%◌, ◌≤◌, ◌<◌, ◌≡◌, List, [], ◌∷◌, Bool, false, eqb, leb, length, get_or, take, drop}
+use Rattle.std.specs.Prelude.{ℕ, zero, suc, ◌+◌, ◌*◌, ◌-◌, ◌%◌, ◌≤◌, ◌<◌, ◌≡◌, List, [], ◌∷◌, Bool, false, eqb, leb, length, get_or, take, drop, if◌then◌else◌}
 use Rattle.std.proofs.Math.Option.{Option, none, some}
-use Rattle.semantics.specs.Words.{if◌then◌else◌, any, keep, first_at}
+use Rattle.semantics.specs.Words.{any, keep, first_at}
 use Rattle.semantics.specs.Kinds as K
 use Rattle.text_semantics.specs.Grammar.{Name}
 use Rattle.text_semantics.specs.Names.{Known, named, one_more, LOCAL}

@@ -1,4 +1,5 @@
 -- The pile as a row of numbers: what is put onto it, and what a token makes of it. Assumes nothing.
+use Rattle.std.specs.Prelude.{if◌then◌else◌}
 use Prim.Native.Nat.{ℕ, zero, suc, ◌+◌, ◌*◌, ◌-◌, ◌%◌, ◌≤◌, ◌<◌}
 use native.Mathlib.Omega.{arith}
 use mathlib.Core.Path.{◌≡◌, refl, sym, ◌∙◌, ap}
@@ -9,7 +10,6 @@ use borrow.Author.Tests.{eqb-true, eqb-false, ltb-true, ltb-false, lt-ltb, le-lt
 use lib.Dec.{eqb, ltb}
 use lib.ListN.{length, get_or, set, length-set, length-append}
 use lib.Seq.{sets, length-sets, get_or-set_same, get_or-set_other}
-use Rattle.semantics.specs.Words.{if◌then◌else◌}
 use Rattle.text_semantics.specs.Reading.{Symbol, step}
 use Rattle.text_machine.specs.Codes.{symbol_of, token_of, BAD, PARTS}
 use Rattle.text_machine.specs.Machine.{highest_pile}

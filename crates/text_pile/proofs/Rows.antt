@@ -1,4 +1,5 @@
 -- What comes by the rules of the grammar, without what they make: found by a test of the token. Assumes nothing.
+use Rattle.std.specs.Prelude.{if◌then◌else◌}
 use Prim.Native.Nat.{ℕ}
 use mathlib.Core.Path.{◌≡◌, refl, ◌∙◌}
 use mathlib.Core.List.{List, [], ◌∷◌}
@@ -6,7 +7,6 @@ use mathlib.Core.Bool.{Bool, true, false, ◌&&◌, ◌||◌}
 use mathlib.Core.Option.{Option, none, some}
 use native.Mathlib.Omega.{arith}
 use lib.Dec.{eqb, leb}
-use Rattle.semantics.specs.Words.{if◌then◌else◌}
 use Rattle.text_semantics.specs.Numbers as No
 use Rattle.text_semantics.specs.Token.{Token, name, number, mark, bad}
 use Rattle.text_semantics.specs.Table.{Rule}

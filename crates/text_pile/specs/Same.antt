@@ -1,10 +1,9 @@
 -- One answer: two answers of `turn` that meet its contract, each with the pile that it leaves, are the same.
 -- Assumes nothing.
-use Rattle.std.specs.Prelude.{ℕ, zero, suc, ◌+◌, ◌*◌, ◌≤◌, ◌<◌, ◌≡◌, refl, List, [], Bool, true, false, ◌&&◌, eqb, ltb, length, get_or}
+use Rattle.std.specs.Prelude.{ℕ, zero, suc, ◌+◌, ◌*◌, ◌≤◌, ◌<◌, ◌≡◌, refl, List, [], Bool, true, false, ◌&&◌, eqb, ltb, length, get_or, if◌then◌else◌}
 use Rattle.std.proofs.Common.{arith, sym, ◌∙◌, ap, ext_get_or, eqb-true, ltb-true, ltb-false}
 use Rattle.std.proofs.Math.Option.{none, some}
 use Rattle.std.proofs.lemmas.Bool.{eqb-false}
-use Rattle.semantics.specs.Words.{if◌then◌else◌}
 use Rattle.text_semantics.specs.Numbers as No
 use Rattle.text_semantics.specs.Reading.{Symbol, Closer, round, comma, semi, one, the, a_name, a_number, factor_s, minus_s, more}
 use Rattle.text_semantics.specs.Reading.{signed_s, relation_s, item_s, claim_s, items_s, gives_s, given_s, actions_s, try_s, few_s, lines_s}

@@ -1,7 +1,6 @@
 -- The grammar as the code has it: symbols as classes, tokens as columns, and for both the place of what comes then.
 -- Assumes nothing.
-use Rattle.std.specs.Prelude.{ℕ, zero, suc, ◌+◌, ◌*◌, ◌-◌, ◌%◌, List, [], ◌∷◌, eqb, leb, ltb, get_or}
-use Rattle.semantics.specs.Words.{if◌then◌else◌}
+use Rattle.std.specs.Prelude.{ℕ, zero, suc, ◌+◌, ◌*◌, ◌-◌, ◌%◌, List, [], ◌∷◌, eqb, leb, ltb, get_or, if◌then◌else◌}
 use Rattle.text_semantics.specs.Numbers as No
 use Rattle.text_machine.specs.Codes.{NUMBER, BAD, EXPRESSION, PARTS}
 

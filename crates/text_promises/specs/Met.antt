@@ -1,10 +1,10 @@
 -- How an answer is met: each answer comes from a token, from a cut or from the end, where nothing was met before it.
 -- Assumes nothing.
-use Rattle.std.specs.Prelude.{ℕ, ◌≤◌, ◌<◌, ◌≡◌, refl, List, [], ◌∷◌, ◌++◌, true, leb, ltb, length}
+use Rattle.std.specs.Prelude.{ℕ, ◌≤◌, ◌<◌, ◌≡◌, refl, List, [], ◌∷◌, ◌++◌, true, leb, ltb, length, if◌then◌else◌}
 use Rattle.std.proofs.Common.{arith, sym, ◌∙◌, append-nil, append_assoc}
 use Rattle.std.proofs.Math.Option.{Option, none, some}
 use borrow.Author.Tests.{ltb-true, ltb-false, leb-true, leb-false}
-use Rattle.semantics.specs.Words.{if◌then◌else◌, Passed}
+use Rattle.semantics.specs.Words.{Passed}
 use Rattle.semantics.specs.Model.{Model}
 use Rattle.semantics.specs.Decode as D
 use Rattle.semantics.specs.Decode.{Checked, decode}

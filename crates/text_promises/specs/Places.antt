@@ -1,9 +1,8 @@
 -- Tokens and their places: the end of a text is its last token, at its length, and the place of each lies in the text.
 -- Assumes nothing.
-use Rattle.std.specs.Prelude.{ℕ, zero, suc, ◌+◌, ◌≤◌, ◌<◌, ◌≡◌, refl, List, [], ◌∷◌, ◌++◌, map, eqb, length, take, get_or}
+use Rattle.std.specs.Prelude.{ℕ, zero, suc, ◌+◌, ◌≤◌, ◌<◌, ◌≡◌, refl, List, [], ◌∷◌, ◌++◌, map, eqb, length, take, get_or, if◌then◌else◌}
 use Rattle.std.proofs.Common.{arith, sym, ◌∙◌, ap, append_assoc, take_at}
 use Rattle.std.proofs.lemmas.List.{length-map}
-use Rattle.semantics.specs.Words.{if◌then◌else◌}
 use Rattle.promises.specs.Laws.{if_has, AllOf, all_append, all_map, all_get, all_mapped}
 use Rattle.text_semantics.specs.Token as K
 use Rattle.text_semantics.specs.Token.{Token, name, number, mark, bad}

@@ -1,9 +1,9 @@
 -- The room that is lent matters only at the very end: answers with two rooms are alike.
 -- Assumes nothing.
-use Rattle.std.specs.Prelude.{ℕ, ◌<◌, ◌≡◌, List, [], ◌∷◌, ◌++◌, Bool, true, false, leb, ltb, length}
+use Rattle.std.specs.Prelude.{ℕ, ◌<◌, ◌≡◌, List, [], ◌∷◌, ◌++◌, Bool, true, false, leb, ltb, length, if◌then◌else◌}
 use Rattle.std.proofs.Common.{arith, ap}
 use Rattle.std.proofs.Math.Option.{Option, none, some}
-use Rattle.semantics.specs.Words.{if◌then◌else◌, Passed}
+use Rattle.semantics.specs.Words.{Passed}
 use Rattle.semantics.specs.Model.{Model}
 use Rattle.semantics.specs.Decode as D
 use Rattle.semantics.specs.Decode.{Checked, decode}

@@ -1,9 +1,9 @@
 -- The first trouble with a name: what stands before it is in none, and it is 52 or 53.
 -- Assumes nothing.
-use Rattle.std.specs.Prelude.{ℕ, ◌+◌, ◌≤◌, ◌≡◌, refl, List, [], ◌∷◌, ◌++◌, Bool, true, false, not, length}
+use Rattle.std.specs.Prelude.{ℕ, ◌+◌, ◌≤◌, ◌≡◌, refl, List, [], ◌∷◌, ◌++◌, Bool, true, false, not, length, if◌then◌else◌}
 use Rattle.std.proofs.Common.{arith, ◌∙◌, ap, length-append}
 use Rattle.std.proofs.Math.Option.{Option, none, some}
-use Rattle.semantics.specs.Words.{if◌then◌else◌, any}
+use Rattle.semantics.specs.Words.{any}
 use Rattle.text_semantics.specs.Numbers as No
 use Rattle.text_semantics.specs.Grammar.{Name}
 use Rattle.text_semantics.specs.Names.{Event, asks, declares, announces, embodies, leaves, Known, named, fits, awaited, knows}

@@ -1,4 +1,5 @@
 -- What the functions ask for is met between two tokens. Assumes nothing.
+use Rattle.std.specs.Prelude.{if◌then◌else◌}
 use Prim.Native.Nat.{ℕ, zero, suc, ◌≤◌, ◌<◌}
 use native.Mathlib.Omega.{arith}
 use mathlib.Core.Path.{◌≡◌, refl, sym, ◌∙◌, ap, subst}
@@ -7,7 +8,7 @@ use mathlib.Core.Bool.{Bool, true, false, not, ◌&&◌, ◌||◌}
 use mathlib.Core.Option.{none, some}
 use lib.Dec.{eqb}
 use lib.ListN.{length, get_or, take, length-take}
-use Rattle.semantics.specs.Words.{if◌then◌else◌, any}
+use Rattle.semantics.specs.Words.{any}
 use Rattle.semantics.specs.Kinds as K
 use Rattle.promises.specs.Laws.{no_way, not_some, not-true, AllOf, Ordered}
 use Rattle.text_semantics.specs.Numbers as No

@@ -1,4 +1,5 @@
 -- The body of a class: the numbers then, and the limits by them. Assumes nothing.
+use Rattle.std.specs.Prelude.{if◌then◌else◌}
 use Prim.Native.Nat.{ℕ, suc, ◌+◌}
 use native.Mathlib.Omega.{arith}
 use mathlib.Core.Path.{◌≡◌, refl, sym, ◌∙◌, ap}
@@ -7,7 +8,6 @@ use lib.Dec.{leb, ltb}
 use lib.ListN.{get_or, set, take}
 use lib.Seq.{get_or-set_other}
 use borrow.Author.Tests.{leb-false, ltb-false}
-use Rattle.semantics.specs.Words.{if◌then◌else◌}
 use Rattle.semantics.specs.Numbers as F
 use Rattle.semantics.specs.Kinds as K
 use Rattle.text_machine.specs.Entry as E

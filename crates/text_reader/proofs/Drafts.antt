@@ -1,4 +1,5 @@
 -- The draft that a token is added to, and the draft with it. Assumes nothing.
+use Rattle.std.specs.Prelude.{if◌then◌else◌}
 use Prim.Native.Nat.{ℕ, zero, suc, ◌*◌, ◌≤◌, ◌<◌}
 use native.Mathlib.Omega.{arith}
 use mathlib.Core.Path.{◌≡◌, refl, sym, ◌∙◌, ap}
@@ -8,7 +9,6 @@ use mathlib.Core.Option.{none, some}
 use lib.Dec.{eqb}
 use lib.ListN.{get_or, take, drop, length-take}
 use borrow.Author.Tests.{eqb-true, eqb-false}
-use Rattle.semantics.specs.Words.{if◌then◌else◌}
 use Rattle.text_semantics.specs.Token as T
 use Rattle.text_semantics.specs.Token.{Token, mark}
 use Rattle.text_machine.specs.Entry as M

@@ -1,4 +1,5 @@
 -- What a token is that fits, by the symbol that was still to come. Assumes nothing.
+use Rattle.std.specs.Prelude.{if◌then◌else◌}
 use Prim.Native.Nat.{ℕ, zero, suc, ◌<◌}
 use native.Mathlib.Omega.{arith}
 use mathlib.Core.Path.{◌≡◌, refl, sym, ◌∙◌, ap}
@@ -7,7 +8,6 @@ use mathlib.Core.Bool.{Bool, true, false, not, ◌&&◌, ◌||◌}
 use mathlib.Core.Option.{Option, none, some}
 use lib.Dec.{eqb, leb}
 use borrow.Author.Tests.{eqb-true, eqb-false, leb-true, ne_eqb}
-use Rattle.semantics.specs.Words.{if◌then◌else◌}
 use Rattle.promises.specs.Laws.{no_way, not_some, and-true}
 use Rattle.text_semantics.specs.Numbers as No
 use Rattle.text_semantics.specs.Token as T

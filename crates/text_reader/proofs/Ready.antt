@@ -1,4 +1,5 @@
 -- What is known of the memory between two tokens, from the reader that it shows. Assumes nothing.
+use Rattle.std.specs.Prelude.{if◌then◌else◌}
 use Prim.Native.Nat.{ℕ, suc, ◌+◌, ◌≤◌, ◌<◌}
 use native.Mathlib.Omega.{arith}
 use mathlib.Core.Path.{◌≡◌, refl, sym, subst}
@@ -8,7 +9,7 @@ use mathlib.Core.Option.{Option, none, some}
 use lib.Dec.{eqb}
 use lib.ListN.{length, get_or}
 use borrow.Author.Tests.{eqb-true}
-use Rattle.semantics.specs.Words.{if◌then◌else◌, any, keep}
+use Rattle.semantics.specs.Words.{any, keep}
 use Rattle.semantics.specs.Kinds as K
 use Rattle.promises.specs.Laws.{no_way, and-true, AllOf, Ordered}
 use Rattle.text_semantics.specs.Lexing.{same_bytes}

@@ -1,7 +1,6 @@
 -- The checks at a cut, by the numbers of the sheet. Assumes nothing.
-use Rattle.std.specs.Prelude.{ℕ, List, Bool, true, false, ◌||◌, ltb, get_or, set}
+use Rattle.std.specs.Prelude.{ℕ, List, Bool, true, false, ◌||◌, ltb, get_or, set, if◌then◌else◌}
 use Rattle.std.proofs.Math.Option.{Option, none, some}
-use Rattle.semantics.specs.Words.{if◌then◌else◌}
 use Rattle.semantics.specs.Numbers as F
 use Rattle.semantics.specs.Kinds as K
 use Rattle.semantics.specs.Decode.{none_seen}

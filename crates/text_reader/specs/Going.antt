@@ -1,11 +1,10 @@
 -- The loop over the tokens: what holds before each of them, and what is so behind the last.
 -- Assumes nothing.
-use Rattle.std.specs.Prelude.{ℕ, ◌≤◌, ◌≡◌, refl, Bool, true, false, not, ◌||◌, eqb, length, drop}
+use Rattle.std.specs.Prelude.{ℕ, ◌≤◌, ◌≡◌, refl, Bool, true, false, not, ◌||◌, eqb, length, drop, if◌then◌else◌}
 use Rattle.std.proofs.Common.{arith, ◌∙◌, length-take, eqb-true, eq-eqb, ne_eqb}
 use Rattle.std.proofs.Math.Path.{sym, ap}
 use mathlib.Core.List.{List, [], ◌∷◌}
 use Rattle.std.proofs.lemmas.Bool.{eqb-false}
-use Rattle.semantics.specs.Words.{if◌then◌else◌}
 use Rattle.text_semantics.specs.Token as K
 use Rattle.text_semantics.specs.Lexing.{Placed, clear, tokens_from}
 use Rattle.text_semantics.specs.Answer.{refused}

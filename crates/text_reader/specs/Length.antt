@@ -1,11 +1,11 @@
 -- What the machine writes down is no longer than what it has counted: so the records fit where their total does.
 -- Assumes nothing.
-use Rattle.std.specs.Prelude.{ℕ, zero, suc, ◌+◌, ◌*◌, ◌≤◌, ◌<◌, ◌≡◌, refl, List, [], ◌∷◌, ◌++◌, Bool, true, false, ◌||◌, eqb, leb, ltb, get_or, take, drop, set}
+use Rattle.std.specs.Prelude.{ℕ, zero, suc, ◌+◌, ◌*◌, ◌≤◌, ◌<◌, ◌≡◌, refl, List, [], ◌∷◌, ◌++◌, Bool, true, false, ◌||◌, eqb, leb, ltb, get_or, take, drop, set, if◌then◌else◌}
 use Rattle.std.proofs.Common.{arith, sym, ◌∙◌, ap, subst, length-append, length-take, length-drop, get_or-set_other, eqb-true, leb-true, leb-false, le-leb}
 use Rattle.std.proofs.Math.Option.{Option, none, some}
 use Rattle.std.proofs.Math.ListN.{length}
 use Rattle.std.proofs.lemmas.Bool.{eqb-false, lt-leb}
-use Rattle.semantics.specs.Words.{if◌then◌else◌, keep, collect}
+use Rattle.semantics.specs.Words.{keep, collect}
 use Rattle.semantics.specs.Words as W
 use Rattle.semantics.specs.Numbers as F
 use Rattle.semantics.specs.Kinds as K

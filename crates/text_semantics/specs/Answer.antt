@@ -1,8 +1,8 @@
 -- The answer to a text (docs/TEXT.md, sections 5 and 7): its records, or the first trouble that is met from the left.
 -- Assumes nothing.
-use Rattle.std.specs.Prelude.{ℕ, List, [], ◌∷◌, ◌++◌, map, Bool, true, false, ◌||◌, eqb, leb, ltb, length, get_or}
+use Rattle.std.specs.Prelude.{ℕ, List, [], ◌∷◌, ◌++◌, map, Bool, true, false, ◌||◌, eqb, leb, ltb, length, get_or, if◌then◌else◌}
 use Rattle.std.proofs.Math.Option.{Option, none, some}
-use Rattle.semantics.specs.Words.{if◌then◌else◌, Passed, keep}
+use Rattle.semantics.specs.Words.{Passed, keep}
 use Rattle.semantics.specs.Numbers as F
 use Rattle.semantics.specs.Bytes.{Raw, records_from}
 use Rattle.semantics.specs.Decode as D

@@ -1,9 +1,9 @@
 -- From the bytes of a text to its tokens with their places (docs/TEXT.md, section 2), byte by byte.
 -- Assumes nothing.
-use Rattle.std.specs.Prelude.{ℕ, suc, ◌+◌, ◌*◌, ◌-◌, min, List, [], ◌∷◌, ◌++◌, Bool, true, false, ◌&&◌, ◌||◌, eqb, leb, length}
+use Rattle.std.specs.Prelude.{ℕ, suc, ◌+◌, ◌*◌, ◌-◌, min, List, [], ◌∷◌, ◌++◌, Bool, true, false, ◌&&◌, ◌||◌, eqb, leb, length, if◌then◌else◌}
 use Prim.Native.Char.{code}
 use Prim.Native.String.{String, [] as no_letter, ◌∷◌ as ◌then◌}
-use Rattle.semantics.specs.Words.{if◌then◌else◌, all, any, within, first_at}
+use Rattle.semantics.specs.Words.{all, any, within, first_at}
 use Rattle.text_semantics.specs.Numbers as No
 use Rattle.text_semantics.specs.Token as K
 use Rattle.text_semantics.specs.Token.{Token, name, number, mark, bad}

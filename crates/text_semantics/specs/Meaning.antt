@@ -1,9 +1,9 @@
 -- What a text says (docs/TEXT.md, section 6): the records that its declarations and actions write, in the order of the file, each
 -- as what it says, with the token that its declaration or action begins with.
 -- Assumes nothing.
-use Rattle.std.specs.Prelude.{ℕ, zero, suc, ◌+◌, Bool, false, eqb, length, ℤ, pos, negsuc}
+use Rattle.std.specs.Prelude.{ℕ, zero, suc, ◌+◌, Bool, false, eqb, length, ℤ, pos, negsuc, if◌then◌else◌}
 use mathlib.Core.List.{List, [], ◌∷◌, ◌++◌, map}
-use Rattle.semantics.specs.Words.{if◌then◌else◌, any}
+use Rattle.semantics.specs.Words.{any}
 use Rattle.semantics.specs.Kinds as K
 use Rattle.semantics.specs.Model as M
 use Rattle.semantics.specs.Model.{Expr, Action, Branch, Share}

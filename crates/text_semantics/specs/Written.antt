@@ -1,7 +1,7 @@
 -- A record as its bytes (document 01, "The model file"): what each says, written down; and the file that a text writes.
 -- Assumes nothing.
-use Rattle.std.specs.Prelude.{ℕ, ◌+◌, ◌-◌, ◌/◌, ◌%◌, List, [], ◌∷◌, ◌++◌, ltb, length, ℤ, pos, negsuc}
-use Rattle.semantics.specs.Words.{if◌then◌else◌, collect}
+use Rattle.std.specs.Prelude.{ℕ, ◌+◌, ◌-◌, ◌/◌, ◌%◌, List, [], ◌∷◌, ◌++◌, ltb, length, ℤ, pos, negsuc, if◌then◌else◌}
+use Rattle.semantics.specs.Words.{collect}
 use Rattle.semantics.specs.Kinds as K
 use Rattle.semantics.specs.Model as M
 use Rattle.semantics.specs.Model.{Expr, Relation, Item, Branch, Share, Action}

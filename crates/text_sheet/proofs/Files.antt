@@ -1,4 +1,5 @@
 -- Texts put one behind the other, by a loop that has a rest still to put; the pieces of a block, and the blocks. Assumes nothing.
+use Rattle.std.specs.Prelude.{if◌then◌else◌}
 use mathlib.Core.Path.{◌≡◌, refl, sym, ◌∙◌, ap}
 use mathlib.Core.List.{List, [], ◌∷◌, ◌++◌}
 use mathlib.Core.Bool.{Bool, true, false}
@@ -8,7 +9,7 @@ use native.Mathlib.Omega.{arith}
 use lib.Dec.{eqb}
 use lib.ListN.{length, get_or, take, drop, length-append}
 use lib.Seq.{sets, sets-eq, length-sets, length-take-le}
-use Rattle.semantics.specs.Words.{if◌then◌else◌, keep, collect}
+use Rattle.semantics.specs.Words.{keep, collect}
 use Rattle.semantics.specs.Kinds as K
 use Rattle.text_machine.specs.Sheet.{Piece, headed, standing, blocks_from}
 use Rattle.base_journal.specs.Laws.{sets-append}

@@ -1,4 +1,5 @@
 -- Levels: the innermost one, what is kept in it, and one more; the others stay as they are. Assumes nothing.
+use Rattle.std.specs.Prelude.{if◌then◌else◌}
 use mathlib.Core.Path.{◌≡◌, refl, sym, ◌∙◌, ap}
 use mathlib.Core.List.{List, ◌∷◌}
 use mathlib.Core.Option.{none, some}
@@ -8,7 +9,6 @@ use borrow.Author.Tests.{eq-eqb, ne_eqb}
 use lib.Dec.{eqb}
 use lib.ListN.{length, get_or, set}
 use lib.Seq.{sets, get_or-set_same, get_or-set_other}
-use Rattle.semantics.specs.Words.{if◌then◌else◌}
 use Rattle.text_machine.specs.Sheet as M
 use Rattle.text_machine.specs.Sheet.{Level}
 use Rattle.text_sheet.specs.Part.{part}

@@ -1,4 +1,5 @@
 -- Each declaration, as the machine has it. Assumes nothing.
+use Rattle.std.specs.Prelude.{if◌then◌else◌}
 use mathlib.Core.Path.{◌≡◌, refl, sym, ◌∙◌, ap}
 use mathlib.Core.List.{List}
 use mathlib.Core.Bool.{Bool, true, false}
@@ -6,7 +7,6 @@ use Prim.Native.Nat.{ℕ, suc, ◌+◌, ◌≤◌, ◌<◌}
 use native.Mathlib.Omega.{arith}
 use lib.Dec.{leb}
 use lib.ListN.{length, get_or}
-use Rattle.semantics.specs.Words.{if◌then◌else◌}
 use lib.Seq.{sets}
 use Rattle.semantics.specs.Numbers as No
 use Rattle.semantics.specs.Kinds as K

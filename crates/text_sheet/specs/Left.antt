@@ -1,7 +1,6 @@
 -- What is left in the lent arrays, to the last byte, and in the struct: so each contract determines all that it lends.
 -- Assumes nothing.
-use Rattle.std.specs.Prelude.{ℕ, suc, ◌+◌, ◌≡◌, List, eqb, get_or, set}
-use Rattle.semantics.specs.Words.{if◌then◌else◌}
+use Rattle.std.specs.Prelude.{ℕ, suc, ◌+◌, ◌≡◌, List, eqb, get_or, set, if◌then◌else◌}
 use Rattle.semantics.specs.Kinds as K
 use Rattle.text_machine.specs.Sheet as M
 use Rattle.text_sheet.specs.declared.Sheet.{Sheet}

@@ -1,8 +1,8 @@
 -- The numbers of a sheet, which go by value, after a record has been written down.
 -- Assumes nothing.
-use Rattle.std.specs.Prelude.{ℕ, zero, suc, ◌+◌, ◌-◌, ◌*◌, List, Bool, true, false, ◌||◌, eqb, leb, ltb, get_or, set}
+use Rattle.std.specs.Prelude.{ℕ, zero, suc, ◌+◌, ◌-◌, ◌*◌, List, Bool, true, false, ◌||◌, eqb, leb, ltb, get_or, set, if◌then◌else◌}
 use Rattle.std.proofs.lemmas.List.Edits.{sets}
-use Rattle.semantics.specs.Words.{if◌then◌else◌, more}
+use Rattle.semantics.specs.Words.{more}
 use Rattle.semantics.specs.Numbers as No
 use Rattle.semantics.specs.Kinds as K
 use Rattle.semantics.specs.Decode.{none_seen}

@@ -1,8 +1,7 @@
 -- A part of a row of bytes: so many from a place on; and n bytes put at a place, if they fit.
 -- Assumes nothing.
-use Rattle.std.specs.Prelude.{ℕ, ◌+◌, List, leb, ltb, take, drop, set}
+use Rattle.std.specs.Prelude.{ℕ, ◌+◌, List, leb, ltb, take, drop, set, if◌then◌else◌}
 use Rattle.std.proofs.lemmas.List.Edits.{sets}
-use Rattle.semantics.specs.Words.{if◌then◌else◌}
 
 abbrev pub part : ℕ → ℕ → List ℕ → List ℕ
 part start size xs = take size (drop start xs)

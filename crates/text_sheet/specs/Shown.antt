@@ -1,8 +1,7 @@
 -- What the struct and the lent arrays show: the machine's sheet.
 -- Assumes nothing.
-use Rattle.std.specs.Prelude.{ℕ, zero, suc, ◌-◌, ◌*◌, List, [], ◌∷◌, false, eqb, get_or, take}
+use Rattle.std.specs.Prelude.{ℕ, zero, suc, ◌-◌, ◌*◌, List, [], ◌∷◌, false, eqb, get_or, take, if◌then◌else◌}
 use Rattle.std.proofs.Math.Option.{Option, none, some}
-use Rattle.semantics.specs.Words.{if◌then◌else◌}
 use Rattle.text_machine.specs.Entry.{Draft, begin, with_body}
 use Rattle.text_machine.specs.Sheet as M
 use Rattle.text_machine.specs.Sheet.{Piece, Kept, Level}

@@ -1,8 +1,8 @@
 -- Marks found by their spelling: the first of a list of keys, and words packed into one number each. Assumes nothing.
-use Rattle.std.specs.Prelude.{ℕ, suc, ◌+◌, ◌*◌, ◌≤◌, ◌<◌, ◌≡◌, refl, List, [], ◌∷◌, map, Bool, true, false, ◌&&◌, ◌||◌, eqb, leb, length}
+use Rattle.std.specs.Prelude.{ℕ, suc, ◌+◌, ◌*◌, ◌≤◌, ◌<◌, ◌≡◌, refl, List, [], ◌∷◌, map, Bool, true, false, ◌&&◌, ◌||◌, eqb, leb, length, if◌then◌else◌}
 use Rattle.std.proofs.Common.{arith, sym, ◌∙◌, ap, eqb-true, eq-eqb, ne_eqb, le-leb, leb-true}
 use Rattle.std.proofs.lemmas.Bool.{eqb-false, lt-leb}
-use Rattle.semantics.specs.Words.{if◌then◌else◌, all, any, first_at}
+use Rattle.semantics.specs.Words.{all, any, first_at}
 use Rattle.text_semantics.specs.Numbers as No
 use Rattle.text_semantics.specs.Token as K
 use Rattle.text_semantics.specs.Token.{name, number, mark, bad}

@@ -1,6 +1,6 @@
 -- The next token of a text: what `next` answers. Assumes nothing.
-use Rattle.std.specs.Prelude.{ℕ, ◌+◌, ◌-◌, ◌≤◌, ◌<◌, ◌≡◌, List, [], ◌++◌, Bool, true, not, ◌||◌, eqb, length, take, drop}
-use Rattle.semantics.specs.Words.{if◌then◌else◌, all}
+use Rattle.std.specs.Prelude.{ℕ, ◌+◌, ◌-◌, ◌≤◌, ◌<◌, ◌≡◌, List, [], ◌++◌, Bool, true, not, ◌||◌, eqb, length, take, drop, if◌then◌else◌}
+use Rattle.semantics.specs.Words.{all}
 use Rattle.text_semantics.specs.Numbers as No
 use Rattle.text_semantics.specs.Token as K
 use Rattle.text_semantics.specs.Token.{name, number, mark, bad}

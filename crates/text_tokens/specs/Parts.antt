@@ -1,6 +1,6 @@
 -- What the parts of `next` find: where a token begins, a word, a sign. Assumes nothing.
-use Rattle.std.specs.Prelude.{ℕ, ◌+◌, ◌*◌, ◌≤◌, ◌<◌, ◌≡◌, List, [], ◌∷◌, ◌++◌, map, Bool, true, false, not, ◌&&◌, ◌||◌, eqb, leb, length, drop, get_or}
-use Rattle.semantics.specs.Words.{if◌then◌else◌, all, any, first_at}
+use Rattle.std.specs.Prelude.{ℕ, ◌+◌, ◌*◌, ◌≤◌, ◌<◌, ◌≡◌, List, [], ◌∷◌, ◌++◌, map, Bool, true, false, not, ◌&&◌, ◌||◌, eqb, leb, length, drop, get_or, if◌then◌else◌}
+use Rattle.semantics.specs.Words.{all, any, first_at}
 use Rattle.text_semantics.specs.Numbers as No
 use Rattle.text_semantics.specs.Token as K
 use Rattle.text_semantics.specs.Lexing.{HASH, COLON, LOWER, EQUALS, HIGHER, keywords, signs}

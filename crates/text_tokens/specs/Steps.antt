@@ -1,8 +1,8 @@
 -- The definition of the tokens, token by token: what stands before a token, a word, a sign. Assumes nothing.
-use Rattle.std.specs.Prelude.{ℕ, suc, ◌+◌, ◌≡◌, List, [], ◌∷◌, ◌++◌, Bool, true, false, not, ◌||◌, eqb, length, drop, get_or, ◌⊎◌}
+use Rattle.std.specs.Prelude.{ℕ, suc, ◌+◌, ◌≡◌, List, [], ◌∷◌, ◌++◌, Bool, true, false, not, ◌||◌, eqb, length, drop, get_or, ◌⊎◌, if◌then◌else◌}
 use Rattle.std.proofs.Common.{arith, sym, ◌∙◌, ap, append-nil, append_assoc, eqb-true, inl, inr}
 use Rattle.std.proofs.Math.Path.{refl}
-use Rattle.semantics.specs.Words.{if◌then◌else◌, all, any}
+use Rattle.semantics.specs.Words.{all, any}
 use Rattle.text_semantics.specs.Token as K
 use Rattle.text_semantics.specs.Token.{mark, bad}
 use Rattle.text_semantics.specs.Lexing.{HASH, COLON, LOWER, EQUALS, HIGHER, signs, is_word, is_break, is_blank, word_of, sign_of}

@@ -1,7 +1,7 @@
 -- Tests on bytes and on lists of them, and parts of a list. Assumes nothing.
-use Rattle.std.specs.Prelude.{ℕ, zero, suc, ◌+◌, ◌*◌, ◌-◌, ◌≤◌, ◌<◌, min, ◌≡◌, refl, List, [], ◌∷◌, ◌++◌, Bool, true, false, ◌&&◌, ◌||◌, leb, length, drop, get_or}
+use Rattle.std.specs.Prelude.{ℕ, zero, suc, ◌+◌, ◌*◌, ◌-◌, ◌≤◌, ◌<◌, min, ◌≡◌, refl, List, [], ◌∷◌, ◌++◌, Bool, true, false, ◌&&◌, ◌||◌, leb, length, drop, get_or, if◌then◌else◌}
 use Rattle.std.proofs.Common.{arith, sym, ◌∙◌, ap, leb-true, ne_eqb, take-append-drop, length-drop, length-take-le, take-suc, drop-cons, get_or-drop, drop-drop}
-use Rattle.semantics.specs.Words.{if◌then◌else◌, all, within}
+use Rattle.semantics.specs.Words.{all, within}
 use Rattle.text_semantics.specs.Numbers as No
 use Rattle.text_semantics.specs.Lexing.{TAB, LF, CR, SPACE, HASH, ZERO, NINE, CAPITAL_A, CAPITAL_Z, SMALL_A, SMALL_Z, BASE}
 use Rattle.text_semantics.specs.Lexing.{is_word, value_of}

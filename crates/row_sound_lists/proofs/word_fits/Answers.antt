@@ -1,9 +1,9 @@
 -- `row_sound_lists::word_fits` meets its contract: by its kind. Assumes nothing.
+use Rattle.std.specs.Prelude.{if◌then◌else◌}
 use mathlib.Core.Path.{refl, ◌∙◌, ap}
 use lib.Dec.{eqb}
 use borrow.Author.Tests.{ne_eqb}
 use Rattle.base_ordered.specs.Lines.{kind_of}
-use Rattle.semantics.specs.Words.{if◌then◌else◌}
 use Rattle.row_sound_lists.specs.Tests.{return_fits}
 use Rattle.row_sound_lists.proofs.word_fits.Goals as goal
 

@@ -1,6 +1,6 @@
 -- `text_entry::at_signed` meets its contract. Assumes nothing.
+use Rattle.std.specs.Prelude.{if◌then◌else◌}
 use mathlib.Core.Path.{refl, sym, ap, ◌∙◌}
-use Rattle.semantics.specs.Words.{if◌then◌else◌}
 use Rattle.text_semantics.specs.Written.{four}
 use Rattle.text_machine.specs.Entry.{put, number_in}
 use Rattle.text_machine.specs.Codes.{token_of}

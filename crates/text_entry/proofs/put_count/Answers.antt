@@ -1,8 +1,8 @@
 -- `text_entry::put_count` meets its contract. Assumes nothing.
+use Rattle.std.specs.Prelude.{if◌then◌else◌}
 use native.Mathlib.Omega.{arith}
 use mathlib.Core.Path.{◌≡◌, ap}
 use Prim.Native.Nat.{◌+◌, min}
-use Rattle.semantics.specs.Words.{if◌then◌else◌}
 use Rattle.text_machine.specs.Entry as M
 use Rattle.text_machine.specs.Entry.{FULL}
 use Rattle.text_entry.specs.Draft.{draft_of}

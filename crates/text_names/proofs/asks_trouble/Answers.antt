@@ -1,6 +1,6 @@
 -- `text_names::asks_trouble` meets its contract: the test is the definition's. Assumes nothing.
+use Rattle.std.specs.Prelude.{if◌then◌else◌}
 use mathlib.Core.Path.{sym, ap}
-use Rattle.semantics.specs.Words.{if◌then◌else◌}
 use Rattle.text_semantics.specs.Numbers as No
 use Rattle.text_names.proofs.asks_trouble.Goals as goal
 

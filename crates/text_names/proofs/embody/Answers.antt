@@ -1,12 +1,12 @@
 -- `text_names::embody` meets its contract: of names that are known once, only the one that the search found changes; else
 -- there is one more. Assumes nothing.
+use Rattle.std.specs.Prelude.{if◌then◌else◌}
 use native.Mathlib.Omega.{arith}
 use Prim.Native.Nat.{◌≤◌, ◌<◌}
 use mathlib.Core.Path.{◌≡◌, sym, ◌∙◌, ap}
 use mathlib.Core.Bool.{false}
 use lib.Dec.{leb}
 use lib.ListN.{set, length-set}
-use Rattle.semantics.specs.Words.{if◌then◌else◌}
 use Rattle.text_machine.specs.Machine.{most_names}
 use Rattle.text_names.specs.Row.{place_of, place_known}
 use Rattle.text_names.specs.Table.{part_of}

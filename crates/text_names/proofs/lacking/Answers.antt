@@ -1,9 +1,9 @@
 -- `text_names::lacking` meets its contract. The loop's invariant: what is left to be looked at gives the answer.
 -- Assumes nothing.
+use Rattle.std.specs.Prelude.{if◌then◌else◌}
 use native.Mathlib.Omega.{arith}
 use mathlib.Core.Path.{sym, ◌∙◌, ap}
 use mathlib.Core.List.{[]}
-use Rattle.semantics.specs.Words.{if◌then◌else◌}
 use Rattle.text_machine.specs.Machine.{most_names}
 use Rattle.text_names.specs.Table.{known_at}
 use Rattle.text_names.proofs.Lacks.{lack_begin, lack_stop, lack_class, lack_other, lack_end}

@@ -1,4 +1,5 @@
 -- `text_reader::brace` meets its contract. Assumes nothing.
+use Rattle.std.specs.Prelude.{if◌then◌else◌}
 use native.Mathlib.Omega.{arith}
 use mathlib.Core.Path.{◌≡◌, refl, sym, ◌∙◌, ap}
 use mathlib.Core.Bool.{false}
@@ -8,7 +9,6 @@ use lib.Dec.{eqb}
 use lib.ListN.{get_or, take, set}
 use Rattle.semantics.specs.Numbers as F
 use Rattle.semantics.specs.Kinds as K
-use Rattle.semantics.specs.Words.{if◌then◌else◌}
 use Rattle.text_entry.specs.Draft.{draft_of}
 use Rattle.text_machine.specs.Entry.{KEPT, FULL}
 use Rattle.text_machine.specs.Sheet as M

@@ -1,6 +1,6 @@
 -- `text_reader::called` meets its contract. Assumes nothing.
+use Rattle.std.specs.Prelude.{if◌then◌else◌}
 use mathlib.Core.Path.{sym, ap}
-use Rattle.semantics.specs.Words.{if◌then◌else◌}
 use Rattle.text_reader.proofs.called.Goals as goal
 
 pub returns-then-sort-role : goal.returns-then-sort-role

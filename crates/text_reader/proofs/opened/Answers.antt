@@ -1,10 +1,10 @@
 -- `text_reader::opened` meets its contract. Assumes nothing.
+use Rattle.std.specs.Prelude.{if◌then◌else◌}
 use native.Mathlib.Omega.{arith}
 use native.Mathlib.Numerals.{add-one}
 use Prim.Native.Nat.{◌+◌, suc}
 use mathlib.Core.Path.{sym, ◌∙◌, ap}
 use borrow.Author.Tests.{eq-eqb, ne_eqb}
-use Rattle.semantics.specs.Words.{if◌then◌else◌}
 use Rattle.semantics.specs.Kinds as K
 use Rattle.text_sheet.specs.Numbers.{HEAD, counted, with_levels, branching, standing, counting}
 use Rattle.text_sheet.proofs.Opened.{acting, trying}

@@ -1,8 +1,8 @@
 -- `text_reader::over_limit` meets its contract. Assumes nothing.
+use Rattle.std.specs.Prelude.{if◌then◌else◌}
 use borrow.Author.Tests.{lt-ltb, le-ltb}
 use mathlib.Core.Path.{◌≡◌, refl}
 use mathlib.Core.Bool.{Bool, true, false}
-use Rattle.semantics.specs.Words.{if◌then◌else◌}
 use Rattle.text_reader.specs.declared.Limit.{Limit}
 use Rattle.text_reader.specs.Cut.{passed, stopped}
 use Rattle.text_reader.proofs.over_limit.Goals as goal

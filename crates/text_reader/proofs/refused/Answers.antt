@@ -1,7 +1,7 @@
 -- `text_reader::refused` meets its contract. Assumes nothing.
+use Rattle.std.specs.Prelude.{if◌then◌else◌}
 use mathlib.Core.Path.{refl, sym, ap}
 use borrow.Author.Tests.{lt-ltb, le-ltb}
-use Rattle.semantics.specs.Words.{if◌then◌else◌}
 use Rattle.text_reader.proofs.refused.Goals as goal
 
 pub returns-then-s-gt-FILE : goal.returns-then-s-gt-FILE

@@ -1,4 +1,5 @@
 -- `text_reader::sheet_after` meets its contract. Assumes nothing.
+use Rattle.std.specs.Prelude.{if◌then◌else◌}
 use native.Mathlib.Omega.{arith}
 use mathlib.Core.Path.{refl, sym, ◌∙◌, ap}
 use borrow.Author.Tests.{ne_eqb}
@@ -7,7 +8,6 @@ use mathlib.Core.Bool.{false}
 use Rattle.text_entry.specs.Draft.{draft_of}
 use Rattle.text_sheet.specs.Shown.{sheet_of}
 use lib.Dec.{eqb}
-use Rattle.semantics.specs.Words.{if◌then◌else◌}
 use Rattle.text_machine.specs.Codes.{token_of}
 use Rattle.text_machine.specs.Sheet.{with_first}
 use Rattle.text_reader.specs.Sorts.{body_by}

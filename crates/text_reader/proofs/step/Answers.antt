@@ -1,4 +1,5 @@
 -- `text_reader::step` meets its contract. Assumes nothing.
+use Rattle.std.specs.Prelude.{if◌then◌else◌}
 use Rattle.text_semantics.specs.Meaning.{number_of}
 use Rattle.text_machine.specs.Machine.{draft_after, is_known}
 use Rattle.text_agrees.specs.Stages.{moves}
@@ -15,7 +16,6 @@ use mathlib.Core.Path.{◌≡◌, refl, sym, ◌∙◌, ap}
 use mathlib.Core.Bool.{true, false}
 use mathlib.Core.Option.{none, some}
 use borrow.Author.Tests.{not-true, not-false}
-use Rattle.semantics.specs.Words.{if◌then◌else◌}
 use Rattle.text_semantics.specs.Numbers as No
 use Rattle.text_machine.specs.Codes.{NAME, symbol_of, token_of}
 use Rattle.text_machine.specs.Machine.{stops}

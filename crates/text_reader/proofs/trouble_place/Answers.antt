@@ -1,7 +1,7 @@
 -- `text_reader::trouble_place` meets its contract. Assumes nothing.
+use Rattle.std.specs.Prelude.{if◌then◌else◌}
 use mathlib.Core.Path.{sym, ap}
 use borrow.Author.Tests.{eq-eqb, ne_eqb}
-use Rattle.semantics.specs.Words.{if◌then◌else◌}
 use Rattle.text_reader.proofs.trouble_place.Goals as goal
 
 pub returns-then-sort-eq-BODY : goal.returns-then-sort-eq-BODY
