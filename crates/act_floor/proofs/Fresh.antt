@@ -8,7 +8,7 @@ use Rattle.semantics.specs.State.{fresh}
 use Rattle.semantics.specs.Decode.{accepted, decode}
 use Rattle.promises.specs.Laws.{AllOf}
 use Rattle.promises.specs.Accepted.{accepted_fit}
-use Rattle.promises.specs.FreshSound.{fresh_sound}
+use Rattle.promises.proofs.FreshSound.{fresh_sound}
 use Rattle.row_work.specs.Work.{work_of}
 use Rattle.row_work.specs.Sized.{IsByte}
 use Rattle.row_work.specs.Underway.{accepted_run}

@@ -14,7 +14,8 @@ use Rattle.semantics.specs.Walk.{Next, line, quiet, after}
 use Rattle.semantics.specs.Step.{in_front, request, while}
 use Rattle.promises.specs.Fit.{ActFit}
 use Rattle.promises.specs.Takes.{choice_has}
-use Rattle.promises.specs.Reasons.{WaitValue, item_few, WhyWaits, req_why, try_why}
+use Rattle.promises.specs.Reasons.{WaitValue, item_few}
+use Rattle.promises.proofs.Reasons.{WhyWaits, req_why, try_why}
 use Rattle.base_i32.specs.Code.{code, value_of}
 use Rattle.base_i32.specs.Laws.{value_of-code}
 use Rattle.base_journal.specs.Wrote.{wrote_at}

@@ -17,7 +17,8 @@ use Rattle.semantics.specs.Value.{in_range, Valued, Drawing, plain, of_one, of_t
 use Rattle.promises.specs.Laws.{if_has, AllOf, all_set, all_get, all_in}
 use Rattle.promises.specs.Fit.{I32, ExprFit, SamplerFit}
 use Rattle.promises.specs.Sound.{Seed, SeedsOk}
-use Rattle.promises.specs.Draws.{seed_stays, draw_ranged}
+use Rattle.promises.specs.Draws.{seed_stays}
+use Rattle.promises.proofs.Draws.{draw_ranged}
 use Rattle.base_i32.specs.Code.{Ranged}
 use Rattle.base_i32.specs.Laws.{in_range_lem}
 

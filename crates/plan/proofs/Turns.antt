@@ -18,10 +18,10 @@ use Rattle.semantics.specs.Run.{Answer, CLOSED, IDLE, LIMIT, FAULT, Ran, stopped
 use Rattle.semantics.specs.Run.{endless, room_for, run}
 use Rattle.promises.specs.Fit.{Fit}
 use Rattle.promises.specs.Sound.{Sound}
-use Rattle.promises.specs.Stays.{step_ok}
-use Rattle.promises.specs.Lines.{step_lines}
+use Rattle.promises.proofs.Stays.{step_ok}
+use Rattle.promises.proofs.Lines.{step_lines}
 use Rattle.promises.specs.Safe.{safe_fault, step_safe}
-use Rattle.promises.specs.Calls.{run_sound}
+use Rattle.promises.proofs.Calls.{run_sound}
 use Rattle.promises.specs.Answers.{Made, none_made, one_made, run_made, made_on, behind, steps_within}
 use Rattle.promises.specs.Answers.{Why, was_closed, was_idle, at_limit, at_fault, no_room, run_why}
 use Rattle.run_limit.specs.Ran.{number_of}

@@ -28,11 +28,13 @@ use Rattle.promises.specs.Laws.{all_set, all_get, all_append}
 use Rattle.promises.specs.Fit.{I32, ActFit, Fit}
 use Rattle.promises.specs.Sound.{ProcOk, ReturnOk, NoticeOk, EventOk, SeedsOk, Sound}
 use Rattle.promises.specs.Keep.{free_or_fine}
-use Rattle.promises.specs.Parts.{ValuedOk, eval_good, fit_at, moves_has, exhausted_has}
+use Rattle.promises.specs.Parts.{ValuedOk, fit_at, moves_has, exhausted_has}
+use Rattle.promises.proofs.Parts.{eval_good}
 use Rattle.promises.specs.Takes.{still_grant, not_goes, or_goes, asks_at, choice_has}
-use Rattle.promises.specs.Stays.{step_ok}
+use Rattle.promises.proofs.Stays.{step_ok}
 use Rattle.promises.specs.Answers.{run_keeps}
-use Rattle.promises.specs.Reasons.{WaitValue, barred_value, is_item, WhyWaits, req_why, try_why}
+use Rattle.promises.specs.Reasons.{WaitValue, barred_value, is_item}
+use Rattle.promises.proofs.Reasons.{WhyWaits, req_why, try_why}
 use Rattle.plan_text.specs.Tells.{Writable}
 
 abbrev LinesFit : Next → Type 0

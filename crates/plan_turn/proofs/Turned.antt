@@ -13,7 +13,7 @@ use Rattle.semantics.specs.Journal.{room_in}
 use Rattle.semantics.specs.Plan.{print_line}
 use Rattle.promises.specs.Laws.{AllOf}
 use Rattle.promises.specs.Sound.{Sound}
-use Rattle.promises.specs.Calls.{run_sound}
+use Rattle.promises.proofs.Calls.{run_sound}
 use Rattle.promises.specs.Answers.{steps_within, lines_fit}
 use Rattle.promises.specs.Answers.{Why, was_closed, was_idle, at_limit, at_fault, no_room, run_why}
 use Rattle.promises.specs.Safe.{step_safe, safe_fault}

@@ -11,7 +11,7 @@ use Rattle.semantics.specs.Claim.{covered, bars}
 use Rattle.promises.specs.Laws.{no_way, and-true, true-and, or-true, or_left, or_right, not-true, not-false, AllOf, all_map}
 use Rattle.promises.specs.Laws.{all_both, all_at, all_hold, all_told, any_has, any_map}
 
-not_so : (b : Bool) → (b ≡ true → ⊥) → b ≡ false
+pub not_so : (b : Bool) → (b ≡ true → ⊥) → b ≡ false
 not_so true f = absurd (f refl)
 not_so false f = refl
 
@@ -42,10 +42,10 @@ name_self : (x : Name) → same_name x x ≡ true
 name_self x = true-and (same_kind x.kind x.kind) _ (kind_self x.kind) (eq-eqb x.number x.number refl)
 
 -- PARTS. c names x; and d names all that c names.
-abbrev names : Claim → Name → Bool
+abbrev pub names : Claim → Name → Bool
 names c x = any (same_name x) (names_of c)
 
-abbrev part : Claim → Claim → Bool
+abbrev pub part : Claim → Claim → Bool
 part c d = all (names d) (names_of c)
 
 -- What holds of all that the whole names holds of all that a part names.
@@ -55,7 +55,7 @@ part_all P c d e h =
     (λ x i. any_has P (P x) (same_name x) (λ y s p. subst P (sym (name_same x y s)) p) (names_of d) i h)
     (names_of c) (all_hold (names d) (names_of c) e)
 
-own_names : (c : Claim) → AllOf (λ x. names c x ≡ true) (names_of c)
+pub own_names : (c : Claim) → AllOf (λ x. names c x ≡ true) (names_of c)
 own_names c = each (names_of c)
   where
     each : (xs : List Name) → AllOf (λ x. any (same_name x) xs ≡ true) xs
@@ -66,7 +66,7 @@ own_names c = each (names_of c)
           xs (each xs),
     )
 
-part_self : (c : Claim) → part c c ≡ true
+pub part_self : (c : Claim) → part c c ≡ true
 part_self c = all_told (names c) (names_of c) (own_names c)
 
 part_through : (c d e : Claim) → part c d ≡ true → part d e ≡ true → part c e ≡ true
@@ -197,13 +197,6 @@ pub record Equal (c d : Claim) : Type 0 where
   pub names : same_names (names_of c) (names_of d) ≡ true
   pub amounts : AllOf (λ x. amount_of c x ≡ amount_of d x) (names_of c)
 
-equal_self : (c : Claim) → Equal c c
-equal_self c =
-    record {
-      names = true-and (part c c) _ (part_self c) (part_self c);
-      amounts = all_map (λ x. names c x ≡ true) (λ x. amount_of c x ≡ amount_of c x) (λ x h. refl) (names_of c) (own_names c);
-    }
-
 -- Whatever covers one covers its equal.
 equal_covered : (c d e : Claim) → Equal c d → covers e d ≡ true → covers e c ≡ true
 equal_covered c d e q h =
@@ -294,23 +287,3 @@ never_equal (y ∷ ys) (x ∷ xs) n h = not_so (bars (y ∷ ys) (x ∷ xs)) (λ 
         any_map (by_offer m.other) (by_offer top.one)
         (λ z g. equal_covered top.one.claim m.other.claim z.claim m.equal g) (y ∷ ys)
         (all_at (λ z. covered (y ∷ ys) z ≡ true) (x ∷ xs) m.at m.other (all_hold (covered (y ∷ ys)) (x ∷ xs) e) m.there)
-
--- So nobody bars itself, and no two bar each other.
-pub never_itself : (q : List Offer) → is_empty q ≡ false → bars q q ≡ false
-never_itself q n = never_equal q q n (each q)
-  where
-    later : {o : Offer} {os : List Offer} (y : Offer) → EqualIn os y → EqualIn (o ∷ os) y
-    later y m = record { other = m.other; at = suc m.at; there = m.there; equal = m.equal }
-
-    each : (os : List Offer) → AllOf (EqualIn os) os
-    each [] = tt
-    each (o ∷ os) = (
-      record { other = o; at = 0; there = refl; equal = equal_self o.claim },
-      all_map (EqualIn os) (EqualIn (o ∷ os)) later os (each os),
-    )
-
-pub never_both : (b q : List Offer) → is_empty q ≡ false → bars b q ≡ true → bars q b ≡ false
-never_both [] [] n e = no_way (sym n)
-never_both [] (x ∷ xs) n e = no_way e
-never_both (y ∷ ys) q n e =
-    not_so (bars q (y ∷ ys)) (λ f. no_way (sym (never_itself (y ∷ ys) refl) ∙ bars_through (y ∷ ys) q (y ∷ ys) e f))

@@ -27,39 +27,6 @@ pub again_20 : (n : ℕ) → again (FAULT No.STATE) n ≡ FAULT No.STATE
 again_20 zero = refl
 again_20 (suc n) = refl
 
--- A run from t stops at once, whatever its limit and room.
-abbrev StopsAt : Model → Answer → State → Type 0
-StopsAt m a t = (n : ℕ) (r : Room) → run m n r t ≡ stopped (again a n) t
-
-closed_stops : (m : Model) (t : State) → before t ≡ is_closed → StopsAt m CLOSED t
-unfolding run
-closed_stops m t e zero r = rw (run, e) refl
-closed_stops m t e (suc n) r = rw (run, e) refl
-
-idle_stops : (m : Model) (t : State) → before t ≡ is_idle → StopsAt m IDLE t
-unfolding run
-idle_stops m t e zero r = rw (run, e) refl
-idle_stops m t e (suc n) r = rw (run, e) refl
-
-fault_stops : (m : Model) (t : State) (k : ℕ) → before t ≡ goes_on → step m t ≡ fails k → (k ≡ No.STATE → ⊥)
-    → StopsAt m (FAULT k) t
-unfolding run
-fault_stops m t k e f g zero r = rw (run, e, ne_eqb k No.STATE g) refl
-fault_stops m t k e f g (suc n) r = rw (run, e, f) refl
-
-why_stops : {m : Model} {n : ℕ} {r : Room} {a : Answer} {k : ℕ} {ls : List Line} {t : State} → Why m n r a k ls t →
-    no_end a ≡ false → (a ≡ FAULT No.STATE → ⊥) → StopsAt m a t
-why_stops {m = m} {t = t} (was_closed e) f g = closed_stops m t e
-why_stops {m = m} {t = t} (was_idle e) f g = idle_stops m t e
-why_stops (at_limit e h) f g = no_way (sym f)
-why_stops {m = m} {t = t} (at_fault {j = j} e h i) f g = fault_stops m t j e i (λ z. g (ap FAULT z))
-why_stops (no_room e h i j) f g = no_way (sym f)
-
--- After an end (CLOSED, IDLE, or a fault other than 30) no run makes a step, and each answers the same again.
-pub end_stays : (m : Model) (n : ℕ) (r : Room) (s : State) → no_end (run m n r s).answer ≡ false
-    → ((run m n r s).answer ≡ FAULT No.STATE → ⊥) → StopsAt m (run m n r s).answer (run m n r s).state
-end_stays m n r s e g = why_stops (run_why m n r s) e g
-
 -- A run that does not answer 30 is the run with endless room.
 abbrev Not30 : Ran → Type 0
 Not30 r = r.answer ≡ FAULT No.JOURNAL → ⊥

@@ -9,7 +9,7 @@ use Rattle.semantics.specs.Sound.{sound_in, sound}
 use Rattle.promises.specs.Laws.{no_way, AllOf, all_map, ◌&◌}
 use Rattle.promises.specs.Sound.{ProcOk, Sound}
 use Rattle.promises.specs.Says.{Says, says_is, says_eq, says_for, ◌and◌}
-use Rattle.promises.specs.Decides.{sound_yes}
+use Rattle.promises.proofs.Decides.{sound_yes}
 use Rattle.promises.specs.Accepted.{accepted_fit, accepted_nested}
 use Rattle.file_index.specs.Index.{counts_in}
 use Rattle.file_index.specs.declared.Counts.{Counts}

@@ -14,7 +14,7 @@ use Rattle.promises.specs.Fit.{I32, EntityFit, Fit, Nested}
 use Rattle.promises.specs.Sound.{al, Vacant, ProcOk, Sound}
 use Rattle.promises.specs.Keep.{living_in, al_none, FreeAt, some_free, enter_all}
 use Rattle.promises.specs.Moves.{nobody_ok}
-use Rattle.promises.specs.FreshSound.{bare_sound, begin_all_sound}
+use Rattle.promises.proofs.FreshSound.{bare_sound, begin_all_sound}
 use Rattle.base_numbers.specs.Row as Row
 use Rattle.base_numbers.specs.Limit as Limit
 use Rattle.row_work.specs.Work.{ProcessSized, EventSized, Sized}

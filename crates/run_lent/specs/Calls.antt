@@ -14,8 +14,8 @@ use Rattle.promises.specs.Laws.{AllOf}
 use Rattle.promises.specs.Left.{no_try}
 use Rattle.promises.specs.Accepted.{accepted_fit, accepted_nested}
 use Rattle.promises.specs.Answers.{steps_within, lines_fit}
-use Rattle.promises.specs.Calls.{calls_sound}
-use Rattle.promises.specs.Promises.{steps_at_most, ended_by_the_bound, exactly_the_bound}
+use Rattle.promises.proofs.Calls.{calls_sound}
+use Rattle.promises.proofs.Promises.{steps_at_most, ended_by_the_bound, exactly_the_bound}
 use Rattle.row_work.specs.Work.{work_of}
 use Rattle.row_work.specs.Sized.{IsByte, accepted_rounds, sound_sized}
 use Rattle.row_view.specs.View.{view_in, sound_row}

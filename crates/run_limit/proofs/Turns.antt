@@ -18,7 +18,7 @@ use Rattle.semantics.specs.Run.{FAULT, stopped, Before, is_closed, is_idle, goes
 use Rattle.semantics.specs.Journal.{room_in, written}
 use Rattle.promises.specs.Laws.{no_way, and-true}
 use Rattle.promises.specs.Sound.{Sound}
-use Rattle.promises.specs.Stays.{step_ok}
+use Rattle.promises.proofs.Stays.{step_ok}
 use Rattle.promises.specs.Safe.{step_safe}
 use Rattle.base_numbers.specs.Line as Line
 use Rattle.row_work.specs.Work.{work_of}

@@ -7,7 +7,7 @@ use Rattle.semantics.specs.Model.{Model}
 use Rattle.semantics.specs.Bytes.{records_from}
 use Rattle.semantics.specs.Run.{run}
 use Rattle.semantics.specs.Journal.{room_in}
-use Rattle.promises.specs.Decides.{sound_yes}
+use Rattle.promises.proofs.Decides.{sound_yes}
 use Rattle.base_journal.specs.Laws.{written_none}
 use Rattle.row_work.specs.Underway.{accepted_run}
 use Rattle.file_map.specs.MapOf.{map_of}

@@ -7,7 +7,7 @@ use lib.ListN.{length, get_or}
 use Rattle.semantics.specs.Model.{Model, Entity}
 use Rattle.semantics.specs.State.{State, wake, begin, begin_all, bare, fresh}
 use Rattle.promises.specs.Fit.{Fit, Nested}
-use Rattle.promises.specs.FreshSound.{fresh_sound}
+use Rattle.promises.proofs.FreshSound.{fresh_sound}
 use Rattle.base_numbers.specs.Row as Row
 use Rattle.base_numbers.specs.Limit as Limit
 use Rattle.base_ordered.specs.Lines.{pad}

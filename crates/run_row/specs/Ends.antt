@@ -8,11 +8,11 @@ use Rattle.semantics.specs.Decode.{Checked, refused, accepted, decode}
 use Rattle.semantics.specs.State.{State}
 use Rattle.semantics.specs.Run.{Answer, Ask, call, no_end}
 use Rattle.promises.specs.Laws.{AllOf, no_way}
-use Rattle.promises.specs.Decides.{sound_yes}
+use Rattle.promises.proofs.Decides.{sound_yes}
 use Rattle.promises.specs.Sound.{Sound}
 use Rattle.promises.specs.Accepted.{accepted_fit, accepted_nested}
 use Rattle.promises.specs.Ends.{again, again_20}
-use Rattle.promises.specs.Calls.{call_is, run_sound, ended_stays}
+use Rattle.promises.proofs.Calls.{call_is, run_sound, ended_stays}
 use Rattle.row_work.specs.Sized.{IsByte, accepted_rounds, sound_sized}
 use Rattle.row_view.specs.View.{view_in, sound_row}
 use Rattle.row_view.specs.Rows.{says_sound_row, sound_shaped}

@@ -10,10 +10,10 @@ use Rattle.semantics.specs.State.{State, fresh}
 use Rattle.semantics.specs.Sound.{sound_in}
 use Rattle.semantics.specs.Run.{FAULT, Ask, stopped, run, call_in, call, leaves}
 use Rattle.promises.specs.Laws.{AllOf, no_way, ◌&◌}
-use Rattle.promises.specs.Decides.{sound_yes, sound_back}
+use Rattle.promises.proofs.Decides.{sound_yes, sound_back}
 use Rattle.promises.specs.Sound.{Sound}
 use Rattle.promises.specs.Accepted.{accepted_fit, accepted_nested}
-use Rattle.promises.specs.Calls.{call_is, run_sound, calls_sound, never_20}
+use Rattle.promises.proofs.Calls.{call_is, run_sound, calls_sound, never_20}
 use Rattle.base_numbers.specs.Row as Row
 use Rattle.row_work.specs.Work.{work_of, Sized}
 use Rattle.row_work.specs.Sized.{IsByte, accepted_rounds, sound_sized}

@@ -1,7 +1,7 @@
 -- `run_limit::advance` meets its contract: where there is room for 66 lines, those of the step fit. Assumes nothing.
 use native.Mathlib.Omega.{arith}
 use Rattle.semantics.specs.Step.{step as step_of}
-use Rattle.promises.specs.Lines.{step_lines}
+use Rattle.promises.proofs.Lines.{step_lines}
 use Rattle.run_limit.proofs.Aside.{fits_anyway}
 use Rattle.run_limit.proofs.advance.Goals as goal
 

@@ -16,12 +16,13 @@ use Rattle.promises.specs.Laws.{no_way}
 use Rattle.promises.specs.Fit.{Fit}
 use Rattle.promises.specs.Accepted.{accepted_fit}
 use Rattle.promises.specs.Sound.{Sound}
-use Rattle.promises.specs.Decides.{sound_yes, sound_back}
-use Rattle.promises.specs.Stays.{step_ok}
-use Rattle.promises.specs.FreshSound.{fresh_sound}
+use Rattle.promises.proofs.Decides.{sound_yes, sound_back}
+use Rattle.promises.proofs.Stays.{step_ok}
+use Rattle.promises.proofs.FreshSound.{fresh_sound}
 use Rattle.promises.specs.Safe.{safe_fault, step_safe}
 use Rattle.promises.specs.Answers.{run_keeps, Why, was_closed, was_idle, at_limit, at_fault, no_room, run_why, call_20}
-use Rattle.promises.specs.Ends.{again, again_20, end_stays}
+use Rattle.promises.specs.Ends.{again, again_20}
+use Rattle.promises.proofs.Ends.{end_stays}
 
 -- A step that faults out of a sound state faults above 20.
 why_not_20 : {m : Model} {n : ℕ} {r : Room} {a : Answer} {k : ℕ} {ls : List Line} {t : State} → Sound m t → Why m n r a k ls t

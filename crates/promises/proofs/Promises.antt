@@ -17,9 +17,9 @@ use Rattle.promises.specs.Laws.{AllOf}
 use Rattle.promises.specs.Fit.{Fit}
 use Rattle.promises.specs.Accepted.{accepted_fit, accepted_nested, accepted_forward}
 use Rattle.promises.specs.Sound.{Sound}
-use Rattle.promises.specs.Decides.{sound_yes, sound_back}
-use Rattle.promises.specs.Stays.{step_ok}
-use Rattle.promises.specs.FreshSound.{fresh_sound}
+use Rattle.promises.proofs.Decides.{sound_yes, sound_back}
+use Rattle.promises.proofs.Stays.{step_ok}
+use Rattle.promises.proofs.FreshSound.{fresh_sound}
 use Rattle.promises.specs.Capacity.{Fitting, lists_fit}
 use Rattle.promises.specs.Nests.{eight_blocks}
 use Rattle.promises.specs.Safe.{Safe, step_safe}
@@ -27,10 +27,10 @@ use Rattle.promises.specs.Keep.{al_none, free_or_fine}
 use Rattle.promises.specs.Moves.{proc_at}
 use Rattle.promises.specs.Left.{no_try}
 use Rattle.promises.specs.Ends.{again}
-use Rattle.promises.specs.Reasons as R
+use Rattle.promises.proofs.Reasons as R
 use Rattle.promises.specs.Reasons.{SaysWhyItWaits}
-use Rattle.promises.specs.Calls as C
-use Rattle.promises.specs.Demand3 as D
+use Rattle.promises.proofs.Calls as C
+use Rattle.promises.proofs.Demand3 as D
 
 -- WHAT HAS ENDED STAYS ENDED, whatever run was handed in: after CLOSED, IDLE or a fault other than 30 every later call, with any
 -- limit and room, makes 0 steps, writes no line, leaves the run as it is and answers the same `again`. With limit 0 a fault is

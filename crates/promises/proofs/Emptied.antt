@@ -8,7 +8,7 @@ use Rattle.semantics.specs.State.{State}
 use Rattle.semantics.specs.Walk.{Line}
 use Rattle.semantics.specs.Run.{Answer, FAULT, Room, endless, room_for, run}
 use Rattle.promises.specs.Sound.{Sound}
-use Rattle.promises.specs.Lines.{step_lines}
+use Rattle.promises.proofs.Lines.{step_lines}
 use Rattle.promises.specs.Safe.{safe_fault, step_safe}
 use Rattle.promises.specs.Answers.{Made, none_made, one_made, run_made, made_on, behind, steps_within}
 use Rattle.promises.specs.Answers.{Why, was_closed, was_idle, at_limit, at_fault, no_room, run_why}

@@ -36,7 +36,8 @@ use Rattle.promises.specs.Sound.{al, on_floor, noticed, slaved, gives, owes, Fin
 use Rattle.promises.specs.Keep.{living_in, living_are, some_free}
 use Rattle.promises.specs.Moves.{hand_fine, recount, remove, create, is_entered, frees, bin_is, seeds_are, global_is}
 use Rattle.promises.specs.Moves.{first_event_out, joins, blocks}
-use Rattle.promises.specs.Parts.{ValuedOk, eval_good, priority_ok, fit_at, moves_has, onward-al, chain_into, chain_parts}
+use Rattle.promises.specs.Parts.{ValuedOk, priority_ok, fit_at, moves_has, onward-al, chain_into, chain_parts}
+use Rattle.promises.proofs.Parts.{eval_good}
 use Rattle.promises.specs.Parts.{chain_again, leave_chain, leave-al, fine_held, fine_slaves, fine_local, fine_priority}
 use Rattle.promises.specs.Parts.{new_fine, zeros_at, hand_over, handed-length, handed_at, kept_length, kept_at, freed-stay}
 use Rattle.promises.specs.Parts.{stay_all, returning_are}

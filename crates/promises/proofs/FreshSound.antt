@@ -15,7 +15,7 @@ use Rattle.promises.specs.Sound.{al, waits, slaved, ProcOk, Ranked, Tied, Seed, 
 use Rattle.promises.specs.Keep.{living_in, some_free}
 use Rattle.promises.specs.Moves.{nobody_ok}
 use Rattle.promises.specs.Parts.{zeros_at}
-use Rattle.promises.specs.Stays.{begins}
+use Rattle.promises.proofs.Stays.{begins}
 
 module _ (m : Model) (t : Fit m) where
   -- Nobody lives yet.

@@ -1,0 +1,13 @@
+pub mod Draws
+pub mod Parts
+pub mod Covers
+pub mod Stays
+pub mod FreshSound
+pub mod Decides
+pub mod Lines
+pub mod Reasons
+pub mod Ends
+pub mod Calls
+pub mod Emptied
+pub mod Demand3
+pub mod Promises
