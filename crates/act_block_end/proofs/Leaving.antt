@@ -27,7 +27,7 @@ use Rattle.promises.specs.Takes.{goes_into}
 use Rattle.base_i32.specs.Code.{value_of}
 use Rattle.base_journal.specs.Wrote.{wrote_at}
 use Rattle.file_index.specs.Ties.{kind_at, ActionAt}
-use Rattle.file_actions.specs.Kinds.{kind_of_lem}
+use Rattle.file_actions.proofs.ByKind.{kind_of_lem}
 use Rattle.row_work.specs.Work.{work_of, FrameSized, Sized, Doing}
 use Rattle.row_work.specs.Underway.{in_state, still_sized}
 use Rattle.row_process.specs.Process.{Shown, Lives, Inner, changed, restarted, again, outside, out}

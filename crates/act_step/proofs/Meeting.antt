@@ -14,8 +14,10 @@ use Rattle.semantics.specs.State.{State}
 use Rattle.semantics.specs.Walk.{Next}
 use Rattle.semantics.specs.Step.{act}
 use Rattle.file_index.specs.Ties.{body_at}
-use Rattle.file_actions.specs.Kinds.{OfKind, kind_of_lem, of_kind}
-use Rattle.file_actions.specs.Bodies.{ReadsExpression, Says, told}
+use Rattle.file_actions.specs.Kinds.{OfKind}
+use Rattle.file_actions.proofs.ByKind.{kind_of_lem, of_kind}
+use Rattle.file_actions.specs.Bodies.{ReadsExpression, Says}
+use Rattle.file_actions.proofs.Bodies.{told}
 use Rattle.act_floor.specs.Acting.{Acting, Stepped, SteppedQuietly, quietly}
 use Rattle.act_floor.specs.Running.{on}
 use Rattle.act_hold_prio_lset_trace.specs.Given.{Given}

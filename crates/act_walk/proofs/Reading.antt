@@ -12,7 +12,7 @@ use Rattle.semantics.specs.Bytes.{u16}
 use Rattle.semantics.specs.State.{State}
 use Rattle.semantics.specs.Claim.{Offer, enter_block, offers}
 use Rattle.promises.specs.Laws.{AllOf, all_at}
-use Rattle.file_actions.specs.Kinds.{kind_of_lem}
+use Rattle.file_actions.proofs.ByKind.{kind_of_lem}
 use Rattle.row_work.specs.Blocked.{blocked_count}
 use Rattle.row_process.specs.Process.{Shown}
 use Rattle.row_grant.specs.Grant.{into_block}

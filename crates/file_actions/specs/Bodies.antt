@@ -75,7 +75,7 @@ Says bs (START c t h) = Starts c t h bs
 Says bs CLOSE = length bs ≡ 0
 
 -- EVERY ROW of the table says so, where the body has passed its checks.
-abbrev SaysEntry : List ℕ → Entry → Type 0
+abbrev pub SaysEntry : List ℕ → Entry → Type 0
 SaysEntry bs (RES n) = Unit {0}
 SaysEntry bs (BIN n) = Unit {0}
 SaysEntry bs SYNC = Unit {0}
@@ -86,88 +86,8 @@ SaysEntry bs (ENTITY x) = Unit {0}
 SaysEntry bs (SAMPLER x) = Unit {0}
 SaysEntry bs (ACTION x) = Says bs x
 
-abbrev RowSays : List ℕ → Row → Type 0
+abbrev pub RowSays : List ℕ → Row → Type 0
 RowSays bs r = Sized r bs → SaysEntry bs (r.says bs)
-
-module _ (bs : List ℕ) where
-  tail_reads : {A : Type 0} {r : Row} (read : List ℕ → A) → Sized r bs →
-      Reads r.tail read (drop r.head bs) (read (drop r.head bs))
-  tail_reads read s = (s.tail_sized, (s.tail_valid, refl))
-
-  headed : {Rest : List ℕ → Type 0} → 2 ≤ length bs → Rest (drop 2 bs) → Headed (u16 bs 0) Rest bs
-  headed l r = record { long = l; number_is = refl; rest = r }
-
-  numbers : length bs ≡ 4 → Numbers (u16 bs 0) (u16 bs 2) bs
-  numbers l = record { long = l; first_is = refl; second_is = refl }
-
-  amount : length bs ≡ 6 → Amount (u16 bs 0) (u32 bs 2) bs
-  amount l = record { long = l; number_is = refl; amount_is = refl }
-
-  -- with no tail it is as long as its head
-  no_tail : {r : Row} → r.tail ≡ nothing → Sized r bs → length bs ≡ r.head
-  no_tail {r} e s =
-      let b : List ℕ = drop r.head bs in
-      omega (arith, eqb-true (length b) 0 (rw e at s.tail_sized), length-drop r.head bs, s.head_there)
-
-  starts : 6 ≤ length bs → Reads shares shares_in (drop 6 bs) (shares_in (drop 6 bs)) →
-      Starts (u16 bs 0) (u32 bs 2) (shares_in (drop 6 bs)) bs
-  unfolding shares_in
-  starts l s =
-      let b : List ℕ = drop 6 bs in
-      let n : u16 b 0 ≡ u16 bs 6 = omega (arith, get_or-drop 6 bs 0 0, get_or-drop 6 bs 1 0) in
-      let e = eqb-true (length b) (2 + 6 * u16 b 0) (and-true (leb 2 (length b)) _ s.0).1 in
-      record {
-        long = omega (arith, length-drop 6 bs);
-        class_is = refl;
-        offset_is = refl;
-        shares_are = s;
-        shares_many = omega (arith, length-map (parts 6 (u16 b 0) (drop 2 b)) share_of, parts_many 6 (u16 b 0) (drop 2 b));
-      }
-
-  rows_say : AllOf (RowSays bs) table
-  rows_say =
-      (λ s. tt) & (λ s. tt) & (λ s. tt) & (λ s. tt) & (λ s. tt) & (λ s. tt) & (λ s. tt) & (λ s. tt)
-      & (λ s. tail_reads expression_in s)
-      & (λ s. tail_reads expression_in s)
-      & (λ s. headed s.head_there (tail_reads expression_in s))
-      & (λ s. headed s.head_there (tail_reads expression_in s))
-      & (λ s. numbers (no_tail refl s))
-      & (λ s. amount (no_tail refl s))
-      & (λ s. amount (no_tail refl s))
-      & (λ s. numbers (no_tail refl s))
-      & (λ s. record { long = no_tail refl s; number_is = refl })
-      & (λ s. tail_reads claim_in s)
-      & (λ s. tail_reads branches_in s)
-      & (λ s. headed s.head_there (tail_reads claim_in s))
-      & (λ s. starts s.head_there (tail_reads shares_in s))
-      & (λ s. tail_reads expression_in s)
-      & (λ s. no_tail refl s)
-      & tt
-
--- SO DOES THE RECORD of the action x that stands at byte p of the file bs.
-pub told : {bs : List ℕ} {p : ℕ} {x : Action} → ActionAt bs p x → Says (body_at bs p) x
-told {bs} {p} a =
-    let b : List ℕ = body_at bs p in
-    let k : ℕ = u16 (drop p bs) 2 in
-    subst (SaysEntry b) a.says
-    ((its_row (RowSays b) (rows_say b) k a.judged.grouped).0 (sized_by (row_of k) b a.judged.body_judged))
-
--- What `act_value::evaluate` asks of an expression's bytes, action by action.
-module _ (bs : List ℕ) (p : ℕ) where
-  pub expression_at : (e : Expr) → ActionAt bs p (HOLD e) → ReadsExpression (body_at bs p) e
-  expression_at e a = told a
-
-  pub prio_at : (e : Expr) → ActionAt bs p (PRIO e) → ReadsExpression (body_at bs p) e
-  prio_at e a = told a
-
-  pub trace_at : (e : Expr) → ActionAt bs p (TRACE e) → ReadsExpression (body_at bs p) e
-  trace_at e a = told a
-
-  pub set_at : (i : ℕ) (e : Expr) → ActionAt bs p (SET i e) → Headed i (λ l. ReadsExpression l e) (body_at bs p)
-  set_at i e a = told a
-
-  pub lset_at : (i : ℕ) (e : Expr) → ActionAt bs p (LSET i e) → Headed i (λ l. ReadsExpression l e) (body_at bs p)
-  lset_at i e a = told a
 
 -- And that it fits the model: each action of a block does.
 module _ (m : Model) where

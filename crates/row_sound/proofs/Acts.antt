@@ -19,8 +19,9 @@ use Rattle.promises.specs.Laws.{no_way}
 use Rattle.base_numbers.specs.Limit as Limit
 use Rattle.base_numbers.specs.Map as Map
 use Rattle.file_index.specs.Ties.{kind_at, body_at, ActionAt}
-use Rattle.file_actions.specs.Kinds.{kind_of_lem, is_do}
-use Rattle.file_actions.specs.Bodies.{Numbers, told}
+use Rattle.file_actions.proofs.ByKind.{kind_of_lem, is_do}
+use Rattle.file_actions.specs.Bodies.{Numbers}
+use Rattle.file_actions.proofs.Bodies.{told}
 use Rattle.file_map.specs.Map.{claim_at, OffersAt}
 use Rattle.row_sound.specs.Chain.{among, branch_enters, Branching, ActsAt, At, Standing}
 
