@@ -9,3 +9,4 @@ pub mod Ready
 pub mod Steps
 pub mod Before
 pub mod Onward
+pub mod End

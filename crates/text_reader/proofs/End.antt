@@ -1,0 +1,68 @@
+-- The end: what is answered behind the last token, by the numbers and arrays that it goes by.
+-- Assumes nothing.
+use Rattle.std.specs.Prelude.{ℕ, zero, suc, ◌≤◌, ◌<◌, ◌≡◌, List, [], ◌∷◌, ◌++◌, Bool, ltb, length, get_or, take, drop, if◌then◌else◌}
+use Rattle.std.proofs.Common.{arith, sym, ◌∙◌, subst, get_or-take}
+use Rattle.std.proofs.Math.Path.{refl, ap}
+use Rattle.std.proofs.Math.Bool.{true, false}
+use Rattle.std.proofs.Math.Dec.{eqb, leb}
+use borrow.Author.Tests.{ltb-true, ltb-false, lt-ltb, le-ltb, lt-leb, le-leb, eqb-true, eqb-false, eq-eqb, ne_eqb}
+use Rattle.semantics.specs.Words.{any, keep, first_at}
+use Rattle.semantics.specs.Numbers as F
+use Rattle.semantics.specs.Kinds as K
+use Rattle.text_semantics.specs.Numbers as No
+use Rattle.text_semantics.specs.Names.{Known}
+use Rattle.text_semantics.specs.Answer.{Answer, refused, written, answer}
+use Rattle.text_machine.specs.Sheet.{file}
+use Rattle.text_machine.specs.Machine.{most_names, lacking, ended, machine}
+use Rattle.text_answers.specs.Agreeing.{machine_is_answer}
+use Rattle.text_names.specs.Table.{known_at, lacking_of, lacking_in}
+use Rattle.text_names.specs.Lacking.{lacking_known, lacks_any}
+use Rattle.text_names.specs.Span.{span-length}
+use Rattle.text_sheet.specs.declared.Sheet.{Sheet}
+use Rattle.text_sheet.specs.Shown.{sheet_of}
+use Rattle.text_sheet.specs.Fine.{Small, Rising}
+use Rattle.text_sheet.specs.Told.{filed}
+use Rattle.text_reader.specs.declared.Turned.{Turned}
+use Rattle.text_reader.specs.Shown.{Memory, reader_of, known_in}
+use Rattle.text_reader.specs.declared.Answered.{Answered}
+use Rattle.text_reader.specs.Answer.{Says}
+use Rattle.text_reader.specs.Length.{file_fits}
+use Rattle.text_reader.specs.Going.{Done}
+use Rattle.text_reader.specs.End.{ended_of, ended_by, answer_of, Closed, Answers}
+
+-- BEHIND THE TOKENS: what is asked there is so, and what is answered is what the machine answers, and so what is to be answered.
+wider : {ends : List ℕ} {n a b : ℕ} → a ≤ b → Rising ends n a → Rising ends n b
+wider h x = record { rises = x.rises; within = λ k l. omega (arith, x.within k l) }
+
+module _ {bs : List ℕ} {r : Turned} {m : Memory} (d : Done bs r m) (e : m.sheet ≡ r.state.sheet)
+    (f : m.names.many ≡ r.state.many) where
+  pub closes : Closed r m.lent.declared m.lent.stage m.lent.ends m.lent.blocks
+  unfolding sheet_of file
+  closes =
+      record {
+        few = λ z. omega (arith, (d.ready z).names.fine.few);
+        small = λ z. rw (sym e) (d.ready z).sheet.fine.small;
+        rising = λ z. rw (sym e) (wider (d.ready z).sheet.fine.small.staged (d.ready z).sheet.fine.rising);
+        fits = λ z. rw (sym e) (file_fits (d.counts z));
+      }
+
+  answers_machine : {out after : List ℕ} {a : Answered}
+      → Answers r m.names.what m.names.lacks m.lent.class_line m.lent.declared m.lent.stage m.lent.ends
+      m.lent.blocks (length bs) out a after → Says (machine bs (length out)) a out after
+  unfolding answer_of
+  answers_machine {out} {after} {a} x = go (eqb r.number 0) refl x.says
+    where
+      go : (b : Bool) → eqb r.number 0 ≡ b
+          → Says (if b then ended_of r.state.many r.state.sheet m.names.what m.names.lacks m.lent.class_line
+          m.lent.declared m.lent.stage m.lent.ends m.lent.blocks (length bs) (length out)
+          else refused r.number r.place) a out after → Says (machine bs (length out)) a out after
+      go true g y =
+          let z = eqb-true r.number 0 g in
+          rw (d.over z (length out), ended_by bs m (d.ready z).names.fine.few (length bs) (length out), e, f) y
+      go false g y = rw (d.stopped (eqb-false r.number 0 g) (length out)) y
+
+  pub answers_text : {out after : List ℕ} {a : Answered}
+      → Answers r m.names.what m.names.lacks m.lent.class_line m.lent.declared m.lent.stage m.lent.ends
+      m.lent.blocks (length bs) out a after → Says (answer bs (length out)) a out after
+  answers_text {out} {after} {a} x =
+      subst (λ (y : Answer). Says y a out after) (machine_is_answer bs (length out)) (answers_machine x)
