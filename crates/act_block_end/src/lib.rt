@@ -1,4 +1,6 @@
 // The end of a block: round again, back to the action that named it, or the end of the process.
+#![tactic(auto)]
+
 ghost use Rattle.std.specs.Prelude.{◌≡◌};
 ghost use Rattle.semantics.specs.State.{process, with_frames};
 ghost use Rattle.semantics.specs.Step.{comes_back, leave, ends, exhausted};

@@ -1,4 +1,6 @@
 // DO and CLOSE of the process on the floor.
+#![tactic(auto)]
+
 ghost use Rattle.std.specs.Prelude.{◌≡◌};
 ghost use Rattle.semantics.specs.Model.{DO, CLOSE};
 ghost use Rattle.semantics.specs.State.{now_closed};

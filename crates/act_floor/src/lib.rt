@@ -1,4 +1,6 @@
 // What a step comes to, and what every action needs: the clock, the floor and a line of the journal.
+#![tactic(auto)]
+
 ghost use Rattle.std.specs.Prelude.{◌≡◌, [], ◌∷◌, ◌+◌, ◌*◌, ◌≤◌, ◌<◌, length};
 ghost use Rattle.semantics.specs.Numbers as No;
 ghost use Rattle.semantics.specs.State.{process, empty, with_floor};

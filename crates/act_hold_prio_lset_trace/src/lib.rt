@@ -1,4 +1,6 @@
 // HOLD, PRIO, LSET and TRACE of the process on the floor, and the value of an action's expression.
+#![tactic(auto)]
+
 ghost use Rattle.std.specs.Prelude.{◌≡◌, drop};
 ghost use Rattle.semantics.specs.Model.{HOLD, PRIO, TRACE, LSET};
 ghost use Rattle.semantics.specs.Step.{hold, prio, set_local, trace};

@@ -1,4 +1,6 @@
 // PUTR and PUTB of the process on the floor: what it gives enters the event list as a return.
+#![tactic(auto)]
+
 ghost use Rattle.std.specs.Prelude.{◌≡◌};
 ghost use Rattle.semantics.specs.Model.{PUTR, PUTB};
 ghost use Rattle.semantics.specs.Step.{putr, putb};

@@ -1,4 +1,6 @@
 // What a process on the floor hands over: shares to one that it starts, and slaves that it lets go.
+#![tactic(auto)]
+
 ghost use Rattle.std.specs.Prelude.{◌≡◌, [], ◌∷◌, ◌&&◌, ◌+◌, ◌*◌, ◌≤◌, ◌<◌, ltb, length, get_or, pos};
 ghost use Rattle.semantics.specs.Numbers as No;
 ghost use Rattle.semantics.specs.Model.{PUTS};

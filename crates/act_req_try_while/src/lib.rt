@@ -1,4 +1,6 @@
 // REQ, TRY and WHILE of the process on the floor: it takes a branch, or is blocked and says why, or passes on.
+#![tactic(auto)]
+
 ghost use Rattle.std.specs.Prelude.{◌≡◌};
 ghost use Rattle.semantics.specs.Model.{WHILE};
 ghost use Rattle.semantics.specs.Step.{request, while};

@@ -1,4 +1,6 @@
 // Return notices: what comes back is added, and then it is walked.
+#![tactic(auto)]
+
 ghost use Rattle.std.specs.Prelude.{◌≡◌, ◌+◌, ◌≤◌, ◌<◌, length, get_or, set};
 ghost use Rattle.semantics.specs.Numbers as No;
 ghost use Rattle.semantics.specs.State.{returns_r, returns_b};

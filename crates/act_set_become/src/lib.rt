@@ -1,4 +1,6 @@
 // SET and BECOME of the process on the floor, and the walk after them.
+#![tactic(auto)]
+
 ghost use Rattle.std.specs.Prelude.{◌≡◌, ◌<◌, length, set};
 ghost use Rattle.semantics.specs.Model.{BECOME};
 ghost use Rattle.semantics.specs.Step.{set_global, become};

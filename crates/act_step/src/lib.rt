@@ -1,4 +1,6 @@
 // One step: whoever has the floor does one thing; else the first of the event list takes it, or is a return that comes back.
+#![tactic(auto)]
+
 ghost use Rattle.std.specs.Prelude.{◌≡◌, ◌+◌, ◌≤◌, ◌<◌, length, get_or, set};
 ghost use Rattle.semantics.specs.Kinds as K;
 ghost use Rattle.semantics.specs.State.{held_by, with_floor};

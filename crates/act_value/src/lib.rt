@@ -1,4 +1,6 @@
 // The value of an expression, from the bytes of its nodes, by recursion over them.
+#![tactic(auto)]
+
 ghost use Rattle.std.specs.Prelude.{◌≡◌, ◌≤◌, ◌<◌, ◌/◌, length, get_or, set, neg_ℤ};
 ghost use Rattle.semantics.specs.Numbers as No;
 ghost use Rattle.semantics.specs.Record.{expression_in};

@@ -1,4 +1,6 @@
 // The generator of samples: the seed after a seed, and what is drawn when a seed has become this one.
+#![tactic(auto)]
+
 ghost use Rattle.std.specs.Prelude.{◌≡◌, ◌+◌, ◌-◌, ◌≤◌};
 ghost use Rattle.semantics.specs.Generator.{next_seed, drawn};
 ghost use Rattle.base_numbers.specs.Limit as Limit;

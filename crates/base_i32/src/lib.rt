@@ -1,4 +1,6 @@
 // Numbers of the i32 range by their codes: the engine keeps a number v as the u32 v + 2^31, so that codes are in their order.
+#![tactic(auto)]
+
 ghost use Rattle.std.specs.Prelude.{◌≡◌, ◌≤◌, ◌<◌, ℤ, nat_abs, neg_ℤ, ◌+ℤ◌, ◌-ℤ◌, ◌*ℤ◌};
 ghost use Rattle.semantics.specs.Bytes.{signed};
 ghost use Rattle.semantics.specs.Journal.{twos};

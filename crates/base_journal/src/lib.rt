@@ -1,4 +1,6 @@
 // The journal as bytes: a line of it written into a lent slice, 16 bytes for each line.
+#![tactic(auto)]
+
 ghost use Rattle.std.specs.Prelude.{◌≡◌, ◌+◌, ◌*◌, ◌%◌, ◌≤◌, ◌<◌, length};
 ghost use Rattle.std.proofs.lemmas.List.Edits.{sets};
 ghost use Rattle.semantics.specs.Journal.{le16, le32, line_bytes};

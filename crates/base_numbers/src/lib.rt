@@ -1,6 +1,7 @@
 // The numbers of document 01 and the places of the engine's rows, by name: once for the code. The definitions have those of
 // document 01 in their own words (semantics, Numbers and Kinds); the specs of this crate have, in these words, what the rows
 // need of them, and the places that follow.
+#![tactic(auto)]
 
 // 1 to 10 refuse a model.
 pub mod refusal {

@@ -1,5 +1,7 @@
 // An ordered list as rows of numbers, each lent by itself, and how many entries there are: a row of keys and a row of data, or a
 // row of words that hold both. What is not used is 0. The data of an entry are packed into one word.
+#![tactic(auto)]
+
 ghost use Rattle.std.specs.Prelude.{◌≡◌, ◌≤◌, ◌<◌, ltb, length, take};
 ghost use Rattle.semantics.specs.Words.{keep};
 ghost use Rattle.base_numbers.specs.Word as Word;

@@ -1,4 +1,6 @@
 // The living places as the bits of one number: bit p is set where a process lives in place p.
+#![tactic(auto)]
+
 ghost use Rattle.std.specs.Prelude.{◌≡◌, true, false, not, List, ◌≤◌, ◌<◌, length, set};
 ghost use Rattle.semantics.specs.Numbers as No;
 ghost use Rattle.semantics.specs.Words.{first_at, keep};

@@ -1,4 +1,6 @@
 // Numbers as ones of a wider type. Each is a call, which asks a caller for less than a cast would, and tells how large it is.
+#![tactic(auto)]
+
 ghost use Rattle.std.specs.Prelude.{◌≡◌, ◌<◌};
 ghost use Rattle.base_numbers.specs.Byte as Byte;
 

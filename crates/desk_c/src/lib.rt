@@ -1,4 +1,6 @@
 // The booking desk's entry points for C, on bytes and numbers; desk/desk.h says the same to C. Any bytes get an answer.
+#![tactic(auto)]
+
 ghost use Rattle.std.specs.Prelude.{◌≡◌, ◌≤◌, length};
 ghost use Rattle.semantics.specs.Numbers as No;
 ghost use Rattle.semantics.specs.Desk.{check_file, bound_file, run_file};

@@ -1,5 +1,7 @@
 // Whether one action's branches bar another's. The map has three words of each branch for the things that it names: these bits
 // decide, and amounts are looked at only where two branches name the same things.
+#![tactic(auto)]
+
 ghost use Rattle.std.specs.Prelude.{◌≡◌, ◌<◌, length};
 ghost use Rattle.semantics.specs.Words.{any};
 ghost use Rattle.semantics.specs.Claim.{bars};

@@ -1,4 +1,6 @@
 // The bound of a model file: from any bytes to the refusal, NONE, OVER or the number.
+#![tactic(auto)]
+
 ghost use Rattle.std.specs.Prelude.{◌≡◌, ◌+◌, ◌≤◌, ◌<◌, eqb, length, get_or, if◌then◌else◌};
 ghost use Rattle.semantics.specs.Bytes.{u16, records_from};
 ghost use Rattle.semantics.specs.Decode.{gather};

@@ -1,4 +1,6 @@
 // Checks 1 to 10 of a model file: from any bytes to the number and the place of a refusal, or accepted.
+#![tactic(auto)]
+
 ghost use Rattle.std.specs.Prelude.{◌≡◌, ◌&&◌, ◌+◌, ◌≤◌, ◌<◌, length, eqb, ltb, if◌then◌else◌};
 ghost use Rattle.semantics.specs.Bytes.{u16, records_from};
 ghost use Rattle.semantics.specs.Decode.{first_pass, none_seen, opened as blocks_after, second_pass};

@@ -1,4 +1,6 @@
 // Checks 6, 7 and 8 on the parts of one size that a record's body has: items of a claim, shares of a START, nodes.
+#![tactic(auto)]
+
 ghost use Rattle.std.specs.Prelude.{◌≡◌, true, ◌+◌, ◌*◌, ◌≤◌, ◌<◌, length, get_or};
 ghost use Rattle.semantics.specs.Words.{all, any};
 ghost use Rattle.semantics.specs.Numbers as No;

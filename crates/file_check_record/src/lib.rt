@@ -1,4 +1,6 @@
 // Checks 2 to 9 on one record, by the table of kinds.
+#![tactic(auto)]
+
 ghost use Rattle.std.specs.Prelude.{◌≡◌, true, ◌+◌, ◌≤◌, ◌<◌, leb, length};
 ghost use Rattle.semantics.specs.Words.{all};
 ghost use Rattle.semantics.specs.Kinds as K;

@@ -1,4 +1,6 @@
 // Checks 5 to 9 on what follows a record's fields: an expression, a claim, the shares of a START, the branches of a TRY.
+#![tactic(auto)]
+
 ghost use Rattle.std.specs.Prelude.{◌≡◌, true, ◌+◌, ◌*◌, ◌≤◌, ◌<◌, length, drop};
 ghost use Rattle.semantics.specs.Words.{all};
 ghost use Rattle.semantics.specs.Numbers as No;

@@ -1,4 +1,6 @@
 // Claims of the model's bytes held against one another: how much one has of a thing, and which has the smaller amounts.
+#![tactic(auto)]
+
 ghost use Rattle.std.specs.Prelude.{◌≡◌, ◌≤◌, length, drop};
 ghost use Rattle.semantics.specs.Record.{item_of, claim_in};
 ghost use Rattle.semantics.specs.Claim.{amount_of, smaller_amounts};

@@ -1,4 +1,6 @@
 // How deep blocks nest: by recursion over the blocks that a block names, each block measured once.
+#![tactic(auto)]
+
 ghost use Rattle.std.specs.Prelude.{◌≡◌, ◌+◌, ◌≤◌, ◌<◌, max, get_or};
 ghost use Rattle.base_numbers.specs.Limit as Limit;
 ghost use Rattle.file_depth.specs.Deep.{depth_of, start_of, names_in, Graph, Known, measured};

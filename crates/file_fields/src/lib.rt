@@ -1,4 +1,6 @@
 // Numbers of one, two and four bytes, little-endian, at a place of a slice.
+#![tactic(auto)]
+
 ghost use Rattle.std.specs.Prelude.{◌≡◌, ◌+◌, ◌*◌, ◌≤◌, ◌<◌, length};
 ghost use Rattle.semantics.specs.Bytes.{u8, u16, u32};
 ghost use Rattle.base_numbers.specs.Byte as Byte;

@@ -1,6 +1,8 @@
 // What the rest of the engine reads an accepted model file by: where its blocks, classes and actions stand, which blocks each
 // action names, whether it may loop, the branches of each REQ, TRY and WHILE, how many things it declares, and what its samplers
 // draw from.
+#![tactic(auto)]
+
 ghost use Rattle.std.specs.Prelude.{◌≡◌, [], ◌∷◌, ◌+◌, ◌≤◌, ◌<◌, leb, eqb, length, get_or, if◌then◌else◌};
 ghost use Rattle.semantics.specs.Numbers as No;
 ghost use Rattle.semantics.specs.Kinds as K;

@@ -1,5 +1,7 @@
 // What the engine reads an accepted model by, as one row of numbers, the map: where blocks and actions begin, class bodies, and
 // of each branch where its claim stands and what it names; of each sampler what it draws from.
+#![tactic(auto)]
+
 ghost use Rattle.std.specs.Prelude.{◌≡◌, ◌+◌, ◌≤◌, ◌<◌, length, get_or};
 ghost use Rattle.std.proofs.lemmas.List.Edits.{sets};
 ghost use Rattle.semantics.specs.Bytes.{records_from};

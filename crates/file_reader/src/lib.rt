@@ -1,5 +1,7 @@
 // A reader of a model file: it stands at a record and moves on to the next. The functions over the struct are thin; what stands
 // at a place of a slice is read by functions on slice and number.
+#![tactic(auto)]
+
 ghost use Rattle.std.specs.Prelude.{◌≡◌};
 ghost use Rattle.file_reader.specs.Reads.{span_at, record_at, start, stands_at, moves_on};
 

@@ -1,5 +1,7 @@
 // What a block and a class weigh, up to the least weight that is OVER: a block's weight calls its actions', and an action's the
 // weights of the later blocks, or of the class, that it goes to, each block weighed once.
+#![tactic(auto)]
+
 ghost use Rattle.std.specs.Prelude.{◌≡◌, ◌+◌, ◌<◌, max, eqb, get_or};
 ghost use Rattle.base_numbers.specs.Limit as Limit;
 ghost use Rattle.file_depth.specs.Deep.{Graph, Known};

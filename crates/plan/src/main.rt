@@ -8,6 +8,8 @@
 // asks that its text is what the plan's text has from there on: from the first byte to the last, nothing twice and nothing left
 // out. And where a writer's bytes are known, they grow by that text and by nothing else, unless a write fails. What comes behind
 // one that fails is handed over all the same; the first of them ends the program.
+#![tactic(auto)]
+
 ghost use Rattle.std.specs.Prelude.{◌≡◌, ◌+◌, ◌<◌, min, length, take, IfSome, IfOk, OnOk};
 ghost use Rattle.std.specs.Io.KnownBytes.{Appends};
 ghost use Rattle.semantics.specs.Numbers as No;

@@ -1,4 +1,6 @@
 // What `plan` prints, as bytes at the front of a lent slice: the lines of a journal, the last line, a refusal.
+#![tactic(auto)]
+
 ghost use Rattle.std.specs.Prelude.{◌≡◌, [], ◌∷◌, ◌++◌, ◌+◌, ◌*◌, ◌%◌, ◌≤◌, length};
 ghost use Rattle.std.proofs.lemmas.List.Edits.{sets};
 ghost use Rattle.semantics.specs.Bytes.{signed as signed_of};

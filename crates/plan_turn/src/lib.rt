@@ -1,4 +1,6 @@
 // One turn of a run that is printed: a call with an empty journal, and its lines as text.
+#![tactic(auto)]
+
 ghost use Rattle.std.specs.Prelude.{◌≡◌, ◌*◌, ◌/◌, ◌≤◌, length};
 ghost use Rattle.semantics.specs.Run.{run as run_of};
 ghost use Rattle.semantics.specs.Journal.{room_in};

@@ -1,1 +1,3 @@
 // The promises over the definitions are in specs/; this crate has no code.
+#![tactic(auto)]
+

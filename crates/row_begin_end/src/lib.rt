@@ -1,4 +1,6 @@
 // Processes come and end in the work.
+#![tactic(auto)]
+
 ghost use Rattle.std.specs.Prelude.{◌≡◌, [], length, replicate};
 ghost use Rattle.semantics.specs.State.{nobody, put, free_place};
 ghost use Rattle.row_work.specs.Work.{process_row, Doing, Done};

@@ -1,4 +1,6 @@
 // Claims of the model's bytes held against the work: the test of one, and the first branch that is met.
+#![tactic(auto)]
+
 ghost use Rattle.std.specs.Prelude.{◌≡◌, ◌+◌, ◌≤◌, ◌<◌, length, get_or};
 ghost use Rattle.semantics.specs.Record.{relation_of, item_of};
 ghost use Rattle.semantics.specs.Claim.{holds, item_met, test, first_met};

@@ -1,4 +1,6 @@
 // A claim is taken, an offer is granted, who is barred, and which branch is taken.
+#![tactic(auto)]
+
 ghost use Rattle.std.specs.Prelude.{◌≡◌, ◌+◌, ◌≤◌, length, get_or, take};
 ghost use Rattle.semantics.specs.Words.{fewer};
 ghost use Rattle.semantics.specs.Model.{resource, get};

@@ -1,4 +1,6 @@
 // The event list, the blocked list and the waiting lists in the work: who comes into one, and who leaves it.
+#![tactic(auto)]
+
 ghost use Rattle.std.specs.Prelude.{◌≡◌, map, ◌≤◌, ◌<◌, length, get_or};
 ghost use Rattle.semantics.specs.Numbers as No;
 ghost use Rattle.semantics.specs.Words.{keep};

@@ -1,4 +1,6 @@
 // One process of the work: its parts read, and changed one at a time.
+#![tactic(auto)]
+
 ghost use Rattle.std.specs.Prelude.{◌≡◌, ◌&&◌, ◌∷◌, ◌-◌, ◌≤◌, ◌<◌, eqb, length, get_or, set};
 ghost use Rattle.semantics.specs.Numbers as No;
 ghost use Rattle.semantics.specs.Words.{all, is_empty, more, fewer};

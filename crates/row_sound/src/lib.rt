@@ -1,4 +1,6 @@
 // Whether an open run is sound, tested on a row of numbers that shows its state: the clauses on blocks, and all of them.
+#![tactic(auto)]
+
 ghost use Rattle.std.specs.Prelude.{◌≡◌, ◌+◌, ◌≤◌, ◌<◌, length, get_or};
 ghost use Rattle.semantics.specs.Numbers as No;
 ghost use Rattle.semantics.specs.Bytes.{u16};

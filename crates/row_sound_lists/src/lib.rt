@@ -1,4 +1,6 @@
 // The clauses of a sound run but those on blocks, tested on a row of numbers that shows a state: on places, lists and amounts.
+#![tactic(auto)]
+
 ghost use Rattle.std.specs.Prelude.{◌≡◌, ◌+◌, ◌-◌, ◌*◌, ◌≤◌, ◌<◌, length, get_or, if◌then◌else◌};
 ghost use Rattle.semantics.specs.Numbers as No;
 ghost use Rattle.base_numbers.specs.Row as Row;

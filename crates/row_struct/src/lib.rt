@@ -1,5 +1,7 @@
 // An open run's state as a struct of arrays, by value. The engine works on one lent row of numbers (crate row_work): the struct
 // is unpacked into it when a call begins and packed from it when the call ends.
+#![tactic(auto)]
+
 ghost use Rattle.std.specs.Prelude.{◌≡◌, ◌+◌, ◌≤◌, length, take, drop};
 ghost use Rattle.semantics.specs.Words.{collect};
 ghost use Rattle.semantics.specs.Numbers as No;

@@ -1,4 +1,6 @@
 // The state of a run as one row of numbers: a number of it read or written, a row copied, and the seeds.
+#![tactic(auto)]
+
 ghost use Rattle.std.specs.Prelude.{◌≡◌, ◌+◌, ◌*◌, ◌<◌, ◌++◌, length, get_or, set, take, drop};
 ghost use Rattle.semantics.specs.Numbers as No;
 ghost use Rattle.base_numbers.specs.Row as Row;

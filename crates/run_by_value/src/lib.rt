@@ -1,4 +1,6 @@
 // An open run by value: the file and the struct of its state go in, and the struct that the call leaves comes back.
+#![tactic(auto)]
+
 ghost use Rattle.row_struct.specs.State.{row_of, Full};
 ghost use Rattle.run_row.specs.Call.{asked, call_row};
 ghost use Rattle.run_by_value.specs.Moved.{TellsMoved};

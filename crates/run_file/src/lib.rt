@@ -1,4 +1,6 @@
 // A whole run of a model file: from any bytes to the refusal, or the answer and the steps, with the journal lent.
+#![tactic(auto)]
+
 ghost use Rattle.std.specs.Prelude.{◌≡◌};
 ghost use Rattle.semantics.specs.Desk.{run_file};
 ghost use Rattle.run_file.specs.Whole.{whole_of, journal_after};

@@ -1,4 +1,6 @@
 // A fresh run of an accepted model file: all places are free, what is declared is written, and the ENTITY processes begin.
+#![tactic(auto)]
+
 ghost use Rattle.std.specs.Prelude.{◌≡◌, ◌+◌, ◌≤◌, length, replicate};
 ghost use Rattle.semantics.specs.State.{bare, fresh};
 ghost use Rattle.base_numbers.specs.Row as Row;

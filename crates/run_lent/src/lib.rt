@@ -1,5 +1,7 @@
 // The desk's open run: opened from a model file, lent, and moved on between calls. A call is the by-value call of crate
 // run_by_value, whose state is stored where the run was lent.
+#![tactic(auto)]
+
 ghost use Rattle.semantics.specs.Decode.{decode};
 ghost use Rattle.row_struct.specs.State.{row_of, Full};
 ghost use Rattle.run_row.specs.Call.{asked, call_row, TellsCall};

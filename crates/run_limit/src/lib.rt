@@ -1,4 +1,6 @@
 // A run with a step limit and a lent journal, on the work that shows its state.
+#![tactic(auto)]
+
 ghost use Rattle.std.specs.Prelude.{◌≡◌, ◌+◌, ◌-◌, ◌*◌, ◌/◌, ◌≤◌, length};
 ghost use Rattle.semantics.specs.Step.{step as step_of};
 ghost use Rattle.semantics.specs.Run.{before, run as run_of};

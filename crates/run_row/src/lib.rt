@@ -1,4 +1,6 @@
 // An open run that is handed in as any bytes and any row of words: opened, tested for soundness, and moved on by a call.
+#![tactic(auto)]
+
 ghost use Rattle.std.specs.Prelude.{◌≡◌};
 ghost use Rattle.semantics.specs.Bytes.{records_from};
 ghost use Rattle.file_map.specs.MapOf.{map_of};

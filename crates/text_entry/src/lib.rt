@@ -1,4 +1,6 @@
 // The record that a reader of texts is writing, a draft: what each token of a declaration or action adds to it.
+#![tactic(auto)]
+
 use text_tokens::mark;
 
 pub mod symbol;

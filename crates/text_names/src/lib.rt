@@ -1,6 +1,8 @@
 // The names that a text has declared so far: rows of numbers, each lent by itself, and how many names there are. A name is a
 // part of the text and is not copied. There is a key of each name, so that a search looks at the text only where the keys are
 // the same. What stands in the rows past the names is never read; contracts say of each row what it is, whole.
+#![tactic(auto)]
+
 ghost use Rattle.std.specs.Prelude.{◌≡◌, Bool, true, false, List, ℕ, ◌+◌, ◌-◌, ◌≤◌, ◌<◌, eqb, length, get_or, set, take, drop};
 ghost use Rattle.semantics.specs.Words.{keep, first_at};
 ghost use Rattle.semantics.specs.Kinds as K;

@@ -1,4 +1,6 @@
 // The grammar as a table, and the pile of what is still to come: what one token makes of it.
+#![tactic(auto)]
+
 ghost use Rattle.std.specs.Prelude.{◌≡◌, ◌+◌, ◌≤◌, ◌<◌};
 ghost use Rattle.std.proofs.lemmas.List.Edits.{sets};
 ghost use Rattle.text_machine.specs.Codes.{BAD};

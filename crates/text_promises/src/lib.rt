@@ -1,1 +1,3 @@
 // The promises over the definitions of texts are in specs/; this crate has no code.
+#![tactic(auto)]
+

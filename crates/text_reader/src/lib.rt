@@ -1,4 +1,6 @@
 // The reader of texts: it goes over the tokens of a text once, and writes the records of the model or refuses the text.
+#![tactic(auto)]
+
 use base_numbers::{group, kind, limit};
 use text_entry::{Draft, symbol};
 use text_names::{Found, NAMES};

@@ -1,4 +1,6 @@
 // From the bytes of a text to its tokens, one at a call (docs/TEXT.md, section 2).
+#![tactic(auto)]
+
 ghost use Rattle.std.specs.Prelude.{◌≡◌, true, ◌+◌, ◌*◌, ◌-◌, ◌≤◌, ◌<◌, min, length, get_or};
 ghost use Rattle.semantics.specs.Words.{all};
 ghost use Rattle.text_semantics.specs.Numbers as No;

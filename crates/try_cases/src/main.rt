@@ -2,6 +2,8 @@
 //
 // cases.bin, little-endian: u16 number of cases; each case: u16 number of runs; each run: u16 repeat, u16 length, bytes.
 // A file that is not so, or a case that the model's 70,000 bytes don't hold, ends the program with the line `damaged`.
+#![tactic(auto)]
+
 ghost use Rattle.std.specs.Prelude.{◌≤◌, length, IfOk};
 
 use file_bound::Bounded;

@@ -4,6 +4,8 @@
 // writes: so calls end by LIMIT and by 30. After each of them its lines are printed, the journal is empty again and the run goes
 // on. A call that makes no step is the last: if it answers 30, an empty journal has no room for the next step. The model of
 // `stdin` takes 50 calls: fault 30 is answered thirty times, LIMIT nineteen times, and then IDLE.
+#![tactic(auto)]
+
 ghost use Rattle.std.specs.Prelude.{◌*◌, ◌/◌, ◌≤◌, ◌≡◌, length};
 ghost use Rattle.base_numbers.specs.Line as Line;
 
