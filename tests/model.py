@@ -64,7 +64,7 @@ def fields(cell):
 def records():
     """By its name each record's kind, how many there may be, its fields, what follows them, and its bytes."""
     rows = {row[1]: (int(row[0]), int(row[2]), fields(row[3]), 'nothing', row[4]) for row in table('Kind', 'Name', 'At most')}
-    most = limits()['mostActions']
+    most = limits()['most_actions']
     rows.update({row[1]: (int(row[0]), most, fields(row[2]), row[3], row[4]) for row in table('Kind', 'Name', 'Fields', 'Then')})
     return rows
 
@@ -98,8 +98,8 @@ def constants(text):
 
 
 def words(name):
-    """A name of the definitions as the page writes it: `resourceReturned` and `resource_returned` are `resource returned`."""
-    return re.sub('([A-Z])', r' \1', name).lower().replace('_', ' ')
+    """A name of the definitions as the page writes it: `resource_returned` is `resource returned`."""
+    return name.replace('_', ' ')
 
 
 def defined():
@@ -110,7 +110,7 @@ def defined():
 
 
 ROW = re.compile(
-    r'(?:declares|acts) K\.(?P<name>\w+) (?:No\.(?P<most>\w+) )?(?P<head>\d+) (?P<field>anyValue|ofSampler|\(.*?\)) '
+    r'(?:declares|acts) K\.(?P<name>\w+) (?:No\.(?P<most>\w+) )?(?P<head>\d+) (?P<field>any_value|of_sampler|\(.*?\)) '
     r'(?P<naming>nameless|\(.*?\)) (?:(?P<tail>nothing|expression|claim|branches|shares) )?\(λ bs\. (?P<says>.*)\)$')
 
 
@@ -119,10 +119,10 @@ def between(stated, most):
 
 
 def of_sampler(at, most):
-    """What `samplerValid` asks of the field of a sampler that begins here."""
+    """What `sampler_valid` asks of the field of a sampler that begins here."""
     text = spec('Record')
-    name = re.search(r'samplerOf bs = record \{.*?(\w+) = [ui]32 bs %d\b' % at, text)[1]
-    asks = re.search(r'(?s)\nsamplerValid x =\n(.*?)\n\n', text)[1]
+    name = re.search(r'sampler_of bs = record \{.*?(\w+) = [ui]32 bs %d\b' % at, text)[1]
+    asks = re.search(r'(?s)\nsampler_valid x =\n(.*?)\n\n', text)[1]
     above = re.search(r'le_z x\.%s x\.(\w+)' % name, asks)
     spread = re.search(r'le_z \(x\.%s -ℤ x\.(\w+)\) \(pos No\.(\w+)\)' % name, asks)
     stated = re.search(r'within (\d+) No\.(\w+) x\.%s' % name, asks)
@@ -132,9 +132,9 @@ def of_sampler(at, most):
 
 
 def defined_field(row, at, kind, most):
-    stated = re.match(r'\(%sIn %d (\d+) No\.(\w+)\)' % (kind, at), row['field'])
-    naming = re.match(r'\(names(?: K\.(\w+)|Local) %d\)' % at, row['naming'])
-    if row['field'] == 'ofSampler':
+    stated = re.match(r'\(%s_in %d (\d+) No\.(\w+)\)' % (kind, at), row['field'])
+    naming = re.match(r'\(names(?: K\.(\w+)|_local) %d\)' % at, row['naming'])
+    if row['field'] == 'of_sampler':
         return at, kind, of_sampler(at, most)
     if stated:
         return at, kind, between(stated, most)
@@ -144,16 +144,16 @@ def defined_field(row, at, kind, most):
 def defined_records():
     """The table of Record.antt, as `records` gives that of the page."""
     text, kinds, most = spec('Record'), constants(spec('Kinds')), defined()[-1]
-    whole = dict(re.findall(r'(?m)^((?:entity|sampler)Of bs) = (record .*)', text))
+    whole = dict(re.findall(r'(?m)^((?:entity|sampler)_of bs) = (record .*)', text))
     rows = {}
     for line in text.partition('\ntable =\n')[2].partition('∷ []')[0].strip().split('\n'):
         row = ROW.match(line.strip().removeprefix('∷ ')).groupdict()
-        says = re.sub(r'\w+Of bs', lambda found: whole[found[0]], row['says'])
+        says = re.sub(r'\w+_of bs', lambda found: whole[found[0]], row['says'])
         read = re.findall(r'\b([ui]\d+) bs (\d+)', says)
         tail = row['tail'] or 'nothing'
         size = '%d%s' % (4 + int(row['head']) + TAILS[tail][0], TAILS[tail][1])
         found = [defined_field(row, int(at), kind, most) for kind, at in read]
-        rows[row['name']] = (kinds[row['name']], most[row['most'] or 'mostActions'], found, tail, size)
+        rows[row['name']] = (kinds[row['name']], most[row['most'] or 'most_actions'], found, tail, size)
         assert int(row['head']) == sum(int(kind[1:]) // 8 for kind, _ in read), line
     assert set(rows) == set(kinds) - {'ACTION', 'groups'}, 'Kinds.antt and the table of Record.antt differ'
     return rows
@@ -166,7 +166,7 @@ def defined_steps():
     rows = {}
     for name, doer in re.findall(r'(?m)^  act \(?(\w+)[^=]*= (\w+)', code['act']) + [('end of a block', 'ends'),
                                                                                      ('return notice', 'occurs')]:
-        body = code[doer] + ''.join(code[other] for other in ('notify', 'freeAll') if other + ' ' in code[doer])
+        body = code[doer] + ''.join(code[other] for other in ('notify', 'free_all') if other + ' ' in code[doer])
         needs = ['SUM'] * ('← worth' in body) + re.findall(r'need No\.(\w+)', body)
         lines = {kinds[kind] for kind in re.findall(r'No\.(\w+)', body) if kind in kinds}
         rows[name] = ([faults[need] for need in needs], sorted(lines), 'walk m' in body)
@@ -175,7 +175,7 @@ def defined_steps():
 
 def defined_weights():
     kinds = constants(spec('Kinds'))
-    own = re.search(r'ownWeights = ((?:\d+ ∷ )+)', spec('Bound'))[1].split(' ∷ ')
+    own = re.search(r'own_weights = ((?:\d+ ∷ )+)', spec('Bound'))[1].split(' ∷ ')
     beside = re.findall(r'(?m)^beside m w \(?(\w+).*?= (.*)$', spec('Bound'))
     return {name: (int(own[kinds[name] - kinds['HOLD']]), more != '0') for name, more in beside if name != 'WHILE'}
 
@@ -189,14 +189,14 @@ def base(module, *but):
 
 def tables():
     refusals, faults, lines, barred, most = defined()
-    relations = re.search(r'relationOf r = get_or \(\w+ ∷ ((?:\w+ ∷ )+)', spec('Record'))[1].split(' ∷ ')[:-1]
+    relations = re.search(r'relation_of r = get_or \(\w+ ∷ ((?:\w+ ∷ )+)', spec('Record'))[1].split(' ∷ ')[:-1]
     return [
         ('records', records(), defined_records()),
         ('refusals', numbered('No.', 'Refusal'), refusals),
         ('faults', numbered('No.', 'Fault'), faults),
         ('kinds of lines', numbered('Kind', 'Name', 'Process'), {words(name): kind for name, kind in lines.items()}),
         ('values of kind 3', {int(row[0]): True for row in table('Value', 'Why it waits')},
-         {value: True for value in [barred['barred'], *range(1, most['mostItems'] + 1)]}),
+         {value: True for value in [barred['barred'], *range(1, most['most_items'] + 1)]}),
         ('limits', limits(), most),
         ('steps', steps(), defined_steps()),
         ('weights', weights(), defined_weights()),
