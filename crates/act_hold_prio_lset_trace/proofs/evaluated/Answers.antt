@@ -19,8 +19,8 @@ evaluate-requires c = let v = c.requires.valued in
 
 pub returns : goal.returns
 returns c = let are = c.requires.seeds_value in record {
-      value = (λ v. let e = c.clock_of-clock.ensures.0 (shown v.running tt) in
-          valued v e (c.evaluate.ensures.value (ready v _ e are)));
-      seeds_after = (λ v. let e = c.clock_of-clock.ensures.0 (shown v.running tt) in
-          moved_on v (c.evaluate.ensures.seeds_after (ready v _ e are)));
-    }
+  value = (λ v. let e = c.clock_of-clock.ensures.0 (shown v.running tt) in
+      valued v e (c.evaluate.ensures.value (ready v _ e are)));
+  seeds_after = (λ v. let e = c.clock_of-clock.ensures.0 (shown v.running tt) in
+      moved_on v (c.evaluate.ensures.seeds_after (ready v _ e are)));
+}

@@ -11,12 +11,12 @@ keep_seeds-requires c = run_long c.requires.running
 
 pub returns-then-value-low : goal.returns-then-value-low
 returns-then-value-low c = let r = c.evaluated-value in record {
-      value = r.ensures.value;
-      w_after = (λ v. work_kept v c.keep_seeds.ensures (r.ensures.seeds_after v) c.if-value-low.true);
-    }
+  value = r.ensures.value;
+  w_after = (λ v. work_kept v c.keep_seeds.ensures (r.ensures.seeds_after v) c.if-value-low.true);
+}
 
 pub returns-else-value-low : goal.returns-else-value-low
 returns-else-value-low c = record {
-      value = c.evaluated-value.ensures.value;
-      w_after = (λ v. work_as_it_was v c.if-value-low.false);
-    }
+  value = c.evaluated-value.ensures.value;
+  w_after = (λ v. work_as_it_was v c.if-value-low.false);
+}

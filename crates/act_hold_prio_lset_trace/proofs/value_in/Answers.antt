@@ -7,6 +7,6 @@ use Rattle.act_hold_prio_lset_trace.proofs.value_in.Goals as goal
 
 pub returns : goal.returns
 returns c = let r = c.value_within in record {
-      value = r.ensures.value;
-      w_after = (λ v. r.ensures.w_after v ∙ ap (λ b. work_of (left v b)) (all_within v (r.ensures.value v)));
-    }
+  value = r.ensures.value;
+  w_after = (λ v. r.ensures.w_after v ∙ ap (λ b. work_of (left v b)) (all_within v (r.ensures.value v)));
+}

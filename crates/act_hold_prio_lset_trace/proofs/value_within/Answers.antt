@@ -10,9 +10,9 @@ bounds-w-10696 c = omega (arith, run_long c.requires.running)
 
 pub evaluated-requires : goal.evaluated-requires
 evaluated-requires c = let v = c.requires in record {
-      valued = v;
-      seeds_value = none_copied v c.if-w-eq0.true;
-    }
+  valued = v;
+  seeds_value = none_copied v c.if-w-eq0.true;
+}
 
 pub returns-then-w-eq0 : goal.returns-then-w-eq0
 returns-then-w-eq0 c = let a = c.args in

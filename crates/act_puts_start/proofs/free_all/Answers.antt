@@ -18,10 +18,10 @@ overflow_add-at c = omega (arith, c.loop-k-test.true, c.requires.n_in_bounds)
 
 pub free_one-requires : goal.free_one-requires
 free_one-requires c = let v = c.requires.freeing in let t = c.loop-k-test.true in let l = c.loop-k.invariant.1 v in (
-      next_freed
-          v _ _ t l,
-      (omega (arith, t, l.same_long, c.requires.n_in_bounds), v.sync_low),
-    )
+  next_freed
+      v _ _ t l,
+  (omega (arith, t, l.same_long, c.requires.n_in_bounds), v.sync_low),
+)
 
 pub overflow_add-k : goal.overflow_add-k
 overflow_add-k c = omega (arith, c.loop-k-test.true)
@@ -31,10 +31,10 @@ loop-k-smaller c = omega (arith, c.loop-k-test.true)
 
 pub loop-k-preserved : goal.loop-k-preserved
 loop-k-preserved c = let t = c.loop-k-test.true in (
-      omega (arith, t),
-      λ v.
-          less_left v _ _ t (c.loop-k.invariant.1 v) c.free_one.ensures.done c.free_one.ensures.out_after,
-    )
+  omega (arith, t),
+  λ v.
+      less_left v _ _ t (c.loop-k.invariant.1 v) c.free_one.ensures.done c.free_one.ensures.out_after,
+)
 
 pub returns : goal.returns
 returns c = λ v. none_left v _ _ c.loop-k-test.false (c.loop-k.invariant.1 v)

@@ -19,9 +19,9 @@ slice_bounds-rest-start c = omega (arith, c.requires.told.inside)
 
 pub loop-left-init : goal.loop-left-init
 loop-left-init c = let e = c.u16_at-left.ensures.0 in (
-      rw (rest_of 8 c.args.body.now, length-drop 8 c.args.body.now) (omega (arith, e, c.requires.told.inside)),
-      λ v. all_asked v e,
-    )
+  rw (rest_of 8 c.args.body.now, length-drop 8 c.args.body.now) (omega (arith, e, c.requires.told.inside)),
+  λ v. all_asked v e,
+)
 
 pub slice_bounds-has_share-end : goal.slice_bounds-has_share-end
 slice_bounds-has_share-end c = let l = c.loop-left in

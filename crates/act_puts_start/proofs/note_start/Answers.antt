@@ -6,6 +6,6 @@ use Rattle.act_puts_start.proofs.note_start.Goals as goal
 
 pub returns : goal.returns
 returns c = λ v. c.write_line.ensures ∙ noted _ _ v.is 1 (c.clock_of-clock.ensures.0 v) (omega (
-      arith,
-      c.last_of.ensures.0 v,
-    )) (counted _)
+  arith,
+  c.last_of.ensures.0 v,
+)) (counted _)

@@ -13,9 +13,9 @@ returns-then-owned-n c = λ v. are_missing v (c.owned.ensures (shown v (low v)))
 
 pub release-requires : goal.release-requires
 release-requires c = let v = c.requires.on in record {
-      doing = releasing v (c.owned.ensures (shown v (low v))) c.if-owned-n.false;
-      in_bounds = omega arith;
-    }
+  doing = releasing v (c.owned.ensures (shown v (low v))) c.if-owned-n.false;
+  in_bounds = omega arith;
+}
 
 pub past-requires : goal.past-requires
 past-requires c = let v = c.requires.on in passing v (c.owned.ensures (shown v (low v))) c.if-owned-n.false
@@ -23,13 +23,13 @@ past-requires c = let v = c.requires.on in passing v (c.owned.ensures (shown v (
 
 pub free_all-requires : goal.free_all-requires
 free_all-requires c = let v = c.requires.on in let k = c.owned.ensures (shown v (low v)) in record {
-      freeing = freeing v k c.if-owned-n.false _ c.release.ensures.done c.past.ensures refl c.release.ensures.places_after;
-      n_in_bounds = omega (
-        arith,
-        c.requires.roomy,
-        few v k c.if-owned-n.false,
-      );
-    }
+  freeing = freeing v k c.if-owned-n.false _ c.release.ensures.done c.past.ensures refl c.release.ensures.places_after;
+  n_in_bounds = omega (
+    arith,
+    c.requires.roomy,
+    few v k c.if-owned-n.false,
+  );
+}
 
 pub returns : goal.returns
 returns c = λ v. let k = c.owned.ensures (shown v (low v)) in are_freed

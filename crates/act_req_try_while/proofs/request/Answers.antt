@@ -9,9 +9,9 @@ use Rattle.act_req_try_while.proofs.request.Goals as goal
 
 pub take_branch-chosen-requires : goal.take_branch-chosen-requires
 take_branch-chosen-requires c = record {
-      branching = by_request c.requires.requesting;
-      roomy = c.requires.roomy;
-    }
+  branching = by_request c.requires.requesting;
+  roomy = c.requires.roomy;
+}
 
 pub returns-in_default : goal.returns-in_default
 returns-in_default c = λ v.

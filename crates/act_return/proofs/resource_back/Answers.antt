@@ -6,9 +6,9 @@ use Rattle.act_return.proofs.resource_back.Goals as goal
 
 pub note-requires : goal.note-requires
 note-requires c = let v = c.requires.returning in record {
-      shown = (shown v tt, (omega (arith, c.requires.roomy), omega arith));
-      number_bound = (omega (arith, (few v).1.1), omega (arith, (few v).0));
-    }
+  shown = (shown v tt, (omega (arith, c.requires.roomy), omega arith));
+  number_bound = (omega (arith, (few v).1.1), omega (arith, (few v).0));
+}
 
 pub add_at-requires : goal.add_at-requires
 add_at-requires c = let v = c.requires.returning in
@@ -16,14 +16,14 @@ add_at-requires c = let v = c.requires.returning in
 
 pub walk-lines-requires : goal.walk-lines-requires
 walk-lines-requires c = let v = c.requires.returning in record {
-      walking = frees_walking v c.add_at.ensures;
-      at_in_bounds = omega (
-        arith,
-        c.requires.roomy,
-        noted_long _ _ _ _
-            (c.note.ensures (shown v tt)),
-      );
-    }
+  walking = frees_walking v c.add_at.ensures;
+  at_in_bounds = omega (
+    arith,
+    c.requires.roomy,
+    noted_long _ _ _ _
+        (c.note.ensures (shown v tt)),
+  );
+}
 
 pub returns : goal.returns
 returns c = λ v. resource_stepped v c.add_at.ensures

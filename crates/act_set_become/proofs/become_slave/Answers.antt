@@ -11,9 +11,9 @@ number_of-number-requires c = let v = c.requires.acting in shown (here v) (low (
 
 pub note-requires : goal.note-requires
 note-requires c = let v = c.requires.acting in record {
-      shown = (shown (here v) tt, (omega (arith, c.requires.roomy), omega arith));
-      number_bound = (number_fits v _ c.number_of-number.ensures, omega (arith, sync_low v));
-    }
+  shown = (shown (here v) tt, (omega (arith, c.requires.roomy), omega arith));
+  number_bound = (number_fits v _ c.number_of-number.ensures, omega (arith, sync_low v));
+}
 
 pub past-requires : goal.past-requires
 past-requires c = passing
@@ -29,15 +29,15 @@ join_waiting-requires c = joining c.requires.acting
 
 pub walk-lines-requires : goal.walk-lines-requires
 walk-lines-requires c = let v = c.requires.acting in record {
-      walking = joined_walking v c.past.ensures c.leave_floor.ensures
-          c.join_waiting.ensures;
-      at_in_bounds = omega (
-        arith,
-        c.requires.roomy,
-        noted_long _ _
-            _ _ (c.note.ensures (shown (here v) tt)),
-      );
-    }
+  walking = joined_walking v c.past.ensures c.leave_floor.ensures
+      c.join_waiting.ensures;
+  at_in_bounds = omega (
+    arith,
+    c.requires.roomy,
+    noted_long _ _
+        _ _ (c.note.ensures (shown (here v) tt)),
+  );
+}
 
 pub returns : goal.returns
 returns c = λ v. became v c.past.ensures

@@ -10,9 +10,9 @@ use Rattle.act_step.proofs.act_on_claim.Goals as goal
 
 pub request-requires : goal.request-requires
 request-requires c = record {
-      requesting = req_told c.requires.meets_at c.if-kind-eq-REQ.true;
-      roomy = c.requires.le_kind.1;
-    }
+  requesting = req_told c.requires.meets_at c.if-kind-eq-REQ.true;
+  roomy = c.requires.le_kind.1;
+}
 
 pub returns-then-kind-eq-REQ : goal.returns-then-kind-eq-REQ
 returns-then-kind-eq-REQ c = λ v.
@@ -22,9 +22,9 @@ returns-then-kind-eq-REQ c = λ v.
 
 pub request-requires-then-kind-eq-TRY : goal.request-requires-then-kind-eq-TRY
 request-requires-then-kind-eq-TRY c = record {
-      requesting = try_told c.requires.meets_at c.if-kind-eq-TRY.true;
-      roomy = c.requires.le_kind.1;
-    }
+  requesting = try_told c.requires.meets_at c.if-kind-eq-TRY.true;
+  roomy = c.requires.le_kind.1;
+}
 
 pub returns-then-kind-eq-TRY : goal.returns-then-kind-eq-TRY
 returns-then-kind-eq-TRY c = λ v.
@@ -34,9 +34,9 @@ returns-then-kind-eq-TRY c = λ v.
 
 pub pass_or_enter-requires : goal.pass_or_enter-requires
 pass_or_enter-requires c = record {
-      looping = while_told c.requires.meets_at c.if-kind-eq-WHILE.true;
-      roomy = c.requires.le_kind.1;
-    }
+  looping = while_told c.requires.meets_at c.if-kind-eq-WHILE.true;
+  roomy = c.requires.le_kind.1;
+}
 
 pub returns-then-kind-eq-WHILE : goal.returns-then-kind-eq-WHILE
 returns-then-kind-eq-WHILE c = λ v.
@@ -47,9 +47,9 @@ returns-then-kind-eq-WHILE c = λ v.
 
 pub start-requires : goal.start-requires
 start-requires c = record {
-      starting = start_told c.requires.meets_at.meets c.if-kind-eq-START.true;
-      roomy = c.requires.le_kind.1;
-    }
+  starting = start_told c.requires.meets_at.meets c.if-kind-eq-START.true;
+  roomy = c.requires.le_kind.1;
+}
 
 pub returns-then-kind-eq-START : goal.returns-then-kind-eq-START
 returns-then-kind-eq-START c = λ v.
@@ -60,9 +60,9 @@ returns-then-kind-eq-START c = λ v.
 
 pub trace-requires : goal.trace-requires
 trace-requires c = record {
-      given = trace_told c.requires.meets_at.meets c.if-kind-eq-TRACE.true;
-      roomy = c.requires.le_kind.1;
-    }
+  given = trace_told c.requires.meets_at.meets c.if-kind-eq-TRACE.true;
+  roomy = c.requires.le_kind.1;
+}
 
 pub returns-then-kind-eq-TRACE : goal.returns-then-kind-eq-TRACE
 returns-then-kind-eq-TRACE c = λ v.
@@ -72,18 +72,18 @@ returns-then-kind-eq-TRACE c = λ v.
 
 pub close-requires : goal.close-requires
 close-requires c = let e : c.args.kind ≡ 30 = omega (
-      arith,
-      kind_in c.requires.meets_at.meets,
-      c.requires.le_kind.0,
-      c.if-kind-eq-REQ.false,
-      c.if-kind-eq-TRY.false,
-      c.if-kind-eq-WHILE.false,
-      c.if-kind-eq-START.false,
-      c.if-kind-eq-TRACE.false,
-    ) in record {
-      on = on (stands_at c.requires.meets_at.meets CLOSE (known c.requires.meets_at.meets 30 e));
-      roomy = c.requires.le_kind.1;
-    }
+  arith,
+  kind_in c.requires.meets_at.meets,
+  c.requires.le_kind.0,
+  c.if-kind-eq-REQ.false,
+  c.if-kind-eq-TRY.false,
+  c.if-kind-eq-WHILE.false,
+  c.if-kind-eq-START.false,
+  c.if-kind-eq-TRACE.false,
+) in record {
+  on = on (stands_at c.requires.meets_at.meets CLOSE (known c.requires.meets_at.meets 30 e));
+  roomy = c.requires.le_kind.1;
+}
 
 pub returns : goal.returns
 returns c = λ v.

@@ -13,9 +13,9 @@ u16_at-first-requires c = head_long c.requires.meets (omega (arith, c.requires.l
 
 pub become_slave-requires : goal.become_slave-requires
 become_slave-requires c = record {
-      acting = stands_at c.requires.meets (BECOME _) (is_become c.requires.meets c.u16_at-first.ensures.0 c.if-kind-eq-BECOME.true);
-      roomy = c.requires.le_kind.1;
-    }
+  acting = stands_at c.requires.meets (BECOME _) (is_become c.requires.meets c.u16_at-first.ensures.0 c.if-kind-eq-BECOME.true);
+  roomy = c.requires.le_kind.1;
+}
 
 pub returns-then-kind-eq-BECOME : goal.returns-then-kind-eq-BECOME
 returns-then-kind-eq-BECOME c = λ v.
@@ -42,9 +42,9 @@ u16_at-many-requires c = omega (arith, puts_long c.requires.meets c.if-kind-eq-P
 
 pub puts-requires : goal.puts-requires
 puts-requires c = let a = c.wide-then-kind-eq-PUTS.ensures.0 ∙ c.u16_at-first.ensures.0 in record {
-      on = on (stands_at c.requires.meets (PUTS _ _) (is_puts c.requires.meets a c.u16_at-many.ensures.0 c.if-kind-eq-PUTS.true));
-      roomy = c.requires.le_kind.1;
-    }
+  on = on (stands_at c.requires.meets (PUTS _ _) (is_puts c.requires.meets a c.u16_at-many.ensures.0 c.if-kind-eq-PUTS.true));
+  roomy = c.requires.le_kind.1;
+}
 
 pub returns-then-kind-eq-PUTS : goal.returns-then-kind-eq-PUTS
 returns-then-kind-eq-PUTS c = λ v.
@@ -55,10 +55,10 @@ returns-then-kind-eq-PUTS c = λ v.
 
 pub u32_at-requires : goal.u32_at-requires
 u32_at-requires c = omega (
-      arith,
-      amount_long c.requires.meets (omega (arith, c.requires.le_kind.0, c.if-kind-eq-DO.false))
-          (omega (arith, c.requires.le_kind.0, c.if-kind-eq-BECOME.false, c.if-kind-eq-PUTS.false)),
-    )
+  arith,
+  amount_long c.requires.meets (omega (arith, c.requires.le_kind.0, c.if-kind-eq-DO.false))
+      (omega (arith, c.requires.le_kind.0, c.if-kind-eq-BECOME.false, c.if-kind-eq-PUTS.false)),
+)
 
 pub putr-requires : goal.putr-requires
 putr-requires c = let a = c.wide-amount.ensures.0 ∙ c.u32_at.ensures in

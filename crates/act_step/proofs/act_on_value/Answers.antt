@@ -39,9 +39,9 @@ slice_bounds-rest-start c = head_long c.requires.meets (omega (arith, kind_in c.
 
 pub set_global-requires : goal.set_global-requires
 set_global-requires c = let b = rest_of 2 c.args.body.now in record {
-      setting = set_told c.requires.meets c.u16_at-i.ensures.0 b c.if-kind-eq-SET.true;
-      roomy = c.requires.kind_bound.1;
-    }
+  setting = set_told c.requires.meets c.u16_at-i.ensures.0 b c.if-kind-eq-SET.true;
+  roomy = c.requires.kind_bound.1;
+}
 
 pub returns-then-kind-eq-SET : goal.returns-then-kind-eq-SET
 returns-then-kind-eq-SET c = λ v.

@@ -39,9 +39,9 @@ slice_bounds-act-end c = let r = record_at c.requires.stands c.place_of-place.en
 
 pub act-requires : goal.act-requires
 act-requires c = let e = c.place_of-place.ensures in record {
-      meets_at = meeting c.requires.stands e c.u16_at-kind.ensures.0 (body_cut c.requires.stands e c.u16_at.ensures.0);
-      roomy = c.requires.roomy;
-    }
+  meets_at = meeting c.requires.stands e c.u16_at-kind.ensures.0 (body_cut c.requires.stands e c.u16_at.ensures.0);
+  roomy = c.requires.roomy;
+}
 
 pub returns : goal.returns
 returns c = λ v.

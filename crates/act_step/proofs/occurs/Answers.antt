@@ -6,9 +6,9 @@ use Rattle.act_step.proofs.occurs.Goals as goal
 
 pub wakes-requires : goal.wakes-requires
 wakes-requires c = record {
-      waking = waking c.requires.occurring c.kind_of-kind.ensures.0 c.number_of-i.ensures.0 c.if-kind-eq-WAKES.true;
-      roomy = c.requires.roomy;
-    }
+  waking = waking c.requires.occurring c.kind_of-kind.ensures.0 c.number_of-i.ensures.0 c.if-kind-eq-WAKES.true;
+  roomy = c.requires.roomy;
+}
 
 pub returns-then-kind-eq-WAKES : goal.returns-then-kind-eq-WAKES
 returns-then-kind-eq-WAKES c = λ v.

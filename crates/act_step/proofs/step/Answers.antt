@@ -10,9 +10,9 @@ bounds-w-3 c = omega (arith, work_long c.requires.going)
 
 pub moves-requires : goal.moves-requires
 moves-requires c = let h = c.if-floor-eq0.false in record {
-      floored = floored c.requires.going _ h (omega (arith, h));
-      roomy = c.requires.roomy;
-    }
+  floored = floored c.requires.going _ h (omega (arith, h));
+  roomy = c.requires.roomy;
+}
 
 pub returns : goal.returns
 returns c = λ v.

@@ -12,9 +12,9 @@ set_floor-requires c = work_is_long c.requires.waking
 
 pub moves-went-requires : goal.moves-went-requires
 moves-went-requires c = record {
-      floored = floored c.requires.waking c.set_floor.ensures;
-      roomy = c.requires.roomy;
-    }
+  floored = floored c.requires.waking c.set_floor.ensures;
+  roomy = c.requires.roomy;
+}
 
 pub set_floor-requires-then-went-ne0 : goal.set_floor-requires-then-went-ne0
 set_floor-requires-then-went-ne0 c = let v = c.requires.waking in

@@ -9,6 +9,6 @@ tree_at-whole-requires c = let w = c.requires in (w, begins w.to_read)
 pub returns : goal.returns
 unfolding expression_in
 returns c = let r = c.tree_at-whole.ensures in record {
-      value = (λ w. (r w).has);
-      seeds_after = (λ w. (r w).drew);
-    }
+  value = (λ w. (r w).has);
+  seeds_after = (λ w. (r w).drew);
+}

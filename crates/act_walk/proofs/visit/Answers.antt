@@ -18,11 +18,11 @@ branch-chosen-requires c = let v = c.requires.visiting in
 
 pub returns-in_default-chosen : goal.returns-in_default-chosen
 returns-in_default-chosen c = (
-      λ v.
-          stayed v _ (place_is v _ c.blocked_at-place.ensures.0) _ c.action_at-action.ensures
-          c.branch-chosen.ensures _ _ c.in_default-chosen.is,
-      omega arith,
-    )
+  λ v.
+      stayed v _ (place_is v _ c.blocked_at-place.ensures.0) _ c.action_at-action.ensures
+      c.branch-chosen.ensures _ _ c.in_default-chosen.is,
+  omega arith,
+)
 
 pub number_of-number-requires : goal.number_of-number-requires
 number_of-number-requires c = let v = c.requires.visiting in
@@ -62,10 +62,10 @@ release-requires c = let v = c.requires.visiting in
 
 pub returns : goal.returns
 returns c = (
-      λ v.
-          gone v _ (place_is v _ c.blocked_at-place.ensures.0) _ c.action_at-action.ensures
-          c.branch-chosen.ensures c.in_Goes-chosen.is
-          c.branches_from-first.ensures _ c.enters_at-enters.ensures
-          _ _ _ _ _ c.number_of-number.ensures c.note.ensures c.release.ensures,
-      omega arith,
-    )
+  λ v.
+      gone v _ (place_is v _ c.blocked_at-place.ensures.0) _ c.action_at-action.ensures
+      c.branch-chosen.ensures c.in_Goes-chosen.is
+      c.branches_from-first.ensures _ c.enters_at-enters.ensures
+      _ _ _ _ _ c.number_of-number.ensures c.note.ensures c.release.ensures,
+  omega arith,
+)

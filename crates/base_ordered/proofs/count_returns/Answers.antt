@@ -21,15 +21,18 @@ loop-i-init c = (omega arith, omega arith, zero-add _)
 pub loop-i-preserved : goal.loop-i-preserved
 loop-i-preserved c = let l = c.loop-i in
     let k = kind_of (get_or c.args.words.now l.i 0) in
-    elim c.if-kind_of-gt0.branch [ then-kind_of-gt0 w ↦ (
-      omega arith,
-      omega arith,
-      rw w.found-is (found_one _ _ c.requires is_returned _ l.i l.found (omega arith) (lt-ltb 0 k (omega arith)) l.invariant.2),
-    ) | else-kind_of-gt0 w ↦ (
-      omega arith,
-      omega arith,
-      rw w.found-is (found_none _ _ c.requires is_returned _ l.i l.found (omega arith) (le-ltb 0 k (omega arith)) l.invariant.2),
-    ) ]
+    elim c.if-kind_of-gt0.branch [
+      | then-kind_of-gt0 w ↦ (
+        omega arith,
+        omega arith,
+        rw w.found-is (found_one _ _ c.requires is_returned _ l.i l.found (omega arith) (lt-ltb 0 k (omega arith)) l.invariant.2),
+      )
+      | else-kind_of-gt0 w ↦ (
+        omega arith,
+        omega arith,
+        rw w.found-is (found_none _ _ c.requires is_returned _ l.i l.found (omega arith) (le-ltb 0 k (omega arith)) l.invariant.2),
+      )
+    ]
 
 pub returns : goal.returns
 returns c = let l = c.loop-i in

@@ -6,9 +6,9 @@ use Rattle.desk_c.proofs.desk_open.Goals as goal
 
 pub refusal-requires : goal.refusal-requires
 refusal-requires c = let o = c.open_run-opened in let the_rest = open_small _ o.result o.ensures in record {
-      number_bound = the_rest.0;
-      place_bound = the_rest.1;
-    }
+  number_bound = the_rest.0;
+  place_bound = the_rest.1;
+}
 
 pub returns-then-opened-ne0 : goal.returns-then-opened-ne0
 returns-then-opened-ne0 c = let o = c.open_run-opened in
@@ -26,6 +26,6 @@ returns-then-run-ne-WORDS c = let o = c.open_run-opened in
 
 pub returns : goal.returns
 returns c = let o = c.open_run-opened in let the_rest = open_fresh _ o.result o.ensures _ c.if-opened-ne0.false c.if-run-ne-WORDS.false _ c.unpack.ensures.w_after in record {
-      value = the_rest.0;
-      run_after = the_rest.1;
-    }
+  value = the_rest.0;
+  run_after = the_rest.1;
+}

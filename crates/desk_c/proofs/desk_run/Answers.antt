@@ -7,9 +7,9 @@ use Rattle.desk_c.proofs.desk_run.Goals as goal
 
 pub refusal-requires : goal.refusal-requires
 refusal-requires c = let w = c.run_whole in let the_rest = rw c.in-Refused.is at (run_small _ _ _ w.result w.ensures.value) in record {
-      number_bound = the_rest.0;
-      place_bound = the_rest.1;
-    }
+  number_bound = the_rest.0;
+  place_bound = the_rest.1;
+}
 
 pub returns-in-Ran : goal.returns-in-Ran
 returns-in-Ran c = let w = c.run_whole in
@@ -20,7 +20,7 @@ returns-in-Ran c = let w = c.run_whole in
 
 pub returns-in-Refused : goal.returns-in-Refused
 returns-in-Refused c = let w = c.run_whole in record {
-      value = ap (λ x. REFUSED + x) c.refusal.ensures
+  value = ap (λ x. REFUSED + x) c.refusal.ensures
       ∙ (sym (ap ran_word c.in-Refused.is) ∙ run_says _ _ _ w.result w.ensures.value);
-      journal_after = w.ensures.journal_after;
-    }
+  journal_after = w.ensures.journal_after;
+}

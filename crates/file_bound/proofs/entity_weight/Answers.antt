@@ -12,10 +12,10 @@ body_of-b-requires c = omega (arith, c.u16_at.ensures.0, (c.requires.bodied c.if
 
 pub class_weight-requires : goal.class_weight-requires
 class_weight-requires c = let b = c.requires.bodied c.if-kind-eq-ENTITY.true in record {
-      graph = c.requires.graph;
-      b_lt_blocks = rw (c.body_of-b.ensures, c.u16_at.ensures.0) b.block_in;
-      known = c.requires.known;
-    }
+  graph = c.requires.graph;
+  b_lt_blocks = rw (c.body_of-b.ensures, c.u16_at.ensures.0) b.block_in;
+  known = c.requires.known;
+}
 
 pub returns-then-kind-eq-ENTITY : goal.returns-then-kind-eq-ENTITY
 returns-then-kind-eq-ENTITY c = let e = c.body_of-b.ensures in
@@ -27,7 +27,7 @@ returns-then-kind-eq-ENTITY c = let e = c.body_of-b.ensures in
 
 pub returns : goal.returns
 returns c = record {
-      known_2 = c.requires.known;
-      memo_after = rw (ne_eqb _ _ c.if-kind-eq-ENTITY.false) refl;
-      value = rw (ne_eqb _ _ c.if-kind-eq-ENTITY.false) refl;
-    }
+  known_2 = c.requires.known;
+  memo_after = rw (ne_eqb _ _ c.if-kind-eq-ENTITY.false) refl;
+  value = rw (ne_eqb _ _ c.if-kind-eq-ENTITY.false) refl;
+}

@@ -37,17 +37,17 @@ slice_bounds-entity_weight-end c = let p = step c.loop-at.invariant c.loop-at-te
 
 pub entity_weight-v-requires : goal.entity_weight-v-requires
 entity_weight-v-requires c = let t = c.loop-at.invariant in record {
-      graph = t.made_for.graph;
-      bodied = going_bodied t c.loop-at-test.true c.read-x.ensures c.next-end.ensures;
-      known = t.known;
-    }
+  graph = t.made_for.graph;
+  bodied = going_bodied t c.loop-at-test.true c.read-x.ensures c.next-end.ensures;
+  known = t.known;
+}
 
 pub added-w-requires : goal.added-w-requires
 added-w-requires c = let t = c.loop-at.invariant in record {
-      w_bound = t.small;
-      v_bound = going_small t c.loop-at-test.true c.read-x.ensures c.next-end.ensures
-          c.entity_weight-v.ensures.value;
-    }
+  w_bound = t.small;
+  v_bound = going_small t c.loop-at-test.true c.read-x.ensures c.next-end.ensures
+      c.entity_weight-v.ensures.value;
+}
 
 pub loop-at-smaller : goal.loop-at-smaller
 loop-at-smaller c = let p = step c.loop-at.invariant c.loop-at-test.true c.read-x.ensures

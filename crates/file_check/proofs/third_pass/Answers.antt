@@ -40,12 +40,12 @@ slice_bounds-too_deep-end c = let p = step _ c.loop-at.invariant c.loop-at-test.
 
 pub too_deep-requires : goal.too_deep-requires
 too_deep-requires c = let w = c.loop-at.invariant in record {
-      graph = w.graph;
-      in_bounds = class_is _ w c.loop-at-test.true
-        c.read-x.ensures
-        c.next-end.ensures;
-      known = w.known;
-    }
+  graph = w.graph;
+  in_bounds = class_is _ w c.loop-at-test.true
+      c.read-x.ensures
+      c.next-end.ensures;
+  known = w.known;
+}
 
 pub returns-then-too_deep : goal.returns-then-too_deep
 returns-then-too_deep c = ap refusal_of (sym (third_refused _

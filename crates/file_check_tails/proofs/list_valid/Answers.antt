@@ -15,11 +15,11 @@ parts_pass-requires c = let h : 2 + 6 * u16 c.args.bs.now 0 ≤ length c.args.bs
 pub returns-then-share : goal.returns-then-share
 unfolding list_valid
 returns-then-share c = rw (
-      c.parts_pass.ensures,
-      rest_of 2 c.args.bs.now,
-      c.u16_at-n.ensures.0,
-      c.if-share.true,
-    )
+  c.parts_pass.ensures,
+  rest_of 2 c.args.bs.now,
+  c.u16_at-n.ensures.0,
+  c.if-share.true,
+)
 
 pub parts_pass-requires-2 : goal.parts_pass-requires-2
 parts_pass-requires-2 c = let h : 2 + 8 * u16 c.args.bs.now 0 ≤ length c.args.bs.now = rw c.if-share.false at c.requires.1 in
@@ -28,8 +28,8 @@ parts_pass-requires-2 c = let h : 2 + 8 * u16 c.args.bs.now 0 ≤ length c.args.
 pub returns : goal.returns
 unfolding list_valid
 returns c = rw (
-      c.parts_pass-2.ensures,
-      rest_of 2 c.args.bs.now,
-      c.u16_at-n.ensures.0,
-      c.if-share.false,
-    )
+  c.parts_pass-2.ensures,
+  rest_of 2 c.args.bs.now,
+  c.u16_at-n.ensures.0,
+  c.if-share.false,
+)

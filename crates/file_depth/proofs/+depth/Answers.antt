@@ -16,10 +16,10 @@ bounds-memo-b t c = omega (arith, c.requires.graph.laid.few, c.requires.b_lt_blo
 
 pub returns-then-known-ne0 : goal.returns-then-known-ne0
 returns-then-known-ne0 t c = record {
-      known_2 = c.requires.known;
-      memo_after = sym (measured_known _ _ _ c.args.b _ c.if-known-ne0.true);
-      value = c.requires.known.right c.args.b c.requires.b_lt_blocks c.if-known-ne0.true;
-    }
+  known_2 = c.requires.known;
+  memo_after = sym (measured_known _ _ _ c.args.b _ c.if-known-ne0.true);
+  value = c.requires.known.right c.args.b c.requires.b_lt_blocks c.if-known-ne0.true;
+}
 
 pub start-k-requires : goal.start-k-requires
 start-k-requires t c = let l = c.requires.graph.laid in
@@ -33,9 +33,9 @@ overflow_add-b t c = omega (arith, c.requires.graph.laid.few, c.requires.b_lt_bl
 
 pub start-end-requires : goal.start-end-requires
 start-end-requires t c = let l = c.requires.graph.laid in record {
-      b_bound = omega (arith, l.few, c.requires.b_lt_blocks);
-      b_bound_2 = omega (arith, l.ends c.args.b c.requires.b_lt_blocks, l.many);
-    }
+  b_bound = omega (arith, l.few, c.requires.b_lt_blocks);
+  b_bound_2 = omega (arith, l.ends c.args.b c.requires.b_lt_blocks, l.many);
+}
 
 pub loop-k-init : goal.loop-k-init
 loop-k-init t c = begun c.requires.known c.start-k.ensures c.start-end.ensures (names_rise c.requires.graph c.requires.b_lt_blocks)

@@ -21,9 +21,9 @@ slice_bounds-rest-start c = c.requires.counted
 pub loop-left-init : goal.loop-left-init
 unfolding branch_blocks
 loop-left-init c = let e = c.u16_at-left.ensures.0 in (
-      rw (e, rest_of 2 c.args.bs.now) c.requires.fits,
-      fills_none c.args.out.now c.args.n _ _ c.requires.room (rw (e, rest_of 2 c.args.bs.now)),
-    )
+  rw (e, rest_of 2 c.args.bs.now) c.requires.fits,
+  fills_none c.args.out.now c.args.n _ _ c.requires.room (rw (e, rest_of 2 c.args.bs.now)),
+)
 
 pub u16_at-requires : goal.u16_at-requires
 u16_at-requires c = let l = c.loop-left in fit_four l.left l.rest.now c.loop-left-test.true l.invariant.0

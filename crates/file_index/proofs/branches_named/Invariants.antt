@@ -9,7 +9,7 @@ use Rattle.semantics.specs.Record.{branches_fit}
 use Rattle.file_index.proofs.branches_named.Given as goal
 
 abbrev pub invariant-loop-left : goal.invariant-loop-left
-invariant-loop-left l =     (branches_fit l.left l.rest ≡ true) × Fills l.initial.out l.n (branch_blocks l.bs) l.out l.at (blocks_from l.left l.rest)
+invariant-loop-left l = (branches_fit l.left l.rest ≡ true) × Fills l.initial.out l.n (branch_blocks l.bs) l.out l.at (blocks_from l.left l.rest)
 
 abbrev pub decreases-loop-left : goal.decreases-loop-left
 decreases-loop-left l = l.left

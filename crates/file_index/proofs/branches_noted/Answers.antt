@@ -9,9 +9,9 @@ use Rattle.file_index.proofs.branches_noted.Goals as goal
 
 pub branch_noted-requires : goal.branch_noted-requires
 branch_noted-requires c = let a = c.args in record {
-      claimed = claimed_by a.bs.now (req_sized c.requires.judged c.in-25.is).0;
-      roomy = rw (offered_req a.at a.kind a.bs.now c.in-25.is) at c.requires.roomy;
-    }
+  claimed = claimed_by a.bs.now (req_sized c.requires.judged c.in-25.is).0;
+  roomy = rw (offered_req a.at a.kind a.bs.now c.in-25.is) at c.requires.roomy;
+}
 
 pub try_noted-requires : goal.try_noted-requires
 try_noted-requires c = let a = c.args in
@@ -34,9 +34,9 @@ slice_bounds-branch_noted-start c = while_head c.requires.judged c.in-27.is
 
 pub branch_noted-requires-in-27 : goal.branch_noted-requires-in-27
 branch_noted-requires-in-27 c = let a = c.args in record {
-      claimed = rw (rest_of 2 a.bs.now) (claimed_by _ (while_sized c.requires.judged c.in-27.is).0);
-      roomy = rw (offered_while a.at a.kind a.bs.now c.in-27.is) at c.requires.roomy;
-    }
+  claimed = rw (rest_of 2 a.bs.now) (claimed_by _ (while_sized c.requires.judged c.in-27.is).0);
+  roomy = rw (offered_while a.at a.kind a.bs.now c.in-27.is) at c.requires.roomy;
+}
 
 pub returns-in-25 : goal.returns-in-25
 returns-in-25 c = let a = c.args in

@@ -10,43 +10,43 @@ loop-at-init c = rw c.first-at.ensures (count_starts _ c.requires)
 
 pub tally-resources-requires : goal.tally-resources-requires
 tally-resources-requires c = omega (
-      arith,
-      c.loop-at.invariant.of_resources.few,
-      c.loop-at-test.true,
-      c.requires.short,
-    )
+  arith,
+  c.loop-at.invariant.of_resources.few,
+  c.loop-at-test.true,
+  c.requires.short,
+)
 
 pub tally-bins-requires : goal.tally-bins-requires
 tally-bins-requires c = omega (
-      arith,
-      c.loop-at.invariant.of_bins.few,
-      c.loop-at-test.true,
-      c.requires.short,
-    )
+  arith,
+  c.loop-at.invariant.of_bins.few,
+  c.loop-at-test.true,
+  c.requires.short,
+)
 
 pub tally-syncs-requires : goal.tally-syncs-requires
 tally-syncs-requires c = omega (
-      arith,
-      c.loop-at.invariant.of_syncs.few,
-      c.loop-at-test.true,
-      c.requires.short,
-    )
+  arith,
+  c.loop-at.invariant.of_syncs.few,
+  c.loop-at-test.true,
+  c.requires.short,
+)
 
 pub tally-variables-requires : goal.tally-variables-requires
 tally-variables-requires c = omega (
-      arith,
-      c.loop-at.invariant.of_variables.few,
-      c.loop-at-test.true,
-      c.requires.short,
-    )
+  arith,
+  c.loop-at.invariant.of_variables.few,
+  c.loop-at-test.true,
+  c.requires.short,
+)
 
 pub tally-samplers-requires : goal.tally-samplers-requires
 tally-samplers-requires c = omega (
-      arith,
-      c.loop-at.invariant.of_samplers.few,
-      c.loop-at-test.true,
-      c.requires.short,
-    )
+  arith,
+  c.loop-at.invariant.of_samplers.few,
+  c.loop-at-test.true,
+  c.requires.short,
+)
 
 pub loop-at-smaller : goal.loop-at-smaller
 loop-at-smaller c = let m = step_there _ _ c.loop-at-test.true c.loop-at.invariant.fine c.read-x.ensures c.next-at.ensures in

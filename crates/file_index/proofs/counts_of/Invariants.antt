@@ -6,7 +6,7 @@ use Rattle.file_index.proofs.Counting.{Counting}
 use Rattle.file_index.proofs.counts_of.Given as goal
 
 abbrev pub invariant-loop-at : goal.invariant-loop-at
-invariant-loop-at l =     Counting l.s l.resources l.bins l.syncs l.variables l.samplers l.at
+invariant-loop-at l = Counting l.s l.resources l.bins l.syncs l.variables l.samplers l.at
 
 abbrev pub decreases-loop-at : goal.decreases-loop-at
 decreases-loop-at l = length l.s - l.at

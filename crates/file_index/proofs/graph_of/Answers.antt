@@ -39,9 +39,9 @@ noted-requires-in-loop-at c = times_room c.loop-at.invariant c.loop-at-test.true
 
 pub overflow_cast-ends : goal.overflow_cast-ends
 overflow_cast-ends c = omega (
-      arith,
-      ends_few c.loop-at.invariant,
-    )
+  arith,
+  ends_few c.loop-at.invariant,
+)
 
 pub slice_bounds-noted-end-in-loop-at-2 : goal.slice_bounds-noted-end-in-loop-at-2
 slice_bounds-noted-end-in-loop-at-2 c = from_long c.loop-at.invariant
@@ -54,22 +54,22 @@ slice_bounds-named-end c = goes_long c.loop-at.invariant
 
 pub named-ends-requires : goal.named-ends-requires
 named-ends-requires c = record {
-      judged = judged_there _ _ c.loop-at-test.true c.loop-at.invariant.fine c.read-x.ensures c.next-end.ensures;
-      bs_in_bounds = goes_room c.loop-at.invariant c.loop-at-test.true c.read-x.ensures c.next-end.ensures;
-    }
+  judged = judged_there _ _ c.loop-at-test.true c.loop-at.invariant.fine c.read-x.ensures c.next-end.ensures;
+  bs_in_bounds = goes_room c.loop-at.invariant c.loop-at-test.true c.read-x.ensures c.next-end.ensures;
+}
 
 pub loop-at-smaller : goal.loop-at-smaller
 loop-at-smaller c = let m = step_there _ _ c.loop-at-test.true c.loop-at.invariant.fine c.read-x.ensures c.next-end.ensures in omega arith
 
 pub loop-at-preserved : goal.loop-at-preserved
 loop-at-preserved c = rw (
-      c.noted.ensures.after_is,
-      c.noted-in-loop-at.ensures.after_is,
-      c.noted-actions.ensures.next_is,
-      c.noted-actions.ensures.after_is,
-      c.named-ends.ensures.next_is,
-      c.named-ends.ensures.after_is,
-    )
+  c.noted.ensures.after_is,
+  c.noted-in-loop-at.ensures.after_is,
+  c.noted-actions.ensures.next_is,
+  c.noted-actions.ensures.after_is,
+  c.named-ends.ensures.next_is,
+  c.named-ends.ensures.after_is,
+)
     (graph_turn c.loop-at.invariant c.loop-at-test.true c.read-x.ensures c.next-end.ensures
     c.own_weight.ensures c.times_of.ensures)
 

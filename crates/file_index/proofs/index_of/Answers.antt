@@ -42,10 +42,10 @@ noted-classes-requires c = body_room c.loop-at.invariant c.loop-at-test.true c.r
 
 pub overflow_cast-at : goal.overflow_cast-at
 overflow_cast-at c = omega (
-      arith,
-      c.loop-at-test.true,
-      c.requires.short,
-    )
+  arith,
+  c.loop-at-test.true,
+  c.requires.short,
+)
 
 pub slice_bounds-noted-end-in-loop-at-2 : goal.slice_bounds-noted-end-in-loop-at-2
 slice_bounds-noted-end-in-loop-at-2 c = place_long c.loop-at.invariant
@@ -58,13 +58,13 @@ loop-at-smaller c = let m = step_there _ _ c.loop-at-test.true c.loop-at.invaria
 
 pub loop-at-preserved : goal.loop-at-preserved
 loop-at-preserved c = rw (
-      c.noted-blocks.ensures.next_is,
-      c.noted-blocks.ensures.after_is,
-      c.noted-classes.ensures.next_is,
-      c.noted-classes.ensures.after_is,
-      c.noted-actions.ensures.next_is,
-      c.noted-actions.ensures.after_is,
-    )
+  c.noted-blocks.ensures.next_is,
+  c.noted-blocks.ensures.after_is,
+  c.noted-classes.ensures.next_is,
+  c.noted-classes.ensures.after_is,
+  c.noted-actions.ensures.next_is,
+  c.noted-actions.ensures.after_is,
+)
     (index_turn c.loop-at.invariant c.loop-at-test.true c.read-x.ensures c.next-end.ensures c.class_body-block.ensures)
 
 pub overflow_cast-first : goal.overflow_cast-first

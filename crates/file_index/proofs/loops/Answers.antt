@@ -33,11 +33,11 @@ may_loop-found-requires c = let g = judged_there _ _ c.loop-at-test.true c.loop-
 
 pub opened-own-requires : goal.opened-own-requires
 opened-own-requires c = omega (
-      arith,
-      c.loop-at.invariant.1.0,
-      c.loop-at-test.true,
-      c.requires.short,
-    )
+  arith,
+  c.loop-at.invariant.1.0,
+  c.loop-at-test.true,
+  c.requires.short,
+)
 
 pub loop-at-smaller : goal.loop-at-smaller
 loop-at-smaller c = let m = step_there _ _ c.loop-at-test.true c.loop-at.invariant.0 c.read-x.ensures c.next-end.ensures in omega arith

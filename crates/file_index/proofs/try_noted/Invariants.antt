@@ -11,9 +11,9 @@ use Rattle.semantics.specs.Record.{branches_from, branches_fit}
 use Rattle.file_index.proofs.try_noted.Given as goal
 
 abbrev pub invariant-loop-left : goal.invariant-loop-left
-invariant-loop-left l =     (l.here + length l.rest ≤ No.longest_file) × ((branches_fit l.left l.rest ≡ true)
+invariant-loop-left l = (l.here + length l.rest ≤ No.longest_file) × ((branches_fit l.left l.rest ≡ true)
     × RowsFill (rows l.initial.claim l.initial.resources l.initial.bins l.initial.syncs) l.n (offered_try l.at l.bs) (rows l.claim l.resources l.bins l.syncs) l.next
     (offered_at l.here (branches_from l.left l.rest)))
 
 abbrev pub decreases-loop-left : goal.decreases-loop-left
-decreases-loop-left l =     l.left
+decreases-loop-left l = l.left

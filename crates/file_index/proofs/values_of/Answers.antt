@@ -16,21 +16,21 @@ overflow_sub-result c = rw (c.from_twos-lowest.ensures, c.u32_at.ensures, c.from
 
 pub overflow_add-result : goal.overflow_add-result
 overflow_add-result c = let f = rw (
-      ← c.u32_at.ensures,
-      ← c.u32_at-then-kind-eq-SAMPLER.ensures,
-      ← c.from_twos-lowest.ensures,
-      ← c.from_twos-highest.ensures,
-    ) at (values_few c.args.bs.now (sampler_judged c.requires c.if-kind-eq-SAMPLER.true)) in
+  ← c.u32_at.ensures,
+  ← c.u32_at-then-kind-eq-SAMPLER.ensures,
+  ← c.from_twos-lowest.ensures,
+  ← c.from_twos-highest.ensures,
+) at (values_few c.args.bs.now (sampler_judged c.requires c.if-kind-eq-SAMPLER.true)) in
     omega (arith, f)
 
 pub returns-then-kind-eq-SAMPLER : goal.returns-then-kind-eq-SAMPLER
 returns-then-kind-eq-SAMPLER c = rw (
-      eq-eqb _ _ c.if-kind-eq-SAMPLER.true,
-      c.from_twos-lowest.ensures,
-      c.u32_at.ensures,
-      c.from_twos-highest.ensures,
-      c.u32_at-then-kind-eq-SAMPLER.ensures,
-    )
+  eq-eqb _ _ c.if-kind-eq-SAMPLER.true,
+  c.from_twos-lowest.ensures,
+  c.u32_at.ensures,
+  c.from_twos-highest.ensures,
+  c.u32_at-then-kind-eq-SAMPLER.ensures,
+)
     (values_are c.args.bs.now (sampler_judged c.requires c.if-kind-eq-SAMPLER.true))
 
 pub returns : goal.returns

@@ -94,8 +94,8 @@ action_weight-returns t c = let w = c.loop-k.invariant in
       known_2 = w.known;
       memo_after = all_noted w h;
       value = c.capped.ensures
-            ∙ rw (c.long-rounds.ensures.0, c.long-weight.ensures.0)
-            (action_ended c.requires.graph c.requires.stands c.args.own.now c.args.times.now w h);
+          ∙ rw (c.long-rounds.ensures.0, c.long-weight.ensures.0)
+          (action_ended c.requires.graph c.requires.stands c.args.own.now c.args.times.now w h);
     }
 
 pub block_weight-offset_bounds-memo-b : goal.block_weight-offset_bounds-memo-b
@@ -109,10 +109,10 @@ block_weight-overflow_sub-result t c = omega (arith, c.if-known-ne0.true)
 
 pub block_weight-returns-then-known-ne0 : goal.block_weight-returns-then-known-ne0
 block_weight-returns-then-known-ne0 t c = record {
-      known_2 = c.requires.known;
-      memo_after = sym (measured_known _ _ _ c.args.b _ c.if-known-ne0.true);
-      value = omega (arith, c.requires.known.right c.args.b c.requires.b_lt_blocks c.if-known-ne0.true);
-    }
+  known_2 = c.requires.known;
+  memo_after = sym (measured_known _ _ _ c.args.b _ c.if-known-ne0.true);
+  value = omega (arith, c.requires.known.right c.args.b c.requires.b_lt_blocks c.if-known-ne0.true);
+}
 
 pub block_weight-offset_bounds-first-b : goal.block_weight-offset_bounds-first-b
 block_weight-offset_bounds-first-b t c = omega (arith, c.requires.graph.laid.few, c.requires.b_lt_blocks)
@@ -175,7 +175,7 @@ block_weight-returns t c = let w = c.loop-a.invariant in
       known_2 = known_more _ _ _ c.args.b _ (omega (arith, c.requires.graph.laid.few, c.requires.b_lt_blocks)) w.known e;
       memo_after = sum_noted w ahead c.requires.b_lt_blocks c.loop-a-test.false c.if-known-ne0.false;
       value = omega
-            (arith, e);
+          (arith, e);
     }
 
 pub class_weight-block_weight-w-requires : goal.class_weight-block_weight-w-requires
@@ -186,20 +186,20 @@ class_weight-overflow_add-result t c = omega (arith, c.block_weight-w.ensures.va
 
 pub class_weight-returns : goal.class_weight-returns
 class_weight-returns t c = record {
-      known_2 = c.block_weight-w.ensures.known_2;
-      memo_after = c.block_weight-w.ensures.memo_after;
-      value = omega (arith, c.block_weight-w.ensures.value);
-    }
+  known_2 = c.block_weight-w.ensures.known_2;
+  memo_after = c.block_weight-w.ensures.memo_after;
+  value = omega (arith, c.block_weight-w.ensures.value);
+}
 
 pub goes_weight-class_weight-requires : goal.goes_weight-class_weight-requires
 goes_weight-class_weight-requires t c = (omega (arith, c.decreases), (c.requires.graph, (c.requires.b_lt_blocks, c.requires.known)))
 
 pub goes_weight-returns-then-start : goal.goes_weight-returns-then-start
 goes_weight-returns-then-start t c = record {
-      known_2 = c.class_weight.ensures.known_2;
-      memo_after = c.class_weight.ensures.memo_after;
-      value = c.class_weight.ensures.value;
-    }
+  known_2 = c.class_weight.ensures.known_2;
+  memo_after = c.class_weight.ensures.memo_after;
+  value = c.class_weight.ensures.value;
+}
 
 pub goes_weight-block_weight-requires : goal.goes_weight-block_weight-requires
 goes_weight-block_weight-requires t c = (omega (arith, c.decreases), (c.requires.graph, (c.requires.b_lt_blocks, c.requires.known)))
@@ -209,7 +209,7 @@ goes_weight-overflow_add-result t c = omega (arith, c.block_weight.ensures.value
 
 pub goes_weight-returns : goal.goes_weight-returns
 goes_weight-returns t c = record {
-      known_2 = c.block_weight.ensures.known_2;
-      memo_after = c.block_weight.ensures.memo_after;
-      value = omega (arith, c.block_weight.ensures.value);
-    }
+  known_2 = c.block_weight.ensures.known_2;
+  memo_after = c.block_weight.ensures.memo_after;
+  value = omega (arith, c.block_weight.ensures.value);
+}

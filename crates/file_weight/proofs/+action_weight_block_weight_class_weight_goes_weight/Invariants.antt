@@ -22,13 +22,13 @@ abbrev pub decreases-goes_weight : goal.decreases-goes_weight
 decreases-goes_weight l = (Limit.BLOCKS - l.b) * 4 + 3
 
 abbrev pub invariant-action_weight-loop-k : goal.invariant-action_weight-loop-k
-invariant-action_weight-loop-k l =     ActionTurn (acts_in l.first l.from l.goes l.own l.times) l.from l.goes l.blocks l.a l.end l.initial.memo l.memo l.top l.k
+invariant-action_weight-loop-k l = ActionTurn (acts_in l.first l.from l.goes l.own l.times) l.from l.goes l.blocks l.a l.end l.initial.memo l.memo l.top l.k
 
 abbrev pub decreases-action_weight-loop-k : goal.decreases-action_weight-loop-k
 decreases-action_weight-loop-k l = l.end - l.k
 
 abbrev pub invariant-block_weight-loop-a : goal.invariant-block_weight-loop-a
-invariant-block_weight-loop-a l =     Sum (acts_in l.first l.from l.goes l.own l.times) l.blocks l.b l.end l.initial.memo l.memo l.w l.a
+invariant-block_weight-loop-a l = Sum (acts_in l.first l.from l.goes l.own l.times) l.blocks l.b l.end l.initial.memo l.memo l.w l.a
 
 abbrev pub decreases-block_weight-loop-a : goal.decreases-block_weight-loop-a
 decreases-block_weight-loop-a l = l.end - l.a

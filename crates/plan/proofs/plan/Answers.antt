@@ -25,8 +25,8 @@ returns-then-refusal-ne0-clause-bytes g c = c.print-went.ensures.at_after ∙ ze
 
 pub print_run-went-requires : goal.print_run-went-requires
 print_run-went-requires g c = record {
-      accepted = accepted_as c.check-refusal.result c.check-refusal.ensures c.if-refusal-ne0.false;
-      bound_value = c.bound_word-bound.ensures ∙ ap bound_word c.bound.ensures;
-      out_len = c.requires;
-      at_value = refl;
-    }
+  accepted = accepted_as c.check-refusal.result c.check-refusal.ensures c.if-refusal-ne0.false;
+  bound_value = c.bound_word-bound.ensures ∙ ap bound_word c.bound.ensures;
+  out_len = c.requires;
+  at_value = refl;
+}

@@ -23,11 +23,11 @@ fresh-requires g c = loaded c.requires.accepted c.shared_slice_known-1.given c.m
 
 pub loop-answer-init : goal.loop-answer-init
 loop-answer-init g c = (
-      begin
-          (opened c.requires.accepted c.shared_slice_known-1.given c.map_of-map.ensures
-          c.fresh.ensures) c.requires.accepted.passes refl c.requires.at_value,
-      (c.requires.out_len, (omega arith, length-replicate {A = ℕ} JOURNAL 0)),
-    )
+  begin
+      (opened c.requires.accepted c.shared_slice_known-1.given c.map_of-map.ensures
+      c.fresh.ensures) c.requires.accepted.passes refl c.requires.at_value,
+  (c.requires.out_len, (omega arith, length-replicate {A = ℕ} JOURNAL 0)),
+)
 
 pub overflow_sub-steps : goal.overflow_sub-steps
 overflow_sub-steps g c = c.loop-answer.invariant.1.1.0
@@ -40,9 +40,9 @@ slice_bounds-turn-end-in-loop-answer-2 g c = sym c.loop-answer.invariant.1.1.1
 
 pub turn-turn-requires : goal.turn-turn-requires
 turn-turn-requires g c = let i = c.loop-answer.invariant in record {
-      fact = i.0.running;
-      journal_in_bounds = omega (arith, i.1.0, i.1.1.1);
-    }
+  fact = i.0.running;
+  journal_in_bounds = omega (arith, i.1.0, i.1.1.1);
+}
 
 pub slice_bounds-print-end : goal.slice_bounds-print-end
 slice_bounds-print-end g c = let i = c.loop-answer.invariant in (c.turn-turn.ensures i.0.running).text_is.fits

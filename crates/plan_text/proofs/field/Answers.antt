@@ -15,6 +15,6 @@ overflow_add-result c = omega (arith, decimal-length 9 c.args.n (omega arith))
 
 pub returns : goal.returns
 returns c = record {
-      put = put_byte c.args.mark c.digits-end.ensures.put;
-      upper_bound = omega (arith, decimal-length 9 c.args.n (omega arith));
-    }
+  put = put_byte c.args.mark c.digits-end.ensures.put;
+  upper_bound = omega (arith, decimal-length 9 c.args.n (omega arith));
+}

@@ -5,9 +5,9 @@ use Rattle.plan_turn.proofs.turn.Goals as goal
 
 pub lines-bytes-requires : goal.lines-bytes-requires
 lines-bytes-requires c = let t = c.run-ran.ensures c.requires.fact in record {
-      n_in_bounds = fits_journal c.requires.fact _ _ t c.journal-1.given;
-      n_in_bounds_2 = fits_text c.requires.fact _ _ t c.requires.journal_in_bounds;
-    }
+  n_in_bounds = fits_journal c.requires.fact _ _ t c.journal-1.given;
+  n_in_bounds_2 = fits_text c.requires.fact _ _ t c.requires.journal_in_bounds;
+}
 
 pub returns : goal.returns
 returns c = λ v.

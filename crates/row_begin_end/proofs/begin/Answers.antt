@@ -23,6 +23,6 @@ wake-requires c = let k = c.come-p in
 
 pub returns : goal.returns
 returns c = let k = c.come-p in record {
-      done = (λ d. begun c.args.b c.args.t d refl k.ensures.done k.ensures.answers c.wake.ensures);
-      answers = (λ d. lowest_free c.args.b c.args.t d refl k.ensures.done k.ensures.answers);
-    }
+  done = (λ d. begun c.args.b c.args.t d refl k.ensures.done k.ensures.answers c.wake.ensures);
+  answers = (λ d. lowest_free c.args.b c.args.t d refl k.ensures.done k.ensures.answers);
+}

@@ -23,6 +23,6 @@ bounds-w-4-2 c = let p = c.free_place-p in
 
 pub returns : goal.returns
 returns c = let p = c.free_place-p in record {
-      done = (λ d. came c.args.n c.args.b d p.ensures.0 c.furnish.ensures c.with_place.ensures);
-      answers = (λ d. lowest_free c.args.n c.args.b d p.ensures.0);
-    }
+  done = (λ d. came c.args.n c.args.b d p.ensures.0 c.furnish.ensures c.with_place.ensures);
+  answers = (λ d. lowest_free c.args.n c.args.b d p.ensures.0);
+}

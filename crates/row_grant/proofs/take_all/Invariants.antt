@@ -7,7 +7,7 @@ use Rattle.row_grant.proofs.Taking.{LeftOf}
 use Rattle.row_grant.proofs.take_all.Given as goal
 
 abbrev pub invariant-loop-left : goal.invariant-loop-left
-invariant-loop-left l =     (8 * l.left ≤ length l.rest) × ((v : Taking l.s l.at l.initial.w l.p) → LeftOf v l.left l.rest l.w)
+invariant-loop-left l = (8 * l.left ≤ length l.rest) × ((v : Taking l.s l.at l.initial.w l.p) → LeftOf v l.left l.rest l.w)
 
 abbrev pub decreases-loop-left : goal.decreases-loop-left
 decreases-loop-left l = l.left

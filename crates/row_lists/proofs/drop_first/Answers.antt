@@ -13,9 +13,9 @@ slice_bounds-take_out-end c = omega (arith, long c.requires)
 
 pub take_out-requires : goal.take_out-requires
 take_out-requires c = let v = c.requires in record {
-      canon = keys_canon v;
-      at_lt_len = omega (arith, count_next v);
-    }
+  canon = keys_canon v;
+  at_lt_len = omega (arith, count_next v);
+}
 
 pub slice_bounds-take_out-end-2 : goal.slice_bounds-take_out-end-2
 slice_bounds-take_out-end-2 c = let v = c.requires in
@@ -23,9 +23,9 @@ slice_bounds-take_out-end-2 c = let v = c.requires in
 
 pub take_out-requires-2 : goal.take_out-requires-2
 take_out-requires-2 c = let v = c.requires in record {
-      canon = words_canon v (keys_out v c.take_out.ensures);
-      at_lt_len = omega (arith, count_next v);
-    }
+  canon = words_canon v (keys_out v c.take_out.ensures);
+  at_lt_len = omega (arith, count_next v);
+}
 
 pub overflow_sub-w : goal.overflow_sub-w
 overflow_sub-w c = omega (arith, count_next c.requires)

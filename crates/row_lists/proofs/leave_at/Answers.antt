@@ -5,9 +5,9 @@ use Rattle.row_lists.proofs.leave_at.Goals as goal
 
 pub take_out-requires : goal.take_out-requires
 take_out-requires c = let d = c.requires in record {
-      canon = here_canon d.queue;
-      at_lt_len = omega (arith, d.queue.count_is, d.in_line);
-    }
+  canon = here_canon d.queue;
+  at_lt_len = omega (arith, d.queue.count_is, d.in_line);
+}
 
 pub returns : goal.returns
 returns c = λ d. parted d _ c.take_out.ensures

@@ -14,9 +14,9 @@ slice_bounds-put_in-end c = omega (arith, long c.requires.shown)
 
 pub put_in-requires : goal.put_in-requires
 put_in-requires c = let v = c.requires.shown in record {
-      canon = keys_canon v;
-      at_le_len = (omega (arith, count_is v, v.given.0), omega (arith, keys_wide (keys_there v), count_is v, v.given.1));
-    }
+  canon = keys_canon v;
+  at_le_len = (omega (arith, count_is v, v.given.0), omega (arith, keys_wide (keys_there v), count_is v, v.given.1));
+}
 
 pub slice_bounds-put_in-end-2 : goal.slice_bounds-put_in-end-2
 slice_bounds-put_in-end-2 c = let d = c.requires in

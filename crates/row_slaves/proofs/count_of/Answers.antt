@@ -12,15 +12,18 @@ loop-k-init c = (omega arith, omega arith, zero-add _)
 
 pub loop-k-preserved : goal.loop-k-preserved
 loop-k-preserved c = let l = c.loop-k in
-    elim c.if-row-k.branch [ then-row-k w ↦ (
-      omega arith,
-      omega arith,
-      rw w.found-is (found_one _ _ c.requires _ _ l.k l.found (omega arith) (eq-eqb _ _ w.if-row-k.true) l.invariant.2),
-    ) | else-row-k w ↦ (
-      omega arith,
-      omega arith,
-      rw w.found-is (found_none _ _ c.requires _ _ l.k l.found (omega arith) (ne_eqb _ _ w.if-row-k.false) l.invariant.2),
-    ) ]
+    elim c.if-row-k.branch [
+      | then-row-k w ↦ (
+        omega arith,
+        omega arith,
+        rw w.found-is (found_one _ _ c.requires _ _ l.k l.found (omega arith) (eq-eqb _ _ w.if-row-k.true) l.invariant.2),
+      )
+      | else-row-k w ↦ (
+        omega arith,
+        omega arith,
+        rw w.found-is (found_none _ _ c.requires _ _ l.k l.found (omega arith) (ne_eqb _ _ w.if-row-k.false) l.invariant.2),
+      )
+    ]
 
 pub returns : goal.returns
 returns c = let l = c.loop-k in

@@ -12,7 +12,7 @@ use Rattle.row_sound.specs.Chain.{Chained}
 use Rattle.row_sound.proofs.blocked_stand.Given as goal
 
 abbrev pub invariant-loop-k : goal.invariant-loop-k
-invariant-loop-k l =     (l.k ≤ l.n) × ((v : Chained l.bytes l.map l.w l.classes)
+invariant-loop-k l = (l.k ≤ l.n) × ((v : Chained l.bytes l.map l.w l.classes)
     → l.ok ≡ each l.k (λ j. asks_at (stands_in v.viewed.model
     (process v.viewed.is (get_or l.w (Row.QUEUE + j) 0 % Word.PLACES)).frames)))
 

@@ -10,7 +10,7 @@ use Rattle.row_sound.specs.Chain.{among}
 use Rattle.row_sound.proofs.branch_enters.Given as goal
 
 abbrev pub invariant-loop-k : goal.invariant-loop-k
-invariant-loop-k l =     (l.from ≡ get_or l.map (Map.FROM + l.a) 0) × (l.from + l.many ≡ get_or l.map (Map.FROM + (l.a + 1)) 0) × (l.k ≤ l.many)
+invariant-loop-k l = (l.from ≡ get_or l.map (Map.FROM + l.a) 0) × (l.from + l.many ≡ get_or l.map (Map.FROM + (l.a + 1)) 0) × (l.k ≤ l.many)
     × (l.found ≡ among l.k (λ j. eqb (u16 l.bytes (claim_at l.map (l.from + j) - 2)) l.b))
 
 abbrev pub decreases-loop-k : goal.decreases-loop-k

@@ -9,7 +9,7 @@ use Rattle.row_sound.proofs.Frames.{outer_of}
 use Rattle.row_sound.proofs.chained.Given as goal
 
 abbrev pub invariant-loop-k : goal.invariant-loop-k
-invariant-loop-k l =     (l.k ≤ l.depth)
+invariant-loop-k l = (l.k ≤ l.depth)
     × ((v : Viewed l.bytes l.map l.w l.classes) → chained v.model (outer_of l.k (process v.is l.p).frames) ≡ true)
 
 abbrev pub decreases-loop-k : goal.decreases-loop-k

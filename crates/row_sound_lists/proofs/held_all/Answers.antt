@@ -11,12 +11,11 @@ overflow_add-found c = let l = c.loop-q in
     omega (arith, c.word-found.ensures, c.requires.0.held_low l.q c.args.i (omega arith) (omega arith))
 
 pub loop-q-preserved : goal.loop-q-preserved
-loop-q-preserved c = let l = c.loop-q in
-    (
-      omega arith,
-      omega (arith, c.word-found.ensures, c.requires.0.held_low l.q c.args.i (omega arith) (omega arith)),
-      tally_on _ l.q _ _ c.word-found.ensures l.invariant.2,
-    )
+loop-q-preserved c = let l = c.loop-q in (
+  omega arith,
+  omega (arith, c.word-found.ensures, c.requires.0.held_low l.q c.args.i (omega arith) (omega arith)),
+  tally_on _ l.q _ _ c.word-found.ensures l.invariant.2,
+)
 
 pub returns : goal.returns
 returns c = let l = c.loop-q in (tally_done _ l.q _ _ (omega arith) l.invariant.2, omega arith)

@@ -9,11 +9,11 @@ loop-k-init c = (omega arith, omega arith, tally_none _)
 
 pub loop-k-preserved : goal.loop-k-preserved
 loop-k-preserved c = let l = c.loop-k in (
-      omega arith,
-      omega (arith, c.one_if-found.ensures.1),
-      tally_on _ l.k _ _ (c.one_if-found.ensures.0 ∙ rw (← c.kind_of.ensures.0, ← c.number_of.ensures.0))
-          l.invariant.2,
-    )
+  omega arith,
+  omega (arith, c.one_if-found.ensures.1),
+  tally_on _ l.k _ _ (c.one_if-found.ensures.0 ∙ rw (← c.kind_of.ensures.0, ← c.number_of.ensures.0))
+      l.invariant.2,
+)
 
 pub returns : goal.returns
 returns c = let l = c.loop-k in

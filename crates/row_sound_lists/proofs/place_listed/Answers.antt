@@ -8,21 +8,21 @@ in_queue-requires c = blocked_lined c.requires.0
 
 pub overflow_add-result : goal.overflow_add-result
 overflow_add-result c = omega (
-      arith,
-      c.one_if.ensures.1,
-      c.in_queue.ensures.1,
-      c.in_events.ensures.1,
-      c.owned.ensures.1,
-      c.in_waiting.ensures.1,
-    )
+  arith,
+  c.one_if.ensures.1,
+  c.in_queue.ensures.1,
+  c.in_events.ensures.1,
+  c.owned.ensures.1,
+  c.in_waiting.ensures.1,
+)
 
 pub returns : goal.returns
 returns c = rw (
-      c.one_if.ensures.0,
-      c.in_events.ensures.0,
-      c.in_queue.ensures.0,
-      c.in_waiting.ensures.0,
-      c.owned.ensures.0,
-      c.one_if-2.ensures.0,
-      c.word.ensures,
-    )
+  c.one_if.ensures.0,
+  c.in_events.ensures.0,
+  c.in_queue.ensures.0,
+  c.in_waiting.ensures.0,
+  c.owned.ensures.0,
+  c.one_if-2.ensures.0,
+  c.word.ensures,
+)

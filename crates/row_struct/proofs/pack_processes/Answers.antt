@@ -26,6 +26,6 @@ loop-p-preserved c = let r = c.pack_process in
 
 pub returns : goal.returns
 returns c = let h = placed_all c.loop-p.invariant (omega arith) in record {
-      result_value = sym h.0;
-      processes_full = h.1;
-    }
+  result_value = sym h.0;
+  processes_full = h.1;
+}

@@ -27,6 +27,6 @@ loop-p-preserved c = let r = c.unpack_process in
 
 pub returns : goal.returns
 returns c = let the_rest = placed_all c.loop-p.invariant (omega arith) in record {
-      w_after = the_rest.0;
-      processes_full = the_rest.1;
-    }
+  w_after = the_rest.0;
+  processes_full = the_rest.1;
+}

@@ -5,6 +5,6 @@ use Rattle.run_by_value.proofs.run_state.Goals as goal
 
 pub returns : goal.returns
 returns c = record {
-      tells_moved = moved_says _ _ _ _ _ _ _ _ c.unpack.ensures.w_after c.run_row-ran.ensures c.pack-left.ensures.result_value c.pack-left.ensures.full;
-      full = c.unpack.ensures.full;
-    }
+  tells_moved = moved_says _ _ _ _ _ _ _ _ c.unpack.ensures.w_after c.run_row-ran.ensures c.pack-left.ensures.result_value c.pack-left.ensures.full;
+  full = c.unpack.ensures.full;
+}

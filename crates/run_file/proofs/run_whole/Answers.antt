@@ -4,9 +4,9 @@ use Rattle.run_file.proofs.run_whole.Goals as goal
 
 pub returns-then-refusal-ne0 : goal.returns-then-refusal-ne0
 returns-then-refusal-ne0 c = let a = c.check-refusal in let the_rest = refused_says _ a.result a.ensures _ _ c.if-refusal-ne0.true in record {
-      value = the_rest.0;
-      journal_after = the_rest.1;
-    }
+  value = the_rest.0;
+  journal_after = the_rest.1;
+}
 
 pub map_of-map-requires : goal.map_of-map-requires
 map_of-map-requires c = let a = c.check-refusal in reads _ a.result a.ensures c.if-refusal-ne0.false

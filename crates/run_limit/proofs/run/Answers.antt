@@ -13,9 +13,9 @@ goes_on-requires c = shown (c.loop-steps.invariant.1.1 c.requires)
 
 pub advance-went-requires : goal.advance-went-requires
 advance-went-requires c = let f = c.loop-steps.invariant.1.1 c.requires in record {
-      going = one_going f c.goes_on.ensures c.loop-steps-test.true;
-      at_in_bounds = have_left f c.goes_on.ensures c.loop-steps-test.true;
-    }
+  going = one_going f c.goes_on.ensures c.loop-steps-test.true;
+  at_in_bounds = have_left f c.goes_on.ensures c.loop-steps-test.true;
+}
 
 pub returns-then-went-ne0 : goal.returns-then-went-ne0
 returns-then-went-ne0 c = λ v.
@@ -38,14 +38,14 @@ loop-steps-smaller c = let f = c.loop-steps.invariant.1.1 c.requires in
 
 pub loop-steps-preserved : goal.loop-steps-preserved
 loop-steps-preserved c = let i = c.loop-steps.invariant in (
-      c.w-1.given ∙ i.0,
-      (
-        c.journal-1.given ∙ i.1.0,
-        λ v.
-            turned (i.1.1 v) c.goes_on.ensures c.loop-steps-test.true _ _ _ _ c.advance-went.ensures
-            c.if-went-ne0.false,
-      ),
-    )
+  c.w-1.given ∙ i.0,
+  (
+    c.journal-1.given ∙ i.1.0,
+    λ v.
+        turned (i.1.1 v) c.goes_on.ensures c.loop-steps-test.true _ _ _ _ c.advance-went.ensures
+        c.if-went-ne0.false,
+  ),
+)
 
 pub halted-requires : goal.halted-requires
 halted-requires c = shown (c.loop-steps.invariant.1.1 c.requires)

@@ -17,10 +17,10 @@ map_of-map-requires c = reads
 
 pub sound_of-requires : goal.sound_of-requires
 sound_of-requires c = record {
-      passing = passing _ c.check-checked.result c.check-checked.ensures c.if-checked-ne0.false
-          c.shared_slice_known-1.given;
-      map_value = c.map_of-map.ensures;
-    }
+  passing = passing _ c.check-checked.result c.check-checked.ensures c.if-checked-ne0.false
+      c.shared_slice_known-1.given;
+  map_value = c.map_of-map.ensures;
+}
 
 pub returns-then-not-sound_of : goal.returns-then-not-sound_of
 returns-then-not-sound_of c = turned_says _ _ _ _ _ c.turned_away-then-not-sound_of.ensures

@@ -14,33 +14,33 @@ use Rattle.text_entry.proofs.at_action.Goals as goal
 
 pub put_two-requires : goal.put_two-requires
 put_two-requires c = record {
-      fine = (c.begin-in-16.ensures [] []).fine;
-      n_bound = omega arith;
-    }
+  fine = (c.begin-in-16.ensures [] []).fine;
+  n_bound = omega arith;
+}
 
 pub put_two-requires-in-16 : goal.put_two-requires-in-16
 put_two-requires-in-16 c = record {
-      fine = (c.put_two.ensures []).fine;
-      n_bound = c.requires.i_bound.1;
-    }
+  fine = (c.put_two.ensures []).fine;
+  n_bound = c.requires.i_bound.1;
+}
 
 pub branching-requires : goal.branching-requires
 branching-requires c = record {
-      fine = c.requires.fine;
-      body_bound = c.requires.body_bound c.in-18.is;
-    }
+  fine = c.requires.fine;
+  body_bound = c.requires.body_bound c.in-18.is;
+}
 
 pub put_two-requires-in-19 : goal.put_two-requires-in-19
 put_two-requires-in-19 c = record {
-      fine = (c.begin-in-19.ensures [] []).fine;
-      n_bound = c.requires.i_bound.1;
-    }
+  fine = (c.begin-in-19.ensures [] []).fine;
+  n_bound = c.requires.i_bound.1;
+}
 
 pub put_two-requires-in-49 : goal.put_two-requires-in-49
 put_two-requires-in-49 c = record {
-      fine = (c.begin-in-49.ensures [] []).fine;
-      n_bound = c.requires.i_bound.0;
-    }
+  fine = (c.begin-in-49.ensures [] []).fine;
+  n_bound = c.requires.i_bound.0;
+}
 
 pub returns-in-8 : goal.returns-in-8
 unfolding M.at_action

@@ -21,9 +21,9 @@ returns-then-kind-le-END c x = let a = c.args in
 
 pub put_node-requires-in-49 : goal.put_node-requires-in-49
 put_node-requires-in-49 c = record {
-      fine = (c.put_node-e-in-49.ensures []).fine;
-      op_bound = c.op_of.ensures.1;
-    }
+  fine = (c.put_node-e-in-49.ensures []).fine;
+  op_bound = c.op_of.ensures.1;
+}
 
 pub returns-in-48 : goal.returns-in-48
 unfolding M.at_minus

@@ -10,9 +10,9 @@ use Rattle.text_entry.proofs.at_relation.Goals as goal
 
 pub put_two-requires : goal.put_two-requires
 put_two-requires c = record {
-      fine = (c.put_byte-e.ensures []).fine;
-      n_bound = c.requires.named;
-    }
+  fine = (c.put_byte-e.ensures []).fine;
+  n_bound = c.requires.named;
+}
 
 pub returns : goal.returns
 unfolding draft_of

@@ -13,31 +13,31 @@ use Rattle.text_entry.proofs.at_word.Goals as goal
 
 pub put_two-requires : goal.put_two-requires
 put_two-requires c = record {
-      fine = c.requires.fine;
-      n_bound = rw (c.number_in-in-50.ensures [])
-          (count_small c.args.kind c.args.value (c.requires.read.count c.in-50.is));
-    }
+  fine = c.requires.fine;
+  n_bound = rw (c.number_in-in-50.ensures [])
+      (count_small c.args.kind c.args.value (c.requires.read.count c.in-50.is));
+}
 
 pub at_action-requires : goal.at_action-requires
 at_action-requires c = record {
-      fine = c.requires.fine;
-      i_bound = c.requires.i_bound;
-      body_bound = c.requires.read.branches c.requires.lt_s.0;
-    }
+  fine = c.requires.fine;
+  i_bound = c.requires.i_bound;
+  body_bound = c.requires.read.branches c.requires.lt_s.0;
+}
 
 pub at_action-requires-in-60 : goal.at_action-requires-in-60
 at_action-requires-in-60 c = record {
-      fine = c.requires.fine;
-      i_bound = c.requires.i_bound;
-      body_bound = c.requires.read.branches c.requires.lt_s.0;
-    }
+  fine = c.requires.fine;
+  i_bound = c.requires.i_bound;
+  body_bound = c.requires.read.branches c.requires.lt_s.0;
+}
 
 pub at_action-requires-in-61 : goal.at_action-requires-in-61
 at_action-requires-in-61 c = record {
-      fine = c.requires.fine;
-      i_bound = c.requires.i_bound;
-      body_bound = c.requires.read.branches c.requires.lt_s.0;
-    }
+  fine = c.requires.fine;
+  i_bound = c.requires.i_bound;
+  body_bound = c.requires.read.branches c.requires.lt_s.0;
+}
 
 pub returns-in-48 : goal.returns-in-48
 unfolding M.drafted

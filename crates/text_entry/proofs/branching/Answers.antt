@@ -25,10 +25,10 @@ overflow_add-body c = let d = c.args.d in
 
 pub returns : goal.returns
 returns c ws = record {
-      same = branch_more c.args.d c.args.body.now ws c.if-d.false c.if-d-eq0.false;
-      fine = c.requires.fine;
-      grown = omega arith;
-      behind = drop-set-lt c.args.d.size c.args.body.now 0 _ (omega (arith, c.if-d-eq0.false));
-      above = refl;
-      wide = refl;
-    }
+  same = branch_more c.args.d c.args.body.now ws c.if-d.false c.if-d-eq0.false;
+  fine = c.requires.fine;
+  grown = omega arith;
+  behind = drop-set-lt c.args.d.size c.args.body.now 0 _ (omega (arith, c.if-d-eq0.false));
+  above = refl;
+  wide = refl;
+}

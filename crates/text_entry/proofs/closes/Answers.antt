@@ -10,17 +10,17 @@ returns-then-depth-eq0 c bs ws = stays c.requires (closes_none c.args.d bs ws c.
 
 pub returns : goal.returns
 returns c bs ws = record {
-      same = closes_fewer c.args.d bs ws c.if-depth-eq0.false;
-      fine = record {
-        counted = c.requires.counted;
-        kept = c.requires.kept;
-        listed = c.requires.listed;
-        placed = c.requires.placed;
-        named = c.requires.named;
-        nested = omega arith;
-      };
-      grown = omega arith;
-      behind = refl;
-      above = refl;
-      wide = refl;
-    }
+  same = closes_fewer c.args.d bs ws c.if-depth-eq0.false;
+  fine = record {
+    counted = c.requires.counted;
+    kept = c.requires.kept;
+    listed = c.requires.listed;
+    placed = c.requires.placed;
+    named = c.requires.named;
+    nested = omega arith;
+  };
+  grown = omega arith;
+  behind = refl;
+  above = refl;
+  wide = refl;
+}

@@ -26,6 +26,6 @@ loop-i-preserved c = let i = c.loop-i.i in
 
 pub returns : goal.returns
 returns c = let e : c.args.p ≡ c.loop-i.i = omega arith in record {
-      body_after = ap (λ j. roomy j c.args.size c.loop-i.body) e ∙ c.loop-i.invariant.3;
-      body_unchanged = c.loop-i.invariant.4;
-    }
+  body_after = ap (λ j. roomy j c.args.size c.loop-i.body) e ∙ c.loop-i.invariant.3;
+  body_unchanged = c.loop-i.invariant.4;
+}

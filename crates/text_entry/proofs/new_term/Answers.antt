@@ -10,22 +10,22 @@ use Rattle.text_entry.proofs.new_term.Goals as goal
 
 pub returns-then-depth-eq0 : goal.returns-then-depth-eq0
 returns-then-depth-eq0 c bs = record {
-      same =
-          ap (draft_of (deeper c.args.d 1) bs) c.store_start.ensures
-          ∙ term_first c.args.d bs c.args.starts.now c.if-depth-eq0.true (omega (arith, c.store_start-arg-1.given));
-      fine = record {
-        counted = c.requires.counted;
-        kept = c.requires.kept;
-        listed = c.requires.listed;
-        placed = c.requires.placed;
-        named = c.requires.named;
-        nested = omega arith;
-      };
-      grown = omega arith;
-      behind = refl;
-      above = ap (drop 2) c.store_start.ensures ∙ start_above 0 c.args.starts.now 0 c.args.d.size;
-      wide = ap length c.store_start.ensures ∙ start_wide 0 c.args.starts.now 0 c.args.d.size;
-    }
+  same =
+      ap (draft_of (deeper c.args.d 1) bs) c.store_start.ensures
+      ∙ term_first c.args.d bs c.args.starts.now c.if-depth-eq0.true (omega (arith, c.store_start-arg-1.given));
+  fine = record {
+    counted = c.requires.counted;
+    kept = c.requires.kept;
+    listed = c.requires.listed;
+    placed = c.requires.placed;
+    named = c.requires.named;
+    nested = omega arith;
+  };
+  grown = omega arith;
+  behind = refl;
+  above = ap (drop 2) c.store_start.ensures ∙ start_above 0 c.args.starts.now 0 c.args.d.size;
+  wide = ap length c.store_start.ensures ∙ start_wide 0 c.args.starts.now 0 c.args.d.size;
+}
 
 pub returns : goal.returns
 returns c bs = let n = c.args.d.depth in

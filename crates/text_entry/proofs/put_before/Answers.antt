@@ -13,10 +13,10 @@ use Rattle.text_entry.proofs.put_before.Goals as goal
 
 pub lost-requires : goal.lost-requires
 lost-requires c = record {
-      fine = c.requires;
-      n_bound = omega arith;
-      n_value = or_left _ c.if-d.true;
-    }
+  fine = c.requires;
+  n_bound = omega arith;
+  n_value = or_left _ c.if-d.true;
+}
 
 pub returns-then-d : goal.returns-then-d
 unfolding put_at
@@ -24,10 +24,10 @@ returns-then-d c ws = c.lost.ensures _ _ ws
 
 pub lost-requires-then-size : goal.lost-requires-then-size
 lost-requires-then-size c = let d = c.args.d in record {
-      fine = c.requires;
-      n_bound = omega arith;
-      n_value = or_right d.over (lt-ltb KEPT (d.size + NODE) (omega arith));
-    }
+  fine = c.requires;
+  n_bound = omega arith;
+  n_value = or_right d.over (lt-ltb KEPT (d.size + NODE) (omega arith));
+}
 
 pub returns-then-size : goal.returns-then-size
 unfolding put_at

@@ -33,7 +33,7 @@ returns c = let a = c.args in
       fine_2 = fine_more _ _ _ _ _ _ _ _ r h _ _ c.requires.fine c.requires.l_in_bounds _ c.key_of.ensures;
       room_2 = room_set a.text.now _ _ _ _ _ _ _ r _ _ _ _ _ _;
       lacks_after = known_more _ _ _ _ _ _ _ _ r h a.p a.l a.w _ a.bare e
-              ∙ kept_room a.text.now a.at.now a.len.now a.what.now a.number.now a.lacks.now m h _;
+          ∙ kept_room a.text.now a.at.now a.len.now a.what.now a.number.now a.lacks.now m h _;
       value = more_room m _ _ h;
       at_after = more_room m _ _ h;
       len_after = more_room m _ _ h;

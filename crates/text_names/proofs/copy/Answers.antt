@@ -4,10 +4,10 @@ use Rattle.text_names.proofs.copy.Goals as goal
 
 pub returns : goal.returns
 returns c = record {
-      at_after = refl;
-      len_after = refl;
-      key_after = refl;
-      what_after = refl;
-      number_after = refl;
-      lacks_after = refl;
-    }
+  at_after = refl;
+  len_after = refl;
+  key_after = refl;
+  what_after = refl;
+  number_after = refl;
+  lacks_after = refl;
+}

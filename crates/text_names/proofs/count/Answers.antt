@@ -22,19 +22,22 @@ pub loop-i-preserved : goal.loop-i-preserved
 loop-i-preserved c = let l = c.loop-i in
     let a = c.args in
     let t = c.loop-i-test.true in
-    elim c.if-what-i.branch [ then-what-i w ↦ (
-      omega arith,
-      omega arith,
-      λ bs at len number lacks.
-          rw w.found-is (count_one (known_at bs at len a.what.now number lacks) (λ k. eqb a.w k.what) a.n _
-          l.i l.found t (eq-eqb _ _ (sym w.if-what-i.true)) (l.invariant.2 bs at len number lacks)),
-    ) | else-what-i w ↦ (
-      omega arith,
-      omega arith,
-      λ bs at len number lacks.
-          rw w.found-is (count_none (known_at bs at len a.what.now number lacks) (λ k. eqb a.w k.what) a.n _
-          l.i l.found t (ne_eqb _ _ (λ e. w.if-what-i.false (sym e))) (l.invariant.2 bs at len number lacks)),
-    ) ]
+    elim c.if-what-i.branch [
+      | then-what-i w ↦ (
+        omega arith,
+        omega arith,
+        λ bs at len number lacks.
+            rw w.found-is (count_one (known_at bs at len a.what.now number lacks) (λ k. eqb a.w k.what) a.n _
+            l.i l.found t (eq-eqb _ _ (sym w.if-what-i.true)) (l.invariant.2 bs at len number lacks)),
+      )
+      | else-what-i w ↦ (
+        omega arith,
+        omega arith,
+        λ bs at len number lacks.
+            rw w.found-is (count_none (known_at bs at len a.what.now number lacks) (λ k. eqb a.w k.what) a.n _
+            l.i l.found t (ne_eqb _ _ (λ e. w.if-what-i.false (sym e))) (l.invariant.2 bs at len number lacks)),
+      )
+    ]
 
 pub returns : goal.returns
 returns c = let l = c.loop-i in

@@ -44,15 +44,15 @@ returns-then-i-n c = let a = c.args in
     let g : i < m = omega (arith, e, c.if-i-n.true) in record {
       fine_2 = c.requires.fine;
       room_2 = record {
-          of_at = r.of_at;
-          of_len = r.of_len;
-          of_key = r.of_key;
-          of_what = r.of_what;
-          of_number = r.of_number;
-          of_lacks = simp length-set r.of_lacks;
-        };
+        of_at = r.of_at;
+        of_len = r.of_len;
+        of_key = r.of_key;
+        of_what = r.of_what;
+        of_number = r.of_number;
+        of_lacks = simp length-set r.of_lacks;
+      };
       lacks_after = body_some a.text.now a.at.now a.len.now a.key.now a.what.now a.number.now a.lacks.now
-              a.n x _ (f.ensures.0 a.what.now a.number.now a.lacks.now) r c.requires.distinct c.if-i-n.true h;
+          a.n x _ (f.ensures.0 a.what.now a.number.now a.lacks.now) r c.requires.distinct c.if-i-n.true h;
       value = bodied_some i m _ _ g;
       at_after = bodied_some i m _ _ g;
       len_after = bodied_some i m _ _ g;
@@ -64,10 +64,10 @@ returns-then-i-n c = let a = c.args in
 
 pub add-requires : goal.add-requires
 add-requires c = record {
-      fine = c.requires.fine;
-      room = c.requires.room;
-      l_in_bounds = omega (arith, c.requires.p_le_e);
-    }
+  fine = c.requires.fine;
+  room = c.requires.room;
+  l_in_bounds = omega (arith, c.requires.p_le_e);
+}
 
 pub returns : goal.returns
 returns c = let a = c.args in
@@ -84,8 +84,8 @@ returns c = let a = c.args in
       fine_2 = c.add.ensures.fine_2;
       room_2 = c.add.ensures.room_2;
       lacks_after = c.add.ensures.lacks_after
-              ∙ body_new a.text.now a.at.now a.len.now a.key.now a.what.now a.number.now a.lacks.now
-              a.n x _ (f.ensures.0 a.what.now a.number.now a.lacks.now) h;
+          ∙ body_new a.text.now a.at.now a.len.now a.key.now a.what.now a.number.now a.lacks.now
+          a.n x _ (f.ensures.0 a.what.now a.number.now a.lacks.now) h;
       value = c.add.ensures.value ∙ bodied_new i m _ _ l;
       at_after = c.add.ensures.at_after ∙ bodied_new i m _ _ l;
       len_after = c.add.ensures.len_after ∙ bodied_new i m _ _ l;

@@ -26,19 +26,22 @@ pub loop-i-preserved : goal.loop-i-preserved
 loop-i-preserved c = let a = c.args in
     let l = c.loop-i in
     let t = c.loop-i-test.true in
-    elim c.if-what-i-eq-CLASS.branch [ then-what-i-eq-CLASS+else-lacks-i w ↦ (
-      omega arith,
-      omega arith,
-      rw (w.others-is, w.classes-is)
-          (lack_class (known_at [] [] [] a.what.now [] a.lacks.now) a.n l.others l.classes l.i t
-          w.if-what-i-eq-CLASS.true w.if-lacks-i.false ∙ l.invariant.2),
-    ) | else-what-i-eq-CLASS w ↦ (
-      omega arith,
-      omega arith,
-      rw (w.others-is, w.classes-is)
-          (lack_other (known_at [] [] [] a.what.now [] a.lacks.now) a.n l.others l.classes l.i t
-          w.if-what-i-eq-CLASS.false ∙ l.invariant.2),
-    ) ]
+    elim c.if-what-i-eq-CLASS.branch [
+      | then-what-i-eq-CLASS+else-lacks-i w ↦ (
+        omega arith,
+        omega arith,
+        rw (w.others-is, w.classes-is)
+            (lack_class (known_at [] [] [] a.what.now [] a.lacks.now) a.n l.others l.classes l.i t
+            w.if-what-i-eq-CLASS.true w.if-lacks-i.false ∙ l.invariant.2),
+      )
+      | else-what-i-eq-CLASS w ↦ (
+        omega arith,
+        omega arith,
+        rw (w.others-is, w.classes-is)
+            (lack_other (known_at [] [] [] a.what.now [] a.lacks.now) a.n l.others l.classes l.i t
+            w.if-what-i-eq-CLASS.false ∙ l.invariant.2),
+      )
+    ]
 
 pub returns-then-others : goal.returns-then-others
 returns-then-others c = let a = c.args in

@@ -8,7 +8,7 @@ use Rattle.text_names.proofs.Lacks.{left_lacking}
 use Rattle.text_names.proofs.lacking.Given as goal
 
 abbrev pub invariant-loop-i : goal.invariant-loop-i
-invariant-loop-i l =     (l.classes ≤ l.i) × (l.i ≤ l.n)
+invariant-loop-i l = (l.classes ≤ l.i) × (l.i ≤ l.n)
     × (left_lacking l.others l.classes (span (known_at [] [] [] l.what [] l.lacks) l.i (l.n - l.i)) ≡ lacking_of l.n l.what l.lacks)
 
 abbrev pub decreases-loop-i : goal.decreases-loop-i

@@ -7,7 +7,7 @@ use Rattle.text_names.proofs.Down.{AllToCome}
 use Rattle.text_names.proofs.leave.Given as goal
 
 abbrev pub invariant-loop-i : goal.invariant-loop-i
-invariant-loop-i l =     Room l.at l.len l.key l.what l.number l.lacks
+invariant-loop-i l = Room l.at l.len l.key l.what l.number l.lacks
     × Moved (row_at l.initial.at l.initial.len l.initial.key l.initial.what l.initial.number l.initial.lacks) (row_at l.at l.len l.key l.what l.number l.lacks) l.n l.left l.i
     × AllToCome l.n l.initial.at l.initial.len l.initial.key l.initial.what l.initial.number l.initial.lacks l.at l.len l.key l.what l.number l.lacks l.left l.i
 

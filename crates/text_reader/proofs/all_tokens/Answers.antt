@@ -12,9 +12,9 @@ next-token-requires c = c.loop-token.invariant.within
 
 pub turn-r-requires : goal.turn-r-requires
 turn-r-requires c = record {
-      ready = c.loop-token.invariant.ready;
-      came = (_, c.next-token.ensures);
-    }
+  ready = c.loop-token.invariant.ready;
+  came = (_, c.next-token.ensures);
+}
 
 pub returns-then-r-token : goal.returns-then-r-token
 returns-then-r-token c = reads_done c.loop-token.invariant c.next-token.ensures c.turn-r.ensures (last_token _ _ c.if-r-token.true)

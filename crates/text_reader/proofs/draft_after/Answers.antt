@@ -9,7 +9,7 @@ drafted-requires c = let a = c.args in
       fine = g.ensures.fine;
       i_bound = (c.requires.i_bound.0, c.requires.i_bound.1);
       read = reads a.s a.kind a.value a.w a.i a.k a.p a.levels a.kept_line.now a.kept_size.now a.kept_body.now a.body.now a.starts.now a.d g.result _ g.ensures
-            c.requires.fits;
+          c.requires.fits;
     }
 
 pub returns : goal.returns

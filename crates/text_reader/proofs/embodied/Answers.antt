@@ -10,10 +10,10 @@ use Rattle.text_reader.proofs.embodied.Goals as goal
 
 pub counted-r-requires : goal.counted-r-requires
 counted-r-requires c = let p = c.requires in record {
-      seen_len = (p.small.groups, omega arith);
-      group_bound = omega (arith, p.small.few p.room K.BLOCK, p.room);
-      total_bound = (p.small.bytes, omega arith);
-    }
+  seen_len = (p.small.groups, omega arith);
+  group_bound = omega (arith, p.small.few p.room K.BLOCK, p.room);
+  total_bound = (p.small.bytes, omega arith);
+}
 
 pub returns : goal.returns
 returns c = let a = c.args in

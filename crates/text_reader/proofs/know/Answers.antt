@@ -12,10 +12,10 @@ returns-then-role c = λ v. record { tabled = c.requires.tabled; same = rw (c.if
 
 pub declare-requires : goal.declare-requires
 declare-requires c = record {
-      fine = c.requires.tabled.fine;
-      room = c.requires.tabled.room;
-      p_le_e = (c.requires.p_le_e.0, c.requires.p_le_e.1);
-    }
+  fine = c.requires.tabled.fine;
+  room = c.requires.tabled.room;
+  p_le_e = (c.requires.p_le_e.0, c.requires.p_le_e.1);
+}
 
 pub returns-then-sort-eq-NAMED : goal.returns-then-sort-eq-NAMED
 returns-then-sort-eq-NAMED c = let n = c.requires.p_le_e.4 c.if-sort-eq-NAMED.true in
@@ -30,9 +30,9 @@ returns-then-sort-eq-NAMED c = let n = c.requires.p_le_e.4 c.if-sort-eq-NAMED.tr
 
 pub leave-requires : goal.leave-requires
 leave-requires c = record {
-      fine = c.requires.tabled.fine;
-      room = c.requires.tabled.room;
-    }
+  fine = c.requires.tabled.fine;
+  room = c.requires.tabled.room;
+}
 
 pub returns-then-kind-levels : goal.returns-then-kind-levels
 returns-then-kind-levels c = let a = c.args in
@@ -59,27 +59,27 @@ returns-then-sort-eq-BLOCK c = let a = c.args in
 
 pub announce-requires : goal.announce-requires
 announce-requires c = record {
-      fine = c.requires.tabled.fine;
-      room = c.requires.tabled.room;
-      p_le_e = (c.requires.p_le_e.2, c.requires.p_le_e.3);
-    }
+  fine = c.requires.tabled.fine;
+  room = c.requires.tabled.room;
+  p_le_e = (c.requires.p_le_e.2, c.requires.p_le_e.3);
+}
 
 pub returns-then-kind-eq-SEMI : goal.returns-then-kind-eq-SEMI
 returns-then-kind-eq-SEMI c = λ v. record {
-      tabled = record { fine = c.announce.ensures.fine_2; room = c.announce.ensures.room_2 };
-      same = rw (
-        c.if-sort-eq-BODY.true,
-        c.if-kind-eq-SEMI.true,
-      ) c.announce.ensures.lacks_after;
-    }
+  tabled = record { fine = c.announce.ensures.fine_2; room = c.announce.ensures.room_2 };
+  same = rw (
+    c.if-sort-eq-BODY.true,
+    c.if-kind-eq-SEMI.true,
+  ) c.announce.ensures.lacks_after;
+}
 
 pub embody-requires : goal.embody-requires
 embody-requires c = record {
-      fine = c.requires.tabled.fine;
-      room = c.requires.tabled.room;
-      distinct = c.requires.distinct;
-      p_le_e = (c.requires.p_le_e.2, c.requires.p_le_e.3);
-    }
+  fine = c.requires.tabled.fine;
+  room = c.requires.tabled.room;
+  distinct = c.requires.distinct;
+  p_le_e = (c.requires.p_le_e.2, c.requires.p_le_e.3);
+}
 
 pub returns-then-sort-eq-BODY : goal.returns-then-sort-eq-BODY
 returns-then-sort-eq-BODY c = let a = c.args in

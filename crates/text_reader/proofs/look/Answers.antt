@@ -8,15 +8,15 @@ use Rattle.text_reader.proofs.look.Goals as goal
 
 pub look_up-own-requires : goal.look_up-own-requires
 look_up-own-requires c = let n = c.name_end.ensures in record {
-      fine = c.requires.tabled.fine;
-      p_le_e = (n.0, omega (arith, n.1, c.requires.p_le_e.1));
-    }
+  fine = c.requires.tabled.fine;
+  p_le_e = (n.0, omega (arith, n.1, c.requires.p_le_e.1));
+}
 
 pub look_up-class-requires : goal.look_up-class-requires
 look_up-class-requires c = record {
-      fine = c.requires.tabled.fine;
-      p_le_e = (c.requires.p_le_e.2, c.requires.p_le_e.3);
-    }
+  fine = c.requires.tabled.fine;
+  p_le_e = (c.requires.p_le_e.2, c.requires.p_le_e.3);
+}
 
 pub returns : goal.returns
 returns c = let a = c.args in

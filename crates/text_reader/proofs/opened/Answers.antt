@@ -18,10 +18,10 @@ counted-r-requires c = let a = c.args in
       seen_len = (t.0.groups, omega arith);
       group_bound = omega (arith, t.1, p.0.small.few p.0.room K.BLOCK, p.0.room);
       total_bound = (
-          t.0.bytes,
-          omega
-              arith,
-        );
+        t.0.bytes,
+        omega
+            arith,
+      );
     }
 
 pub returns-then-kind-eq-TRY : goal.returns-then-kind-eq-TRY
@@ -45,10 +45,10 @@ counted-r-requires-2 c = let a = c.args in
       seen_len = (t.0.groups, omega arith);
       group_bound = omega (arith, t.1, p.0.small.few p.0.room K.BLOCK, p.0.room);
       total_bound = (
-          t.0.bytes,
-          omega
-              arith,
-        );
+        t.0.bytes,
+        omega
+            arith,
+      );
     }
 
 pub returns : goal.returns

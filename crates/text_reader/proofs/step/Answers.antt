@@ -149,13 +149,13 @@ know-names-requires c = let a = c.args in
       tabled = h.names;
       distinct = ready_distinct _ _ h;
       p_le_e = (
-          k.1,
-          k.2,
-          h.begun,
-          h.within,
-          λ b. ready_name _ _ h s.result a.kind a.value
-              x s.ensures.0 e (sym c.sort_of-sort.ensures ∙ b),
-        );
+        k.1,
+        k.2,
+        h.begun,
+        h.within,
+        λ b. ready_name _ _ h s.result a.kind a.value
+            x s.ensures.0 e (sym c.sort_of-sort.ensures ∙ b),
+      );
     }
 
 pub returns : goal.returns

@@ -5,6 +5,6 @@ use Rattle.text_sheet.proofs.blank.Goals as goal
 
 pub returns : goal.returns
 returns c = record {
-      m_value = (λ m h. (blank_shows m, blank_fits m h));
-      value = refl;
-    }
+  m_value = (λ m h. (blank_shows m, blank_fits m h));
+  value = refl;
+}

@@ -10,10 +10,10 @@ use Rattle.text_sheet.proofs.classes.Goals as goal
 
 pub counted-requires : goal.counted-requires
 counted-requires c = let p = c.requires in record {
-      seen_len = (p.0.small.groups, omega arith);
-      group_bound = omega (arith, p.0.small.few p.0.room K.CLASS);
-      total_bound = omega (arith, p.0.small);
-    }
+  seen_len = (p.0.small.groups, omega arith);
+  group_bound = omega (arith, p.0.small.few p.0.room K.CLASS);
+  total_bound = omega (arith, p.0.small);
+}
 
 pub declaring-requires : goal.declaring-requires
 declaring-requires c = let p = c.requires in

@@ -7,10 +7,10 @@ use Rattle.text_sheet.proofs.counting.Goals as goal
 
 pub counted-r-requires : goal.counted-r-requires
 counted-r-requires c = let h = c.requires.0 in record {
-      seen_len = (h.small.groups, omega arith);
-      group_bound = omega (arith, h.small.few h.room K.ACTION);
-      total_bound = omega arith;
-    }
+  seen_len = (h.small.groups, omega arith);
+  group_bound = omega (arith, h.small.few h.room K.ACTION);
+  total_bound = omega arith;
+}
 
 pub returns-then-s-block : goal.returns-then-s-block
 unfolding counting_of

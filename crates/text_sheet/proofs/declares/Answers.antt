@@ -16,7 +16,7 @@ counted-requires c = let p = c.requires in
       seen_len = (p.0.small.groups, k);
       group_bound = omega (arith, p.0.small.few p.0.room c.args.kind);
       total_bound = omega
-            (arith, p.0.small);
+          (arith, p.0.small);
     }
 
 pub declaring-requires : goal.declaring-requires

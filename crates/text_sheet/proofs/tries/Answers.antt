@@ -23,6 +23,6 @@ returns c = let a = c.args in
           p.2 is in_block
           er k.0 k.1 k.2);
       value = er ∙ ap (λ k. branching k b a.line a.size a.s) is
-            ∙ ap (λ b. branching (last_of a.s.levels a.kept_size.now) b a.line a.size a.s) in_block;
+          ∙ ap (λ b. branching (last_of a.s.levels a.kept_size.now) b a.line a.size a.s) in_block;
       tried = record { lines = k.0; sizes = k.1; bodies = k.2 };
     }

@@ -7,6 +7,6 @@ use Rattle.text_sheet.proofs.with_first.Goals as goal
 pub returns : goal.returns
 unfolding sheet_of
 returns c = let a = c.args in record {
-      writes = (λ m h. record { same = refl; fine = fit_first a.s m a.first h });
-      value = refl;
-    }
+  writes = (λ m h. record { same = refl; fine = fit_first a.s m a.first h });
+  value = refl;
+}

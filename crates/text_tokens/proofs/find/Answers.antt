@@ -20,13 +20,12 @@ returns-then-key-spelling c = let l = c.loop-k in
     ∙ l.invariant.2
 
 pub loop-k-preserved : goal.loop-k-preserved
-loop-k-preserved c = let l = c.loop-k in
-    (
-      omega arith,
-      omega arith,
-      sym (seeks c.args.key c.args.other l.k c.args.to c.loop-k-test.true c.requires.1
-          (λ q. c.if-key-spelling.false (q ∙ sym c.spelling.ensures))) ∙ l.invariant.2,
-    )
+loop-k-preserved c = let l = c.loop-k in (
+  omega arith,
+  omega arith,
+  sym (seeks c.args.key c.args.other l.k c.args.to c.loop-k-test.true c.requires.1
+      (λ q. c.if-key-spelling.false (q ∙ sym c.spelling.ensures))) ∙ l.invariant.2,
+)
 
 pub returns : goal.returns
 returns c = let l = c.loop-k in

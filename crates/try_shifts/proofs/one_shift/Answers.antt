@@ -5,9 +5,9 @@ use Rattle.try_shifts.proofs.one_shift.Goals as goal
 
 pub lines-bytes-requires : goal.lines-bytes-requires
 lines-bytes-requires c = let few = few_lines _ _ _ _ c.moved_on-moved.ensures.0.tells in record {
-      n_in_bounds = omega (arith, few, c.journal-1.given);
-      n_in_bounds_2 = omega (arith, few, c.requires);
-    }
+  n_in_bounds = omega (arith, few, c.journal-1.given);
+  n_in_bounds_2 = omega (arith, few, c.requires);
+}
 
 pub returns : goal.returns
 returns c = (few_steps _ _ _ _ c.moved_on-moved.ensures.0.tells, c.lines-bytes.ensures.fits)

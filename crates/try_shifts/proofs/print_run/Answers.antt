@@ -30,12 +30,12 @@ loop-going-smaller g c = let l = c.loop-going in
 
 pub loop-going-preserved : goal.loop-going-preserved
 loop-going-preserved g c = let i = c.loop-going.invariant in (
-      c.out-1.given ∙ i.0,
-      (
-        omega (arith, i.1.0, c.lesser-most.ensures.1, c.one_shift-shift.ensures.0),
-        c.journal-in-loop-going-1.given,
-      ),
-    )
+  c.out-1.given ∙ i.0,
+  (
+    omega (arith, i.1.0, c.lesser-most.ensures.1, c.one_shift-shift.ensures.0),
+    c.journal-in-loop-going-1.given,
+  ),
+)
 
 pub ending-bytes-requires : goal.ending-bytes-requires
 ending-bytes-requires g c = omega (arith, c.loop-going.invariant.0)
