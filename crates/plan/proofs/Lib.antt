@@ -1,3 +1,4 @@
 pub mod Opening
 pub mod Turns
 pub mod Printing
+pub mod Writing

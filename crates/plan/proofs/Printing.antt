@@ -247,7 +247,7 @@ module _ {bs map w : List ℕ} {a n at : ℕ} (u : PrintedSoFar bs map w a n at)
 -- A REFUSAL is printed in one piece.
 module _ (bs : List ℕ) {n p : ℕ} (e : decode bs ≡ refused n p) {out out' : List ℕ} {r : ℕ}
     (f : Front (refused_text n p) out out' r) where
-  refusal_is : plan_text bs ≡ take r out'
+  pub refusal_is : plan_text bs ≡ take r out'
   refusal_is = refused_text_lem bs n p e ∙ sym (cut f)
 
   pub next_refusal : {at : ℕ} → at ≡ 0 → Next (plan_text bs) at (take r out')

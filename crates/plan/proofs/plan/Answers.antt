@@ -2,10 +2,13 @@
 use native.Mathlib.Nat.{zero-add}
 use mathlib.Core.Path.{refl, sym, ◌∙◌, ap}
 use lib.Seq.{length-take-le}
+use Rattle.std.specs.Prelude.{OnOk}
+use Rattle.std.specs.Io.KnownBytes.{Appends}
+use Rattle.std.proofs.Common.{subst}
 use Rattle.file_check.proofs.Answer.{refuses}
 use Rattle.plan.specs.Given.{bound_word}
 use Rattle.plan.proofs.Opening.{accepted_as}
-use Rattle.plan.proofs.Printing.{next_refusal, refusal_countable, refusal_printed}
+use Rattle.plan.proofs.Printing.{next_refusal, refusal_countable, refusal_printed, refusal_is}
 use Rattle.plan.proofs.plan.Goals as goal
 
 pub slice_bounds-print-end-then-refusal-ne0 : goal.slice_bounds-print-end-then-refusal-ne0
@@ -22,6 +25,13 @@ pub returns-then-refusal-ne0-clause-bytes : goal.returns-then-refusal-ne0-clause
 returns-then-refusal-ne0-clause-bytes g c = c.print-went.ensures.at_after ∙ zero-add _
     ∙ refusal_printed _ (refuses _ c.check-refusal.result c.check-refusal.ensures c.if-refusal-ne0.true)
     c.refusal-bytes.ensures
+
+pub returns-then-refusal-ne0-clause-written : goal.returns-then-refusal-ne0-clause-written
+returns-then-refusal-ne0-clause-written g c =
+    subst (λ l. OnOk c.print-went.result
+    (Appends (g.W.Write.contents c.args.writer.now) (g.W.Write.contents c.print-went.new.writer) l))
+    (sym (refusal_is _ (refuses _ c.check-refusal.result c.check-refusal.ensures c.if-refusal-ne0.true) c.refusal-bytes.ensures))
+    c.print-went.ensures.written
 
 pub print_run-went-requires : goal.print_run-went-requires
 print_run-went-requires g c = record {

@@ -13,6 +13,7 @@ use Rattle.plan.specs.Room.{JOURNAL}
 use Rattle.plan.proofs.Opening.{reads, loaded, opened, falls}
 use Rattle.plan.proofs.Printing.{begin, countable, next_turn, turn_on, next_end, all_printed}
 use Rattle.plan.proofs.Printing.{bound_is_lem}
+use Rattle.plan.proofs.Writing.{none_written, next_written, all_written}
 use Rattle.plan.proofs.print_run.Goals as goal
 
 pub map_of-map-requires : goal.map_of-map-requires
@@ -26,7 +27,7 @@ loop-answer-init g c = (
   begin
       (opened c.requires.accepted c.shared_slice_known-1.given c.map_of-map.ensures
       c.fresh.ensures) c.requires.accepted.passes refl c.requires.at_value,
-  (c.requires.out_len, (omega arith, length-replicate {A = ℕ} JOURNAL 0)),
+  (c.requires.out_len, (omega arith, (length-replicate {A = ℕ} JOURNAL 0, none_written _ _ c.requires.at_value))),
 )
 
 pub overflow_sub-steps : goal.overflow_sub-steps
@@ -36,12 +37,12 @@ pub slice_bounds-turn-end-in-loop-answer : goal.slice_bounds-turn-end-in-loop-an
 slice_bounds-turn-end-in-loop-answer g c = sym (run_long (runs c.loop-answer.invariant.0.running))
 
 pub slice_bounds-turn-end-in-loop-answer-2 : goal.slice_bounds-turn-end-in-loop-answer-2
-slice_bounds-turn-end-in-loop-answer-2 g c = sym c.loop-answer.invariant.1.1.1
+slice_bounds-turn-end-in-loop-answer-2 g c = sym c.loop-answer.invariant.1.1.1.0
 
 pub turn-turn-requires : goal.turn-turn-requires
 turn-turn-requires g c = let i = c.loop-answer.invariant in record {
   fact = i.0.running;
-  journal_in_bounds = omega (arith, i.1.0, i.1.1.1);
+  journal_in_bounds = omega (arith, i.1.0, i.1.1.1.0);
 }
 
 pub slice_bounds-print-end : goal.slice_bounds-print-end
@@ -55,7 +56,7 @@ pub print-requires : goal.print-requires
 print-requires g c = let i = c.loop-answer.invariant in
     let t = c.turn-turn.ensures i.0.running in record {
       next = next_turn i.0 c.loop-answer-test.true c.turn_steps-limit.result c.turn_steps-limit.ensures
-          c.loop-answer.journal i.1.1.1 t;
+          c.loop-answer.journal i.1.1.1.0 t;
       text_bound = countable i.0 i.1.1.0 _ (c.out-1.given ∙ i.1.0) _ t.text_is.fits;
     }
 
@@ -76,15 +77,21 @@ loop-answer-smaller g c = let o = c.loop-answer.invariant.0.running in
 pub loop-answer-preserved : goal.loop-answer-preserved
 loop-answer-preserved g c = let i = c.loop-answer.invariant in
     let t = c.turn-turn.ensures i.0.running in
+    let q = c.loop-answer-test.true in
     let k = c.turn_steps-limit.ensures in
-    let long = c.out-1.given ∙ i.1.0 in (
-      turn_on i.0 c.loop-answer-test.true c.turn_steps-limit.result k c.loop-answer.journal
-          i.1.1.1 t long c.print.ensures.at_after,
+    let r = i.1.1.1.0 in
+    let long = c.out-1.given ∙ i.1.0 in
+    let p = c.print.ensures in (
+      turn_on i.0 q c.turn_steps-limit.result k c.loop-answer.journal r t long p.at_after,
       (
         long,
         (
           omega (arith, i.1.1.0, k, few_steps i.0.running _ _ t),
-          c.journal-in-loop-answer-1.given,
+          (
+            c.journal-in-loop-answer-1.given,
+            next_written c.loop-answer.went c.print.result c.and-went.result _ _ _ c.and-went.ensures
+                (next_turn i.0 q c.turn_steps-limit.result k c.loop-answer.journal r t) p.at_after i.1.1.1.1 p.written,
+          ),
         ),
       ),
     )
@@ -111,3 +118,11 @@ returns-clause-at_after g c = let i = c.loop-answer.invariant in
     c.print-2.ensures.at_after
     ∙ all_printed i.0 c.loop-answer-test.false c.args.bound
     (ap bound_of c.requires.bound_value ∙ bound_is_lem _ _ i.0.passes) c.ending-bytes.ensures
+
+pub returns-clause-written : goal.returns-clause-written
+returns-clause-written g c = let i = c.loop-answer.invariant in
+    all_written c.and.result _ _ _ (returns-clause-at_after g c)
+    (next_written c.loop-answer.went c.print-2.result c.and.result _ _ _ c.and.ensures
+    (next_end i.0 c.loop-answer-test.false c.args.bound
+    (ap bound_of c.requires.bound_value ∙ bound_is_lem _ _ i.0.passes) c.ending-bytes.ensures)
+    c.print-2.ensures.at_after i.1.1.1.1 c.print-2.ensures.written)
