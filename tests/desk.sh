@@ -15,7 +15,7 @@ python3 -B tests/desk.py "$desk" || exit 1
 
 # Built, it is as new as all that it is made of; if a file of any kind were newer, the library would be made again.
 make --silent --question -C desk ../target/desk/desk || { echo "desk: it is built again though nothing moved"; exit 1; }
-for moved in crates.txt crates/{desk_c/src/lib.rt,semantics/specs/Step.antt,act_step/proofs{,/Acts.antt,/step/Proof.antt}}; do
+for moved in crates.txt crates/{desk_c/src/lib.rt,semantics/specs/Step.antt,act_step/proofs{,/Acts.antt,/step/Answers.antt}}; do
   if make --silent --question -C desk --what-if="../$moved" ../target/desk/desk; then
     echo "desk: it isn't built again when $moved moved"
     exit 1
