@@ -16,7 +16,7 @@ ghost use Rattle.row_lists.specs.Lists.{Any};
 use base_numbers::row;
 
 // 0 or its fault, and how many lines it wrote.
-#[derive(Drop)]
+#[derive(Clone, Copy)]
 pub struct Went {
     pub fault: u32,
     pub lines: usize,

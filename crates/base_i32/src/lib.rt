@@ -21,7 +21,7 @@ const ABOVE: u64 = code::HIGHEST - code::ZERO_WORD;
 const TWICE: u64 = 2 * code::ZERO_WORD;
 
 // A value by its code; code 0 where there is none.
-#[derive(Drop)]
+#[derive(Clone, Copy)]
 pub struct Value {
     pub ok: bool,
     pub code: u32,

@@ -16,13 +16,13 @@ use base_numbers::{group, kind, limit, refusal};
 const DEPTH: u16 = limit::DEPTH as u16;
 
 // The number, 1 to 10, and the byte place of the record; 0 and 0: accepted.
-#[derive(Drop)]
+#[derive(Clone, Copy)]
 pub struct Refusal {
     pub number: u32,
     pub place: usize,
 }
 
-#[derive(Drop)]
+#[derive(Clone, Copy)]
 pub struct First {
     pub number: u32,
     pub place: usize,

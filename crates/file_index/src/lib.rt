@@ -18,7 +18,7 @@ use base_numbers::{kind, limit};
 
 // `first[b]` actions stand before block b, and `first[blocks]` is how many there are; the record of action a stands at byte
 // `place[a]`; the body block of class c is `body[c]`. What is not used is 0.
-#[derive(Drop)]
+#[derive(Clone, Copy)]
 pub struct Index {
     pub blocks: usize,
     pub actions: usize,
@@ -30,7 +30,7 @@ pub struct Index {
 
 // Of action a: its own weight; how many times it weighs what it names; the blocks that it names, which are
 // `goes[from[a] .. from[a + 1]]`. What is not used is 0.
-#[derive(Drop)]
+#[derive(Clone, Copy)]
 pub struct Graph {
     pub own: [u16; limit::ACTIONS],
     pub times: [u16; limit::ACTIONS],
@@ -41,7 +41,7 @@ pub struct Graph {
 // `from[a]` branches stand before action a, and `from[actions]` is how many there are. The claim of branch n stands at byte
 // `claim[n]`; bit i of `resources[n]`, of `bins[n]` and of `syncs[n]` is set where it names resource, bin or sync i. What is
 // not used is 0.
-#[derive(Drop)]
+#[derive(Clone, Copy)]
 pub struct Branches {
     pub from: [u16; limit::ACTIONS + 1],
     pub claim: [u16; limit::BRANCHES],
@@ -51,7 +51,7 @@ pub struct Branches {
 }
 
 // How many resources, bins, syncs, variables and samplers a model has.
-#[derive(Drop)]
+#[derive(Clone, Copy)]
 pub struct Counts {
     pub resources: usize,
     pub bins: usize,
@@ -61,7 +61,7 @@ pub struct Counts {
 }
 
 // Of each sampler the code of its lowest value, and how many values it has. What is not used is 0.
-#[derive(Drop)]
+#[derive(Clone, Copy)]
 pub struct Samplers {
     pub lowest: [u32; limit::SAMPLERS],
     pub values: [u32; limit::SAMPLERS],

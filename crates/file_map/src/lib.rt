@@ -13,7 +13,7 @@ ghost use Rattle.file_map.specs.MapOf.{map_of};
 use base_numbers::map;
 
 // The parts that base_numbers::map says, one behind the other. What is not used is 0.
-#[derive(Drop)]
+#[derive(Clone, Copy)]
 pub struct Map {
     pub words: [u32; map::WORDS],
 }

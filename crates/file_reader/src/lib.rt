@@ -6,7 +6,7 @@ ghost use Rattle.std.specs.Prelude.{◌≡◌};
 ghost use Rattle.file_reader.specs.Reads.{span_at, record_at, start, stands_at, moves_on};
 
 // It stands at byte `at` of the file.
-#[derive(Drop)]
+#[derive(Clone, Copy)]
 pub struct Reader<'a> {
     pub src: &'a [u8],
     pub at: usize,
@@ -14,7 +14,7 @@ pub struct Reader<'a> {
 
 // What stands at a place: the kind of the record, and where the next one begins. Where no whole record stands, as at the end,
 // the kind is 0, and the next place is the same.
-#[derive(Drop)]
+#[derive(Clone, Copy)]
 pub struct Record {
     pub whole: bool,
     pub kind: u32,

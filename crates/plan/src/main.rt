@@ -10,7 +10,7 @@
 // one that fails is handed over all the same; the first of them ends the program.
 #![tactic(auto)]
 
-ghost use Rattle.std.specs.Prelude.{◌≡◌, ◌+◌, ◌<◌, min, length, take, IfSome, IfOk, OnOk};
+ghost use Rattle.std.specs.Prelude.{◌≡◌, ◌+◌, ◌≤◌, ◌<◌, min, length, take, IfSome, IfOk, OnOk};
 ghost use Rattle.std.specs.Io.KnownBytes.{Appends};
 ghost use Rattle.semantics.specs.Numbers as No;
 ghost use Rattle.semantics.specs.Desk.{bound_file};
@@ -22,7 +22,6 @@ ghost use Rattle.plan.specs.Room.{TEXT, TURN};
 
 use base_numbers::{answer, bound, limit, line, row};
 use file_bound::Bounded;
-use std::alloc::Global;
 use std::io;
 use std::io::{Read, Write};
 
@@ -127,26 +126,35 @@ fn plan<W: Write>(s: &[u8], out: &mut [u8], writer: &mut W) -> Written
     Written { bytes: at, went }
 }
 
-// Reads a model, no further than one byte past the largest.
-fn read_model<R: Read>(alloc: Global, reader: &mut R) -> io::Result<Vec<u8>>
-    ensures { IfOk result (λ model. IfSome (R.remaining reader.old) (λ input.
-        model.items ≡ take (No.longest_file + 1) input)) }
+// Reads into `room` until that is full or the input ends, and answers how many bytes that was.
+fn read_full<R: Read>(reader: &mut R, room: &mut [u8]) -> io::Result<usize>
+    ensures bound { IfOk result (λ n. n ≤ length room.new) }
+    ensures same_len { length room.new ≡ length room.old }
+    ensures bytes { IfOk result (λ n. IfSome (R.remaining reader.old) (λ input.
+        take n room.new ≡ take (length room.old) input)) }
 {
-    let mut model = Vec::new(alloc);
-    reader.take(limit::FILE as u64 + 1).read_to_end(&mut model)?;
-    Ok(model)
+    let mut size = 0;
+    while size < room.len() {
+        let n = reader.read(&mut room[size..])?;
+        if n == 0 {
+            return Ok(size);
+        }
+        size += n;
+    }
+    Ok(size)
 }
 
 // Reads a model, and prints its plan and nothing else.
-fn run<R: Read, W: Write>(alloc: Global, reader: &mut R, writer: &mut W) -> io::Result<()>
+fn run<R: Read, W: Write>(reader: &mut R, writer: &mut W) -> io::Result<()>
     ensures { OnOk result (IfSome (R.remaining reader.old) (λ input.
         Appends (W.contents writer.old) (W.contents writer.new) (plan_text (take (No.longest_file + 1) input)))) }
 {
-    let model = read_model(alloc, reader)?;
+    let mut model = [0u8; limit::FILE + 1];
     let mut out = [0u8; TEXT];
-    plan(&model, &mut out, writer).went
+    let size = read_full(reader, &mut model)?;
+    plan(&model[..size], &mut out, writer).went
 }
 
 fn main(rt: HostRuntime) -> io::Result<()> {
-    run(rt.alloc(), &mut rt.reader(), &mut io::writer(&rt))
+    run(&mut rt.reader(), &mut io::writer(&rt))
 }

@@ -9,7 +9,7 @@ ghost use Rattle.act_floor.specs.Acting.{Open};
 ghost use Rattle.plan_turn.specs.Turn.{AnsweredAs};
 
 // The answer's number, the steps done in this turn and how many bytes its lines have as text.
-#[derive(Drop)]
+#[derive(Clone, Copy)]
 pub struct Answered {
     pub answer: u32,
     pub steps: u32,

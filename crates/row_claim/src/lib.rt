@@ -14,28 +14,28 @@ ghost use Rattle.row_claim.specs.Items.{row_of, MeetingItem};
 use base_numbers::{item, row};
 
 // The test of a claim: it is met, or lacks an item, the first one, from 1.
-#[derive(Drop)]
+#[derive(Clone, Copy)]
 pub enum Test {
     Met,
     Lacks(u32),
 }
 
 // Why a process waits: it is barred, or its first branch lacks an item, from 1.
-#[derive(Drop)]
+#[derive(Clone, Copy)]
 pub enum Reason {
     Barred,
     Lacks(u32),
 }
 
 // Which branch of an action is taken, from 0; or why none is.
-#[derive(Drop)]
+#[derive(Clone, Copy)]
 pub enum Choice {
     Waits(Reason),
     Goes(usize),
 }
 
 // The same where nobody asks why.
-#[derive(Drop)]
+#[derive(Clone, Copy)]
 pub enum Branch {
     Stays,
     Goes(usize),

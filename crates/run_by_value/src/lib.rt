@@ -10,7 +10,7 @@ use row_struct::State;
 use run_limit::Answer;
 
 // The answer, the steps done in this call, the lines they wrote, and the state that the call leaves.
-#[derive(Drop)]
+#[derive(Clone, Copy)]
 pub struct Moved {
     pub answer: Answer,
     pub steps: u32,

@@ -9,7 +9,7 @@ use base_numbers::row;
 use run_limit::Answer;
 
 // The number and the place of a refusal; or the answer and how many steps were done.
-#[derive(Drop)]
+#[derive(Clone, Copy)]
 pub enum Whole {
     Refused(u32, usize),
     Ran(Answer, u32),

@@ -14,7 +14,7 @@ use run_by_value::Moved;
 use run_limit::Ran;
 
 // The number and the place of a refusal and a state that is all 0; or 0, 0 and the state of a fresh run.
-#[derive(Drop)]
+#[derive(Clone, Copy)]
 pub struct Opened {
     pub number: u32,
     pub place: usize,

@@ -18,7 +18,7 @@ use base_numbers::{answer, fault, limit, line, row};
 // The bytes of a step's lines, of which there are fewer than these.
 const STEP_BYTES: usize = limit::STEP_LINES * line::BYTES;
 
-#[derive(Drop)]
+#[derive(Clone, Copy)]
 pub enum Answer {
     Closed,
     Idle,
@@ -27,7 +27,7 @@ pub enum Answer {
 }
 
 // The answer, the steps done in this call and the lines they wrote.
-#[derive(Drop)]
+#[derive(Clone, Copy)]
 pub struct Ran {
     pub answer: Answer,
     pub steps: u32,

@@ -12,7 +12,7 @@ ghost use Rattle.text_pile.specs.Table.{CLASSES, COLUMNS, NEXTS, SHIFTS, place_o
 pub const HIGHEST: usize = 64;
 
 // Whether the token fits, and how high the pile is then.
-#[derive(Drop)]
+#[derive(Clone, Copy)]
 pub struct Turned {
     pub fits: bool,
     pub height: usize,

@@ -47,7 +47,7 @@ ghost use Rattle.text_reader.specs.End.{line_of, Closed, Answers};
 ghost use Rattle.text_reader.specs.First.{Begins, Empty};
 
 // The answer to a text: number 0 and how many bytes were written, or the number of a refusal, 51 to 55, and its place.
-#[derive(Drop)]
+#[derive(Clone, Copy)]
 pub struct Answered {
     pub number: u32,
     pub place: usize,

@@ -638,7 +638,7 @@ pub fn opens(
 }
 
 // The draft with which an etry goes on, as numbers.
-#[derive(Drop)]
+#[derive(Clone, Copy)]
 pub struct Kept {
     pub line: usize,
     pub kind: u32,

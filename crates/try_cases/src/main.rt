@@ -8,7 +8,6 @@ ghost use Rattle.std.specs.Prelude.{◌≤◌, length, IfOk};
 
 use file_bound::Bounded;
 use file_check::Refusal;
-use std::alloc::Global;
 use std::fs::File;
 use std::io;
 use std::io::{Read, Write};
@@ -260,11 +259,19 @@ fn answer_all<W: Write>(
     })
 }
 
-// Reads the cases, as far as FILE.
-fn read_cases<R: Read>(alloc: Global, reader: &mut R) -> io::Result<Vec<u8>> {
-    let mut file = Vec::new(alloc);
-    reader.take(FILE as u64).read_to_end(&mut file)?;
-    Ok(file)
+// Reads into `room` until that is full or the file ends, and answers how many bytes that was.
+fn read_full<R: Read>(reader: &mut R, room: &mut [u8]) -> io::Result<usize>
+    ensures { IfOk result (λ n. n ≤ length room.new) }
+{
+    let mut size = 0;
+    while size < room.len() {
+        let n = reader.read(&mut room[size..])?;
+        if n == 0 {
+            return Ok(size);
+        }
+        size += n;
+    }
+    Ok(size)
 }
 
 // Writes the line of each case, and `damaged` where the cases are not as they should be.
@@ -281,6 +288,7 @@ fn write_answers<W: Write>(file: &[u8], writer: &mut W) -> io::Result<()> {
 }
 
 fn main(rt: HostRuntime) -> io::Result<()> {
-    let file = read_cases(rt.alloc(), &mut File::open(&rt, "cases.bin")?)?;
-    write_answers(&file, &mut io::writer(&rt))
+    let mut file = [0u8; FILE];
+    let size = read_full(&mut File::open(&rt, "cases.bin")?, &mut file)?;
+    write_answers(&file[..size], &mut io::writer(&rt))
 }

@@ -6,13 +6,12 @@
 // `stdin` takes 50 calls: fault 30 is answered thirty times, LIMIT nineteen times, and then IDLE.
 #![tactic(auto)]
 
-ghost use Rattle.std.specs.Prelude.{◌*◌, ◌/◌, ◌≤◌, ◌≡◌, length};
+ghost use Rattle.std.specs.Prelude.{◌*◌, ◌/◌, ◌≤◌, ◌≡◌, length, IfOk};
 ghost use Rattle.base_numbers.specs.Line as Line;
 
 use base_numbers::{answer, bound, fault, limit, line};
 use file_bound::Bounded;
 use row_struct::State;
-use std::alloc::Global;
 use std::io;
 use std::io::{Read, Write};
 
@@ -130,15 +129,24 @@ fn plan<W: Write>(s: &[u8], out: &mut [u8], writer: &mut W) -> io::Result<()>
     print_run(s, run, bound, out, writer)
 }
 
-// Reads a model, no further than one byte past the largest.
-fn read_model<R: Read>(alloc: Global, reader: &mut R) -> io::Result<Vec<u8>> {
-    let mut model = Vec::new(alloc);
-    reader.take(limit::FILE as u64 + 1).read_to_end(&mut model)?;
-    Ok(model)
+// Reads into `room` until that is full or the input ends, and answers how many bytes that was.
+fn read_full<R: Read>(reader: &mut R, room: &mut [u8]) -> io::Result<usize>
+    ensures { IfOk result (λ n. n ≤ length room.new) }
+{
+    let mut size = 0;
+    while size < room.len() {
+        let n = reader.read(&mut room[size..])?;
+        if n == 0 {
+            return Ok(size);
+        }
+        size += n;
+    }
+    Ok(size)
 }
 
 fn main(rt: HostRuntime) -> io::Result<()> {
-    let model = read_model(rt.alloc(), &mut rt.reader())?;
+    let mut model = [0u8; limit::FILE + 1];
     let mut out = [0u8; TEXT];
-    plan(&model, &mut out, &mut io::writer(&rt))
+    let size = read_full(&mut rt.reader(), &mut model)?;
+    plan(&model[..size], &mut out, &mut io::writer(&rt))
 }
