@@ -86,5 +86,8 @@ module _ {bs : List ℕ} {p : ℕ} {x : Action} (a : ActionAt bs p x) where
   pub is_trace : kind_at bs p ≡ K.TRACE → (e : Expr) × (x ≡ TRACE e)
   is_trace = of_kind K.TRACE
 
-  pub is_close : IsClose bs p x
-  is_close = of_kind K.CLOSE
+  close_is : IsClose bs p x
+  close_is = of_kind K.CLOSE
+
+  pub is_close : kind_at bs p ≡ K.CLOSE → x ≡ CLOSE
+  is_close = close_is

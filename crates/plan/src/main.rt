@@ -32,7 +32,7 @@ const JOURNAL: usize = LINES * line::BYTES;
 
 const TEXT: usize = LINES * line::TEXT;
 
-// The steps of a turn. Each writes at most 65 lines (`step_Lines`), and a step that finds room for 66 writes straight into the
+// The steps of a turn. Each writes at most 65 lines (`step_lines`), and a step that finds room for 66 writes straight into the
 // journal: 62 times 66 are within LINES.
 const TURN: u32 = 62;
 

@@ -191,13 +191,16 @@ module _ (bs : List ℕ) (m : Model) (e : decode bs ≡ accepted m) (f : Forward
       remains_first a (b ∷ l) s h c.0 λ g. remains b l (call bs a s).state (does a s h).is_sound c.1
 
   -- CALLS FROM FRESH.
-  pub steps_at_most : StepsAtMost bs m
+  few_steps : StepsAtMost bs m
   unfolding total
-  steps_at_most l =
+  few_steps l =
       let b = blocked_left m (leaves bs l (fresh m)) (calls_sound bs m e l) in
       let c = (calls_fall l (fresh m) fresh_ok).le in
       let t = fresh-total m f (accepted_fit bs m e).few_entities in let t₁ = t.0 in let t₂ = t.1 in
       omega arith
+
+  pub steps_at_most : (l : List Ask) → steps_of bs l (fresh m) ≤ bound m
+  steps_at_most = few_steps
 
   -- When the limits of the calls that don't answer 30 add up to the bound, some call has answered an end.
   pub ended_by_the_bound : (a : Ask) (l : List Ask) → bound m ≤ limits_of bs (a ∷ l) (fresh m)
