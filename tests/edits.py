@@ -31,10 +31,11 @@ TRIED = ROOT / 'target' / 'must-fail'
 SOURCE, PROGRAM = 'src/lib.rt', 'src/main.rt'
 HEAD = '''# Must-fail edits
 
-One wrong answer each. The gate applies the edits of a file to a copy of its crate, and passes only if the check then refuses the
-proof of each function whose code was edited, at a fact; or, of an edited contract or definition, some fact. Every public
-function has two or more. `python3 -B tests/edits.py write` writes this page from `crates/*/must-fail`; the head of that script
-says how the edits of one file are kept apart.
+One wrong answer each. The gate applies the edits of a file to a copy of its crate, and passes only if the check then refuses that.
+`python3 -B tests/edits.py try` and then `python3 -B tests/edits.py` ask for more: that the proof of each function whose code was
+edited is refused, at a fact; or, of an edited contract or definition, some fact. Every public function has two or more. `python3
+-B tests/edits.py write` writes this page from `crates/*/must-fail`; the head of that script says how the edits of one file are
+kept apart.
 '''
 ITEM = re.compile(r'^(pub )?(?:extern "C" )?(fn|const) (\w+)', re.M)
 # What antt says of a fact or a term, and where; what it says where only something else was refused; and what it says where there
