@@ -33,7 +33,7 @@ DEPTH = No.deepest
 abbrev pub SEED : ℕ
 SEED = No.last_seed
 
--- The lines that a step asks room for: it writes at most 65 (promises' `step_Lines`). And the least bound that is OVER.
+-- The lines that a step asks room for: it writes at most 65 (promises' `step_lines`). And the least bound that is OVER.
 abbrev pub STEP_LINES : ℕ
 STEP_LINES = 66
 
