@@ -55,7 +55,7 @@ pub struct Answered {
 
 // The numbers of the reader's memory: how high the pile is, how many names there are, where the name of the class line stands
 // that is being read, the draft and the sheet. They go by value; the arrays are lent beside them.
-#[derive(Drop)]
+#[derive(Clone, Copy)]
 struct State {
     height: usize,
     many: usize,
@@ -66,7 +66,7 @@ struct State {
 }
 
 // What a token leads to: number 0 and the numbers then, or the number of a refusal and its place.
-#[derive(Drop)]
+#[derive(Clone, Copy)]
 struct Turned {
     number: u32,
     place: usize,
