@@ -1,10 +1,8 @@
 -- `row_claim::first_met` meets its contract. The invariant: the first that is met is the first from branch k on; where none is, what
 -- the first of all lacks is at hand. Assumes nothing.
 use native.Mathlib.Omega.{arith}
-use mathlib.Core.Logic.{⊎_elim, inl, inr}
 use Rattle.row_claim.proofs.Branches.{at_first, many_are, few_are, none_met, its_claim, is_first, further}
 use Rattle.row_claim.proofs.first_met.Goals as goal
-use Rattle.row_claim.proofs.first_met.Goals.{then-k-eq0, else-k-eq0}
 
 pub branches_from-from-requires : goal.branches_from-from-requires
 branches_from-from-requires c = let v = c.requires in (v.long, omega (arith, v.few))
@@ -58,7 +56,7 @@ loop-k-preserved c = let t = c.loop-k-test.true in
       λ v.
           further _ _ _ _ v _ _ p q _ t _ c.claim_at-at.ensures _ c.test_claim-tested.ensures _ (c.loop-k.invariant.1 v) _
           c.in-Lacks.is
-          (elim c.if-k-eq0.branch [ then-k-eq0 x ↦ inl (x.if-k-eq0.true, x.lacking-is) | else-k-eq0 x ↦ inr (x.if-k-eq0.false, x.lacking-is) ]),
+          (grind arith),
     )
 
 pub returns : goal.returns
