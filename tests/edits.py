@@ -1,48 +1,41 @@
 """The must-fail edits: each is a wrong answer that a contract rules out, or a wrong rule in a definition.
 
     python3 -B tests/edits.py           fails if docs/EDITS.md isn't up to date, a public function has fewer than two edits, or
-                                        an edit was not refused for itself when `try` tried it last (target/must-fail; what was
-                                        not tried is counted)
+                                        an edit is not refused for itself; tries those that were not tried on this machine yet
+    python3 -B tests/edits.py NAME..    the same for the edits of these crates alone
     python3 -B tests/edits.py write     writes docs/EDITS.md
-    python3 -B tests/edits.py try NAME..    tries the edits of these crates as `rt must-fail` does, over what `rt check` kept, and
-                                        keeps all that each check says in target/must-fail
 
 A file crates/NAME/must-fail/*.edit has an edit to a paragraph: `# `, its name and what would be wrong, then `file:` and pairs
 `old:`, `new:`. The gate makes all edits of a file in one copy of the crate and checks that once, which is refused if one of them
-is, and it tells one line of what the check says; so the check's log is read here. Edits of one file are in functions of which none comes to another, and each function's own proof
-must be refused at a fact: not because something else was refused, nor because the edited code asks for other facts than those
-that the proof names, as far as antt's words tell. An edit of a contract or a definition has a file to itself, and a fact refused
-anywhere in its crate will do.
+is; so all that the check says is read here (tests/tries.py). Edits of one file are in functions of which none comes to another,
+and each function's own proof must be refused at a fact: not because something else was refused, nor because a proof names what
+the edited code no longer has, as far as antt's words tell. An edit of a contract or a definition has a file to itself, and a fact
+refused anywhere in its crate will do.
 
 An edit of a function or a constant that isn't public is one of every public function that comes to it inside its crate.
 """
-import importlib.machinery
-import importlib.util
-import os
 import pathlib
 import re
-import shutil
 import sys
-import tempfile
+
+import tries
 
 ROOT = pathlib.Path(__file__).resolve().parent.parent
 PAPER = ROOT / 'docs' / 'EDITS.md'
-TRIED = ROOT / 'target' / 'must-fail'
 SOURCE, PROGRAM = 'src/lib.rt', 'src/main.rt'
 HEAD = '''# Must-fail edits
 
-One wrong answer each. The gate applies the edits of a file to a copy of its crate, and passes only if the check then refuses that.
-`python3 -B tests/edits.py try` and then `python3 -B tests/edits.py` ask for more: that the proof of each function whose code was
-edited is refused, at a fact; or, of an edited contract or definition, some fact. Every public function has two or more. `python3
--B tests/edits.py write` writes this page from `crates/*/must-fail`; the head of that script says how the edits of one file are
-kept apart.
+One wrong answer each. The gate applies the edits of a file to a copy of its crate, and passes only if the check then refuses the
+proof of each function whose code was edited, at a fact; or, of an edited contract or definition, some fact. Every public
+function has two or more. `python3 -B tests/edits.py write` writes this page from `crates/*/must-fail`; the head of that script
+says how the edits of one file are kept apart.
 '''
 ITEM = re.compile(r'^(pub )?(?:extern "C" )?(fn|const) (\w+)', re.M)
-# What antt says of a fact or a term, and where; what it says where only something else was refused; and what it says where there
-# are other facts to prove than the proof names: a name is missing, or the declaration that lists them all is refused for itself.
+# A function of a cycle of calls, whose proofs have one folder.
+CYCLE = re.compile(r'^#\[cycle\((\w+)\)\]\n(?:pub )?fn (\w+)', re.M)
+# What antt says of a fact or a term, and where; and what it says where only something else was refused, or a name is missing.
 SAID = re.compile(r'^(?:note: )?(.+?):(\d+):\d+: (?:error: |it is not proved )(.*)$', re.M)
-BESIDE = re.compile(r'was not admitted|which was rejected, w')
-OTHER = re.compile(r'is not in scope|^`[^`]*-spec`: ')
+BESIDE = re.compile(r'was not admitted|was rejected|has no field|is not in scope|has no `')
 
 
 class Edit:
@@ -93,6 +86,9 @@ class Source:
         self.items = [(m.start(), m[3]) for m in found]
         self.public = {m[3] for m in found if m[1]}
         self.constants = {m[3] for m in found if m[2] == 'const'}
+        self.cycles = {}
+        for cycle, name in CYCLE.findall(self.text):
+            self.cycles.setdefault(cycle, set()).add(name)
         ends = [start for start, _ in self.items[1:]] + [len(self.text)]
         self.bodies = {name: self.text[start:end] for (start, name), end in zip(self.items, ends)}
         self.names = {name: {other for other in self.bodies if other != name and uses(re.sub(r'//.*', '', body), other)}
@@ -140,21 +136,20 @@ class Source:
 
 
 class Log:
-    """What the gate's check said of a copy with the edits of a file: where it refused a fact, and where there were others."""
+    """What the check said of a copy of a crate with the edits of a file: in the proofs of which functions it refused a fact."""
 
-    def __init__(self, crate, tried, source):
-        log = TRIED / crate / f'{tried}.log'
-        self.refused, self.other = set(), set()
-        for place, line, said in SAID.findall(log.read_text()):
+    def __init__(self, text, source):
+        self.refused = set()
+        for place, line, said in SAID.findall(text):
             if not BESIDE.search(said):
-                where = self.other if OTHER.search(said) else self.refused
-                where |= self.functions(place.removeprefix('./'), int(line), source)
+                self.refused |= self.functions(place.removeprefix('./'), int(line), source)
 
     def functions(self, file, line, source):
         """Those that a file of the copy speaks of; an empty name for a file that speaks of none."""
         if file == source.file:
             return {source.item_on(line)}
-        return set(file.split('/')[1].split('+')) if re.fullmatch(r'proofs/[^/]+/\w+\.antt', file) else {''}
+        found = re.fullmatch(r'proofs/\+?(\w+)/\w+\.antt', file)
+        return source.cycles.get(found[1], {found[1]}) if found else {''}
 
 
 def together(source, edits):
@@ -170,13 +165,12 @@ def together(source, edits):
     return wrong
 
 
-def refused(source, edits):
+def refused(source, edits, said):
     """Faults of the edits of one file as they were tried: those that were not refused for themselves."""
-    log = Log(edits[0].crate, edits[0].tried, source)
+    log = Log(said, source)
     if len(edits) == 1 and (edits[0].file != source.file or not source.in_code(edits[0])):
         return [] if log.refused else [f'{edits[0].name}: refused at no fact']
-    return [f'{edit.name}: not refused in its own proof, or not at a fact' for edit in edits
-            if log.other & source.shown_in(edit) or not log.refused & source.shown_in(edit)]
+    return [f'{edit.name}: not refused in its own proof, or not at a fact' for edit in edits if not log.refused & source.shown_in(edit)]
 
 
 def rows():
@@ -187,15 +181,18 @@ def rows():
         yield crate, source, [(edit, source.told_of(edit) if edit.file == source.file else []) for edit in edits]
 
 
-def faults(source, told):
+def few(source, told):
+    """Public functions with fewer than two edits."""
     beside = sum(1 for _, over in told if not over)
     for name in sorted(source.public - source.constants):
         if sum(name in over for _, over in told) + beside < 2:
             yield f'{name}: fewer than two edits'
-    for tried in sorted({edit.tried for edit, _ in told}):
-        edits = [edit for edit, _ in told if edit.tried == tried]
-        log = TRIED / edits[0].crate / f'{tried}.log'
-        yield from together(source, edits) or (refused(source, edits) if log.exists() else [])
+
+
+def faults(crate, source, told, tried):
+    for name in sorted({edit.tried for edit, _ in told}):
+        edits = [edit for edit, _ in told if edit.tried == name]
+        yield from together(source, edits) or refused(source, edits, tried.log(crate, name))
 
 
 def listed(names):
@@ -213,66 +210,21 @@ def paper(table):
     return '\n'.join(lines)
 
 
-def tool():
-    """The command rt, as a module: what it does with one edit is done here."""
-    loader = importlib.machinery.SourceFileLoader('rt', os.path.realpath(shutil.which('rt')))
-    made = importlib.util.module_from_spec(importlib.util.spec_from_loader('rt', loader))
-    loader.exec_module(made)
-    init = made.rtlib.Crate.__init__
-
-    def with_files(self, *given, **named):
-        init(self, *given, **named)
-        made.read_files(self)
-
-    made.rtlib.Crate.__init__ = with_files
-    return made
-
-
-def attempt(names):
-    """Tries the edits of these crates, file by file, and keeps the logs."""
-    rt, bad = tool(), 0
-    rt.rtlib.guarded()
-    of = {crate.name: crate for crate in rt.rtlib.crates_below(str(ROOT))}
-    checked, said = rt.checked, []
-
-    def listening(*given):
-        ran = checked(*given)
-        said.append(ran.stdout)
-        return ran
-
-    rt.checked = listening
-    for name in names:
-        crate = of[name]
-        start = f'{crate.folder}/out/incremental'
-        for path in rt.edits_of(crate)[0]:
-            said.clear()
-            with tempfile.TemporaryDirectory(prefix='edit-') as room:
-                seed = f'{room}/seed' if os.path.isdir(start) else None
-                if seed:
-                    rt.linked(start, seed)
-                kind, text = rt.must_fail(crate, path, ['--jobs', '1'], seed)
-            log = TRIED / name / f'{pathlib.Path(path).stem}.log'
-            log.parent.mkdir(parents=True, exist_ok=True)
-            log.write_text(said[-1] if said else '')
-            bad += kind not in (rt.REFUSED, rt.AT_LIMIT)
-            print(text, flush=True)
-    sys.exit(1 if bad else 0)
-
-
 def main(words):
-    if words[:1] == ['try']:
-        attempt(words[1:] or crates())
     table = list(rows())
     if words == ['write']:
         PAPER.write_text(paper(table))
         return
     if PAPER.read_text() != paper(table):
         sys.exit('docs/EDITS.md is not up to date: python3 -B tests/edits.py write')
-    wrong = [f'{crate}: {fault}' for crate, source, told in table for fault in faults(source, told)]
+    wrong = [f'{crate}: {fault}' for crate, source, told in table for fault in few(source, told)]
+    wanted = [row for row in table if not words or row[0] in words]
+    tried = tries.Tries([crate for crate, _, _ in wanted])
+    wrong += tried.bad + [f'{crate}: {fault}' for crate, source, told in wanted for fault in faults(crate, source, told, tried)]
     if wrong:
         sys.exit('\n'.join(wrong))
-    tried = sum(1 for crate, _, told in table for edit, _ in told if (TRIED / crate / f'{edit.tried}.log').exists())
-    print(sum(len(told) for _, _, told in table), 'must-fail edits;', tried, 'were tried here, each refused for itself')
+    print(f'{sum(len(told) for _, _, told in wanted)} must-fail edits in {tried.files} files, each refused for itself; {tried.tried} '
+          'files were tried in this run, the others earlier on this machine, with all that they rest on as it is now')
 
 
 if __name__ == '__main__':
