@@ -1,2 +1,2 @@
-// What the record of each action says is in specs/; this crate has no code.
+// What the record of each action says is in specs/ and proofs/; this crate has no code.
 #![tactic(auto)]

@@ -1,2 +1,2 @@
-// The promises over the definitions are in specs/; this crate has no code.
+// The promises over the definitions are in specs/ and proofs/; this crate has no code.
 #![tactic(auto)]

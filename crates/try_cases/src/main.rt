@@ -2,6 +2,7 @@
 //
 // cases.bin, little-endian: u16 number of cases; each case: u16 number of runs; each run: u16 repeat, u16 length, bytes.
 // A file that is not so, or a case that the model's 70,000 bytes don't hold, ends the program with the line `damaged`.
+// A file that can't be opened or read, and a write that fails, end it with that error.
 #![tactic(auto)]
 
 ghost use Rattle.std.specs.Prelude.{◌≤◌, length, IfOk};
@@ -179,16 +180,24 @@ fn put_line(n: u32, model: &[u8], out: &mut [u8], filled: usize) -> usize
 
 // ---- all cases
 
-// Writes what `out` has once that is half of it or more, and answers how much is filled then.
-fn emptied<W: Write>(out: &[u8], filled: usize, writer: &mut W) -> io::Result<usize>
+// Writes what `out` has once that is half of it or more, and answers how much is filled then. `went` is the first write that
+// failed, behind which nothing is written.
+fn emptied<W: Write>(
+    out: &[u8],
+    filled: usize,
+    writer: &mut W,
+    went: &mut io::Result<()>,
+) -> usize
     requires { filled ≤ length out.now }
-    ensures { IfOk result (λ n. n ≤ length out.now) }
+    ensures { result ≤ length out.now }
 {
     if filled < out.len() / 2 {
-        return Ok(filled);
+        return filled;
     }
-    writer.write_all(&out[..filled])?;
-    Ok(0)
+    if went.is_ok() {
+        *went = writer.write_all(&out[..filled]);
+    }
+    0
 }
 
 // Case `n`, from place `next` of the file: its line goes behind what `out` has.
@@ -200,27 +209,28 @@ fn answer<W: Write>(
     out: &mut [u8],
     filled: usize,
     writer: &mut W,
-) -> io::Result<Place>
+    went: &mut io::Result<()>,
+) -> Place
     requires { (next ≤ length file.now) × (filled ≤ length out.old) }
-    ensures { IfOk result (λ p. (p.next ≤ length file.now) × (p.filled ≤ length out.new)) }
+    ensures { (result.next ≤ length file.now) × (result.filled ≤ length out.new) }
 {
     let p = expand(file, next, model);
     let after = p.next;
     let size = p.filled;
     if !p.whole {
-        return Ok(Place {
+        return Place {
             next: after,
             filled: filled,
             whole: false,
-        });
+        };
     }
     let end = put_line(n, &model[..size], out, filled);
-    let end = emptied(out, end, writer)?;
-    Ok(Place {
+    let end = emptied(out, end, writer, went);
+    Place {
         next: after,
         filled: end,
         whole: true,
-    })
+    }
 }
 
 // Every case's line; `out` has those that are not written yet.
@@ -229,15 +239,16 @@ fn answer_all<W: Write>(
     model: &mut [u8],
     out: &mut [u8],
     writer: &mut W,
-) -> io::Result<Place>
-    ensures { IfOk result (λ p. (p.next ≤ length file.now) × (p.filled ≤ length out.new)) }
+    went: &mut io::Result<()>,
+) -> Place
+    ensures { (result.next ≤ length file.now) × (result.filled ≤ length out.new) }
 {
     if file.len() < 2 {
-        return Ok(Place {
+        return Place {
             next: 0,
             filled: 0,
             whole: false,
-        });
+        };
     }
     let cases = file_fields::u16_at(file, 0);
     let mut next = 2;
@@ -245,18 +256,18 @@ fn answer_all<W: Write>(
     let mut n = 0;
     while n < cases {
         n += 1;
-        let p = answer(n, file, next, model, out, filled, writer)?;
+        let p = answer(n, file, next, model, out, filled, writer, went);
         next = p.next;
         filled = p.filled;
         if !p.whole {
-            return Ok(p);
+            return p;
         }
     }
-    Ok(Place {
+    Place {
         next: next,
         filled: filled,
         whole: next == file.len(),
-    })
+    }
 }
 
 // Reads into `room` until that is full or the file ends, and answers how many bytes that was.
@@ -278,7 +289,9 @@ fn read_full<R: Read>(reader: &mut R, room: &mut [u8]) -> io::Result<usize>
 fn write_answers<W: Write>(file: &[u8], writer: &mut W) -> io::Result<()> {
     let mut model = [0u8; MODEL];
     let mut out = [0u8; LINES];
-    let p = answer_all(file, &mut model, &mut out, writer)?;
+    let mut went = Ok(());
+    let p = answer_all(file, &mut model, &mut out, writer, &mut went);
+    went?;
     let filled = p.filled;
     writer.write_all(&out[..filled])?;
     if !p.whole {
