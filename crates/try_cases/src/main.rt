@@ -182,12 +182,7 @@ fn put_line(n: u32, model: &[u8], out: &mut [u8], filled: usize) -> usize
 
 // Writes what `out` has once that is half of it or more, and answers how much is filled then. `went` is the first write that
 // failed, behind which nothing is written.
-fn emptied<W: Write>(
-    out: &[u8],
-    filled: usize,
-    writer: &mut W,
-    went: &mut io::Result<()>,
-) -> usize
+fn emptied<W: Write>(out: &[u8], filled: usize, writer: &mut W, went: &mut io::Result<()>) -> usize
     requires { filled ≤ length out.now }
     ensures { result ≤ length out.now }
 {
