@@ -9,8 +9,8 @@ A file crates/NAME/must-fail/*.edit has an edit to a paragraph: `# `, its name a
 `old:`, `new:`. The gate makes all edits of a file in one copy of the crate and checks that once, which is refused if one of them
 is; so all that the check says is read here (tests/tries.py). Edits of one file are in functions of which none comes to another,
 and each function's own proof must be refused at a fact: not because something else was refused, nor because a proof names what
-the edited code no longer has, as far as antt's words tell. An edit of a contract or a definition has a file to itself, and a fact
-refused anywhere in its crate will do.
+the edited code no longer has, as far as the words of the check tell. An edit of a contract or a definition has a file to itself,
+and a fact refused anywhere in its crate will do.
 
 An edit of a function or a constant that isn't public is one of every public function that comes to it inside its crate.
 """
@@ -33,9 +33,12 @@ says how the edits of one file are kept apart.
 ITEM = re.compile(r'^(pub )?(?:extern "C" )?(fn|const) (\w+)', re.M)
 # A function of a cycle of calls, whose proofs have one folder.
 CYCLE = re.compile(r'^#\[cycle\((\w+)\)\]\n(?:pub )?fn (\w+)', re.M)
-# What antt says of a fact or a term, and where; and what it says where only something else was refused, or a name is missing.
-SAID = re.compile(r'^(?:note: )?(.+?):(\d+):\d+: (?:error: |it is not proved )(.*)$', re.M)
-BESIDE = re.compile(r'was not admitted|was rejected|has no field|is not in scope|has no `')
+# What the check says of a fact or a term, and where; and what it says where only something else was refused, or a name is missing.
+SAID = re.compile(r'^(?:note: )?(.+?):(\d+):\d+: (?:error: |(it is not proved ))(.*)$', re.M)
+BESIDE = re.compile(r'was not admitted|was rejected')
+MISSING = re.compile(r'has no field|is not in scope|has no `')
+# What it says of a goal without an answer, if it found values at which that is false.
+FALSE = 'allow values at which this goal is false'
 
 
 class Edit:
@@ -136,13 +139,23 @@ class Source:
 
 
 class Log:
-    """What the check said of a copy of a crate with the edits of a file: in the proofs of which functions it refused a fact."""
+    """What the check said of a copy of a crate with the edits of a file: in the proofs of which functions it refused a fact.
+
+    A goal without an answer that isn't proved counts if it is shown false; or if no name is missing in the function's proofs, since
+    then it was proved as the code was. Where names are missing it may only lack the answer that it had under another name.
+    """
 
     def __init__(self, text, source):
-        self.refused = set()
-        for place, line, said in SAID.findall(text):
-            if not BESIDE.search(said):
-                self.refused |= self.functions(place.removeprefix('./'), int(line), source)
+        self.refused, lacking, unproved = set(), set(), set()
+        for place, line, goal, said in SAID.findall(text):
+            of = self.functions(place.removeprefix('./'), int(line), source)
+            if MISSING.search(said):
+                lacking |= of
+            elif goal and FALSE not in said:
+                unproved |= of
+            elif not BESIDE.search(said):
+                self.refused |= of
+        self.refused |= unproved - lacking
 
     def functions(self, file, line, source):
         """Those that a file of the copy speaks of; an empty name for a file that speaks of none."""
