@@ -29,26 +29,32 @@ right: low
 top: left right
 plan: top io
 '''
-# PAUSE is the seconds that a crate takes, BAD a crate that isn't proved, or `run`: all is proved, but no program is made. The
-# model must not be eaten: it is for the program.
+# PAUSE is the seconds that a crate takes, BAD a crate that isn't proved, or `run`: all is proved, but the program prints what it
+# shouldn't; or `link`: no program is made. The model must not be eaten: it is for the program. Of a library that is proved already
+# rt says nothing.
 RT = '''#!/usr/bin/env bash
 top=$(cd ../.. && pwd)
 mkdir -p out "$top/target/stamp"
+proved() { echo "rt: chose --jobs 2 for $1"; ${2:-:} "$1"; echo 'logic=proved functions=1'; }
+try() {
+  [ -e "$top/target/stamp/$1" ] || { sleep "$PAUSE" & echo $! >>"$top/processes"; wait; }
+  if [ "$1" = "${BAD:-}" ]; then echo logic=not-proved; echo "rt: FAILED: $1"; exit 1; fi
+  touch "$top/target/stamp/$1"
+}
 if [ "$1" = run ]; then
-  [ "${BAD:-}" = run ] || cp "$top/bin/run" out/plan
+  proved plan >&2
+  [ "${BAD:-}" = link ] || cp "$top/bin/run" out/plan
   exit
 fi
 cat >"$top/eaten"
 echo "$*" >"$top/asked"
 echo $$ >"$top/processes"
-for crate in low left right top plan; do
-  [ ! -e "$top/target/stamp/$crate" ] || continue
-  echo "rt: chose --jobs 2 for $crate"
-  sleep "$PAUSE" & echo $! >>"$top/processes"; wait
-  if [ "$crate" = "${BAD:-}" ]; then echo logic=not-proved; echo "rt: FAILED: $crate"; exit 1; fi
-  echo 'logic=proved functions=1'
-  touch "$top/target/stamp/$crate"
-done
+for crate in low left right top; do [ -e "$top/target/stamp/$crate" ] || proved $crate try; done
+proved plan try
+'''
+RUN = '''#!/usr/bin/env bash
+[ "${BAD:-}" != run ] || echo wrong
+exec cat
 '''
 # The text says what comes of it.
 RECORDS = '''#!/usr/bin/env bash
@@ -56,9 +62,9 @@ read -r status
 echo "$1 $status"
 exit $status
 '''
-TOOLS = 'bash cat cp dirname env find grep head mkdir mktemp mv od readlink rm sed setsid sleep tac tail touch uname wc'.split()
+TOOLS = 'bash cat cmp cp dirname env find grep head mkdir mktemp mv od readlink rm setsid sleep tac tail touch uname'.split()
 GRADE = '\0the grade\n'
-SHOWN = re.compile(rb'\r\x1b\[Kplan: (\d) crates proved, \d+ s(?:, last ([a-z]+))?(?=\r)')
+SHOWN = re.compile(rb'\r\x1b\[Kplan: (\d) of 5 crates done, \d+ s(?:, now ([a-z]+))?(?=\r)')
 
 
 def script(path, text):
@@ -82,14 +88,15 @@ class House:
         self.tried = self.failed = 0
         for name in ('bin', 'crates/plan/src', 'examples', 'tools'):
             (self.root / name).mkdir(parents=True)
-        (self.root / 'crates' / 'plan' / 'src' / 'main.rt').write_text('')
+        for name in ('src/main.rt', 'stdin', 'stdout'):
+            (self.root / 'crates' / 'plan' / name).write_text(name[:3])
         for tool in TOOLS:
             (self.tools / tool).symlink_to(shutil.which(tool))
         (self.root / 'crates.txt').write_text(CRATES)
         (self.root / 'examples' / 'grade.model').write_text(GRADE)
         for name in ('plan', 'build', 'prove'):
             shutil.copy(ROOT / 'bin' / name, self.root / 'bin')
-        script(self.root / 'bin' / 'run', '#!/usr/bin/env bash\nexec cat\n')
+        script(self.root / 'bin' / 'run', RUN)
         script(self.root / 'bin' / 'records', RECORDS)
         script(self.tools / 'rt', RT)
 
@@ -173,17 +180,17 @@ def refusals(house):
 def without_terminal(house):
     status, told, said = house.plan('-', lent=b'\0lent\n')
     house.same('standard input', (status, told), (0, '\0lent\n'))
-    house.has('a build', said, 'first 5 crates are proved', 'target/plan.log', 'built: 5 crates proved')
+    house.has('a build', said, 'first 5 crates are proved', 'target/plan.log', 'built: 5 of 5 crates done')
     house.same('lines of a short build', said.count('\n'), 3)
     house.same('what rt is asked', (house.read('asked'), house.read('eaten')), ('check\n', ''))
-    house.same('the log', re.findall(r'for (\w+)', house.read('target/plan.log')), 'low left right top plan'.split())
+    house.same('the log', re.findall(r'for (\w+)', house.read('target/plan.log')), 'low left right top plan plan'.split())
     house.same('a second start', house.plan(), (0, GRADE, ''))
     os.utime(house.root / 'crates.txt')
-    house.has('a start after a change', house.plan()[2], 'built: 0 crates proved')
+    house.has('a start after a change', house.plan()[2], 'built: 5 of 5 crates done')
     house.same('the start after that', house.plan(), (0, GRADE, ''))
     house.changed()
     said = house.plan(PAUSE='0.7', PLAN_EVERY='1')[2]
-    house.has('a long build', said, 'crates proved, 1 s, last', 'built: 5 crates proved')
+    house.has('a long build', said, 'of 5 crates done, 1 s, now', 'built: 5 of 5 crates done')
 
 
 def texts(house):
@@ -199,7 +206,8 @@ def texts(house):
 
 def bad(house):
     """A bad program isn't run, neither then nor at the next start. What moves during a build makes another one."""
-    for crate, failed in (('right', 'rt: FAILED: right'), ('run', 'prove: rt has made no out/plan')):
+    for crate, failed in (('right', 'rt: FAILED: right'), ('link', 'prove: rt has made no out/plan'),
+                          ('run', "prove: plan doesn't print what its file stdout has")):
         house.changed()
         status, told, said = house.plan(BAD=crate)
         house.same('a bad crate', (status, told), (2, ''))
@@ -208,7 +216,7 @@ def bad(house):
     started = house.starts(PAUSE='0.5')
     os.utime(house.root / 'crates.txt')
     started.wait()
-    house.has('the start after a move', house.plan()[2], 'built: 0 crates proved')
+    house.has('the start after a move', house.plan()[2], 'built: 5 of 5 crates done')
 
 
 def shows(house):
@@ -221,20 +229,24 @@ def shows(house):
     house.same('the counts', ({0, 1, 2, 3, 4} - set(counts), counts), (set(), sorted(counts)))
     house.same('the crates that are named', {b'low', b'left', b'right', b'top', b'plan'} - names, set())
     house.same('crates that plan doesn\'t use', [now for now in names if b'aside' in now], [])
-    last = re.search(rb'\r\x1b\[Kplan: built: 5 crates proved, \d+ s, last plan\r\n\0the grade\r\n$', shown)
+    last = re.search(rb'\r\x1b\[Kplan: built: 5 of 5 crates done, \d+ s\r\n\0the grade\r\n$', shown)
     house.same('the last line', last is not None or shown, True)
 
 
 def stopped(house):
     """Ctrl-C in the third crate: no process is left, and the next start goes on with it. A signal ends all, too."""
     house.changed()
-    status, shown = house.on_terminal(stop_at=b'last right', PAUSE='1.5')
+    status, shown = house.on_terminal(stop_at=b'now right', PAUSE='1.5')
     house.same('stopped', (status, b'the grade' in shown), (130, False))
     house.has('stopped', shown.decode(), 'plan: stopped. What is proved is kept, and the next start goes on from there')
     house.same('processes that are left', house.left(), [])
     house.same('proved so far', sorted(os.listdir(house.root / 'target' / 'stamp')), ['left', 'low'])
-    house.same('the next start', house.plan()[:2], (0, GRADE))
-    house.same('proved then', re.findall(r'for (\w+)', house.read('target/plan.log')), ['right', 'top', 'plan'])
+    # Two of the three that are done by then were proved before, and rt says nothing of them.
+    status, told, said = house.plan(PAUSE='2', PLAN_EVERY='1')
+    house.same('the next start', (status, told), (0, GRADE))
+    house.same('what it says', re.search(r'3 of 5 crates done, \d+ s, now top\n', said) is not None or said, True)
+    house.has('the next start', said, 'built: 5 of 5 crates done')
+    house.same('proved then', re.findall(r'for (\w+)', house.read('target/plan.log')), ['right', 'top', 'plan', 'plan'])
     house.changed()
     started = house.starts(PAUSE='60')
     started.send_signal(signal.SIGTERM)
