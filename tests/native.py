@@ -3,9 +3,10 @@
     python3 -B tests/native.py         the program `plan`: target/native/plan/target/release/plan
     python3 -B tests/native.py desk    the desk's C functions: target/native/desk/target/release/libdesk_c.a
 
-The source of each crate that is needed is taken as it is, as a module, without its contracts; the `main` of `plan`, which takes
-Rattle's runtime, is written out below. It proves nothing: it is there for bench/steps.py and tests/changed.py, and stands in
-for the proved library where that can't be linked. Sums are checked, and a panic in the library is told as an answer of all ones.
+The source of each crate that is needed is taken as it is, as a module, without its contracts; the `main` of `plan`, which takes a
+reader and a writer from Rattle's runtime, is written out below. It proves nothing: it is there for bench/steps.py and
+tests/changed.py, and stands in for the proved library where that can't be linked. Sums are checked, and a panic in the library is
+told as an answer of all ones.
 """
 import pathlib
 import re
@@ -16,15 +17,13 @@ ROOT = pathlib.Path(__file__).resolve().parent.parent
 CRATES = ROOT / 'crates'
 NATIVE = ROOT / 'target' / 'native'
 
-# The program's `main`, in place of what reads and writes over the runtime: from the line PLANS on.
-PLANS = '// Reads a model, '
+# The program's `main`, in place of the one over the runtime.
+RUNTIME = 'fn main(rt: HostRuntime)'
 MAIN = '''
 fn main() -> io::Result<()> {
-    let mut model = Vec::new();
-    io::stdin().take(limit::FILE as u64 + 1).read_to_end(&mut model)?;
-    let mut out = io::stdout().lock();
-    plan(&model, &mut [0u8; TEXT], &mut out).went?;
-    out.flush()
+    let mut writer = io::stdout().lock();
+    run(&mut io::stdin().lock(), &mut writer)?;
+    writer.flush()
 }
 '''
 
@@ -146,8 +145,8 @@ def build(folder, name, text, library='', profile=''):
 
 
 def program(folder=NATIVE / 'plan'):
-    main = module((CRATES / 'plan' / 'src' / 'main.rt').read_text().partition(PLANS)[0])
-    build(folder, 'plan', modules(sources('plan')) + main.replace('use std::alloc::Global;\n', '') + MAIN)
+    main = module((CRATES / 'plan' / 'src' / 'main.rt').read_text().partition(RUNTIME)[0])
+    build(folder, 'plan', modules(sources('plan')) + main + MAIN)
 
 
 def library(folder=NATIVE / 'desk', texts=None, kind='staticlib'):
