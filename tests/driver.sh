@@ -1,8 +1,8 @@
 #!/usr/bin/env bash
 # The engine, by the C functions of desk/desk.h, against the second program on 200,000 models and 200,000 texts of a fixed seed;
-# driver/README.md says how. On x86-64 it is the proved library as `rt lib` compiled it: what the desk would link. On any
-# other machine that can't be linked; then the same source, compiled as Rust by tests/native.py, stands in. That tests the rules of
-# the engine and the whole of the second program, but not the compiled library, and the test says so.
+# driver/README.md says how. On x86-64 it is the proved library as `bin/prove desk_c` has it from `rt lib`: what the desk links. On
+# any other machine that can't be linked; then the same source, compiled as Rust by tests/native.py, stands in. That tests the rules
+# of the engine and the whole of the second program, but not the compiled library, and the test says so.
 set -u
 cd "$(dirname "$0")/.." || exit 1
 
