@@ -26,7 +26,8 @@ class Contract:
     """The memories lent to a function to be written, and its clauses, with what is meant at the call written as in `requires`."""
 
     def __init__(self, head):
-        takes, *clauses = re.split(r'^ +(?=requires|ensures)', re.sub(r'\b(\w+)\.entry\.now', r'\1.now', re.sub('[«»]', '', head)), flags=re.M)
+        head = re.sub(r'\b(\w+)\.entry\.now', r'\1.now', re.sub('[«»]', '', head))
+        takes, *clauses = re.split(r'^ +(?=requires|ensures)', head, flags=re.M)
         self.lent = LENT.findall(takes)
         self.asks, self.says = (' '.join(' '.join(clause for clause in clauses if clause.startswith(kind)).split())
                                 for kind in ('requires', 'ensures'))
@@ -70,7 +71,8 @@ def faults(code, rows):
 def unsaid(contract, form):
     """What a contract does not say, for its form or for the memories lent."""
     yield from (f'its `ensures` has no {part}' for part in CODE.findall(form) if not re.search(rf'\b{part}\b', contract.says))
-    yield from (f'its `ensures` leaves {memory} open' for memory in contract.lent if not re.search(rf'\b{memory}\.new\b', contract.says))
+    yield from (f'its `ensures` leaves {memory} open' for memory in contract.lent
+                if not re.search(rf'\b{memory}\.new\b', contract.says))
     yield from (f'its `requires` does not ask for {record}' for record in contract.given()
                 if record not in contract.asks and not (record in EACH and form.startswith('of all')))
 

@@ -63,8 +63,8 @@ def code(text):
 
 def contracts(text):
     """What `requires` and `ensures` of a source say."""
-    text = re.sub(r'//.*', '', text)
-    return '\n'.join(re.findall(r'(?ms)^\s*(?:requires|ensures)\*?(?:\s+\w+)?\s*\{(.*?)\}\n(?=\s*(?:requires|ensures|\{|;))', text))
+    clause = r'(?ms)^\s*(?:requires|ensures)\*?(?:\s+\w+)?\s*\{(.*?)\}\n(?=\s*(?:requires|ensures|\{|;))'
+    return '\n'.join(re.findall(clause, re.sub(r'//.*', '', text)))
 
 
 def spec(text):
