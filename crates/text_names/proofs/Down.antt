@@ -4,6 +4,7 @@ use Rattle.std.specs.Prelude.{if◌then◌else◌}
 use Prim.Native.Nat.{ℕ, suc, ◌+◌, ◌-◌, ◌≤◌, ◌<◌}
 use native.Mathlib.Numerals.{add-one}
 use native.Mathlib.Omega.{arith}
+use mathlib.Core.Logic.{◌⊎◌, inl, inr}
 use mathlib.Core.Path.{◌≡◌}
 use mathlib.Core.List.{List}
 use mathlib.Core.Bool.{Bool, false}
@@ -88,6 +89,11 @@ module _ (n : ℕ) (at₀ len₀ key₀ what₀ number₀ : List ℕ) (lacks₀ 
             of_number = down_on 0 what₀ n number₀ number left i t.of_number h w number' e.1.1.1.1.0;
             of_lacks = down_on false what₀ n lacks₀ lacks left i t.of_lacks h w lacks' e.1.1.1.1.1;
           }
+
+      pub all_next : {k : ℕ} → ((get_or what₀ i 0 ≡ LOCAL → ⊥) × (k ≡ left + 1)) ⊎ ((get_or what₀ i 0 ≡ LOCAL) × (k ≡ left))
+          → AllToCome at' len' key' what' number' lacks' k (i + 1)
+      all_next (inl x) = rw x.1 (all_on x.0)
+      all_next (inr x) = rw x.1 (all_skip x.0)
 
     pub all_end : n ≤ i → (at ≡ row_left 0 what₀ n at₀) × ((len ≡ row_left 0 what₀ n len₀) × ((key ≡ row_left 0 what₀ n key₀)
         × ((what ≡ row_left 0 what₀ n what₀) × ((number ≡ row_left 0 what₀ n number₀) × (lacks ≡ row_left false what₀ n lacks₀)))))

@@ -8,7 +8,7 @@ use native.Mathlib.Omega.{arith}
 use mathlib.Core.Path.{◌≡◌, refl, sym, ◌∙◌, ap}
 use mathlib.Core.List.{List, [], ◌∷◌, ◌++◌, map, append-nil, append_assoc}
 use mathlib.Core.Bool.{Bool, true, false, not}
-use mathlib.Core.Logic.{⊎_elim}
+use mathlib.Core.Logic.{◌⊎◌, ⊎_elim, inl, inr}
 use borrow.Author.Tests.{eq-eqb, ne_eqb}
 use lib.Dec.{eqb}
 use lib.ListN.{length, get_or, set, take, drop}
@@ -193,6 +193,11 @@ module _ (f : ℕ → Row) (n : ℕ) (at len key what number : List ℕ) (lacks 
       rw (e.0, e.1.0, e.1.1.0, e.1.1.1.0, e.1.1.1.1.0, e.1.1.1.1.1)
       (move_on f n now (copied at len key what number lacks r i left) left i m h here
       (copied_else at len key what number lacks r i left) w)
+
+  pub turn_next : {k : ℕ} → ((get_or what i 0 ≡ LOCAL → ⊥) × (k ≡ left + 1)) ⊎ ((get_or what i 0 ≡ LOCAL) × (k ≡ left))
+      → Moved f (row_at at' len' key' what' number' lacks') n k (i + 1)
+  turn_next (inl x) = rw x.1 (turn_on x.0)
+  turn_next (inr x) = rw x.1 (turn_skip x.0)
 
 -- AT THE END.
 module _ (bs at len key what number : List ℕ) (lacks : List Bool) (n : ℕ) where

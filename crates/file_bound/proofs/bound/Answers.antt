@@ -74,4 +74,4 @@ returns c = over_says c.args.s.now (accepts
     c.if-refusal-ne0.false)
     c.index_of-x.result c.index_of-x.ensures c.loops.result
     c.loops.ensures) ∙ c.if-loops.false) _ c.total-w.ensures
-    (omega (arith, c.if-w-lt-OVER.false))
+    (omega arith)

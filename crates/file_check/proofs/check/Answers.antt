@@ -8,36 +8,30 @@ pub returns-then-s-gt-FILE : goal.returns-then-s-gt-FILE
 returns-then-s-gt-FILE c = too_long c.args.s.now c.if-s-gt-FILE.true
 
 pub returns-then-f-ne0 : goal.returns-then-f-ne0
-returns-then-f-ne0 c = first_says c.args.s.now (omega (
-  arith,
-  c.if-s-gt-FILE.false,
-)) c.first_pass-f.result
+returns-then-f-ne0 c = first_says c.args.s.now (omega arith) c.first_pass-f.result
     c.first_pass-f.ensures c.if-f-ne0.true
 
 pub second_pass-g-requires : goal.second_pass-g-requires
-second_pass-g-requires c = reads c.args.s.now (omega (
-  arith,
-  c.if-s-gt-FILE.false,
-)) c.first_pass-f.result
+second_pass-g-requires c = reads c.args.s.now (omega arith) c.first_pass-f.result
     c.first_pass-f.ensures c.if-f-ne0.false
 
 pub returns-then-g-ne0 : goal.returns-then-g-ne0
 returns-then-g-ne0 c = second_says c.args.s.now
-    (omega (arith, c.if-s-gt-FILE.false))
+    (omega arith)
     c.first_pass-f.result
     c.first_pass-f.ensures
     c.if-f-ne0.false c.second_pass-g.result
     c.second_pass-g.ensures c.if-g-ne0.true
 
 pub third_pass-requires : goal.third_pass-requires
-third_pass-requires c = names c.args.s.now (omega (arith, c.if-s-gt-FILE.false))
+third_pass-requires c = names c.args.s.now (omega arith)
     c.first_pass-f.result
     c.first_pass-f.ensures
     c.if-f-ne0.false c.second_pass-g.result
     c.second_pass-g.ensures c.if-g-ne0.false
 
 pub returns : goal.returns
-returns c = third_says c.args.s.now (omega (arith, c.if-s-gt-FILE.false))
+returns c = third_says c.args.s.now (omega arith)
     c.first_pass-f.result
     c.first_pass-f.ensures
     c.if-f-ne0.false c.second_pass-g.result

@@ -1,4 +1,5 @@
 -- `file_check_tails::operands` meets its contract. Assumes nothing.
+use Prim.Native.Nat.{◌≤◌}
 use lib.ListN.{get_or-eq_default}
 use mathlib.Core.List.{[], ◌∷◌}
 use mathlib.Core.Path.{refl, sym}
@@ -13,4 +14,5 @@ returns-then-k-lt-MANY c = (refl, arity_small c.args.op)
 
 pub returns : goal.returns
 unfolding arity
-returns c = (sym (get_or-eq_default (0 ∷ 0 ∷ 0 ∷ 2 ∷ 2 ∷ 2 ∷ 2 ∷ 2 ∷ 0 ∷ 1 ∷ 0 ∷ []) 0 c.if-k-lt-MANY.false), omega arith)
+returns c = let h : 11 ≤ c.args.op = omega arith in
+    (sym (get_or-eq_default (0 ∷ 0 ∷ 0 ∷ 2 ∷ 2 ∷ 2 ∷ 2 ∷ 2 ∷ 0 ∷ 1 ∷ 0 ∷ []) 0 h), omega arith)

@@ -1,12 +1,11 @@
 -- `text_names::leave` meets its contract. The loop's invariant, `Moved`: the rows that are left and those that stay of the
 -- rows to come are all that stay; and `AllToCome`: what is still to be done to each row. Assumes nothing.
 use native.Mathlib.Omega.{arith}
-use mathlib.Core.Path.{sym, ◌∙◌, ap}
-use Rattle.text_names.proofs.Moves.{move_begin, turn_room, turn_skip, turn_on, moved_known, moved_count}
+use mathlib.Core.Path.{ap}
+use Rattle.text_names.proofs.Moves.{move_begin, turn_room, turn_next, moved_known, moved_count}
 use Rattle.text_names.proofs.Moves.{moved_fine}
-use Rattle.text_names.proofs.Down.{all_begin, all_skip, all_on, all_end}
+use Rattle.text_names.proofs.Down.{all_begin, all_next, all_end}
 use Rattle.text_names.proofs.leave.Goals as goal
-use Rattle.text_names.proofs.leave.Goals.{then-w-ne-LOCAL, else-w-ne-LOCAL}
 
 pub loop-i-init : goal.loop-i-init
 loop-i-init c = (c.requires.room, move_begin _ _, all_begin _ _ _ _ _ _ _)
@@ -34,18 +33,11 @@ loop-i-preserved c = let l = c.loop-i in
     let t = c.loop-i-test.true in
     let few = c.requires.fine.few in
     let s = ap (λ r. r.what) (l.invariant.1.same l.i (omega arith)) in
-    elim c.if-w-ne-LOCAL.branch [
-      | then-w-ne-LOCAL w ↦ (
-        turn_room _ _ _ _ _ _ _ _ l.invariant.0 _ _ l.invariant.1 t few _ _ _ _ _ _ (c.copy.ensures.at_after, (c.copy.ensures.len_after, (c.copy.ensures.key_after, (c.copy.ensures.what_after, (c.copy.ensures.number_after, c.copy.ensures.lacks_after))))),
-        rw w.left-is (turn_on _ _ _ _ _ _ _ _ l.invariant.0 _ _ l.invariant.1 t few _ _ _ _ _ _ (c.copy.ensures.at_after, (c.copy.ensures.len_after, (c.copy.ensures.key_after, (c.copy.ensures.what_after, (c.copy.ensures.number_after, c.copy.ensures.lacks_after))))) w.if-w-ne-LOCAL.true),
-        rw w.left-is (all_on _ _ _ _ _ _ _ _ _ _ _ _ _ _ _ l.invariant.2 t _ _ _ _ _ _ (c.copy.ensures.at_after, (c.copy.ensures.len_after, (c.copy.ensures.key_after, (c.copy.ensures.what_after, (c.copy.ensures.number_after, c.copy.ensures.lacks_after))))) (λ x. w.if-w-ne-LOCAL.true (s ∙ x))),
-      )
-      | else-w-ne-LOCAL w ↦ (
-        turn_room _ _ _ _ _ _ _ _ l.invariant.0 _ _ l.invariant.1 t few _ _ _ _ _ _ (c.copy.ensures.at_after, (c.copy.ensures.len_after, (c.copy.ensures.key_after, (c.copy.ensures.what_after, (c.copy.ensures.number_after, c.copy.ensures.lacks_after))))),
-        rw w.left-is (turn_skip _ _ _ _ _ _ _ _ l.invariant.0 _ _ l.invariant.1 t few _ _ _ _ _ _ (c.copy.ensures.at_after, (c.copy.ensures.len_after, (c.copy.ensures.key_after, (c.copy.ensures.what_after, (c.copy.ensures.number_after, c.copy.ensures.lacks_after))))) w.if-w-ne-LOCAL.false),
-        rw w.left-is (all_skip _ _ _ _ _ _ _ _ _ _ _ _ _ _ _ l.invariant.2 t _ _ _ _ _ _ (c.copy.ensures.at_after, (c.copy.ensures.len_after, (c.copy.ensures.key_after, (c.copy.ensures.what_after, (c.copy.ensures.number_after, c.copy.ensures.lacks_after))))) (sym s ∙ w.if-w-ne-LOCAL.false)),
-      )
-    ]
+    let e = c.copy.ensures in (
+      turn_room _ _ _ _ _ _ _ _ l.invariant.0 _ _ l.invariant.1 t few _ _ _ _ _ _ (e.at_after, (e.len_after, (e.key_after, (e.what_after, (e.number_after, e.lacks_after))))),
+      turn_next _ _ _ _ _ _ _ _ l.invariant.0 _ _ l.invariant.1 t few _ _ _ _ _ _ (e.at_after, (e.len_after, (e.key_after, (e.what_after, (e.number_after, e.lacks_after))))) (grind arith),
+      all_next _ _ _ _ _ _ _ _ _ _ _ _ _ _ _ l.invariant.2 t _ _ _ _ _ _ (e.at_after, (e.len_after, (e.key_after, (e.what_after, (e.number_after, e.lacks_after))))) (grind (arith, s)),
+    )
 
 pub returns : goal.returns
 returns c = let a = c.args in

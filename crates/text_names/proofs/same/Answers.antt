@@ -17,7 +17,7 @@ returns-then-l-m c = let a = c.args in
 
 pub loop-i-init : goal.loop-i-init
 loop-i-init c = let a = c.args in
-    let e : a.m ≡ a.l = sym c.if-l-m.false in
+    let e : a.m ≡ a.l = omega arith in
     (omega arith, rw e (same_all a.text.now a.p a.q a.l c.requires.0 (rw e at c.requires.1)))
 
 pub returns-then-text-p : goal.returns-then-text-p
