@@ -9,8 +9,9 @@ A file crates/NAME/must-fail/*.edit has an edit to a paragraph: `# `, its name a
 `old:`, `new:`. The gate makes all edits of a file in one copy of the crate and checks that once, which is refused if one of them
 is; so all that the check says is read here (tests/tries.py). Edits of one file are in functions of which none comes to another,
 and each function's own proof must be refused at a fact: not because something else was refused, nor because a proof names what
-the edited code no longer has, as far as the words of the check tell. An edit of a contract or a definition has a file to itself,
-and a fact refused anywhere in its crate will do.
+the edited code no longer has, as far as the words of the check tell. A step of a proof is named after the test in the code; so an
+edit of a test may carry these names along, by pairs of the function's proof that change names alone. An edit of a contract or a
+definition has a file to itself, and a fact refused anywhere in its crate will do.
 
 An edit of a function or a constant that isn't public is one of every public function that comes to it inside its crate.
 """
@@ -33,6 +34,7 @@ says how the edits of one file are kept apart.
 ITEM = re.compile(r'^(pub )?(?:extern "C" )?(fn|const) (\w+)', re.M)
 # A function of a cycle of calls, whose proofs have one folder.
 CYCLE = re.compile(r'^#\[cycle\((\w+)\)\]\n(?:pub )?fn (\w+)', re.M)
+DASHED = r'[\w]+(?:-[\w]+)+'
 # What the check says of a fact or a term, and where; and what it says where only something else was refused, or a name is missing.
 SAID = re.compile(r'^(?:note: )?(.+?):(\d+):\d+: (?:error: |(it is not proved ))(.*)$', re.M)
 BESIDE = re.compile(r'was not admitted|was rejected')
@@ -41,8 +43,14 @@ MISSING = re.compile(r'has no field|is not in scope|has no `')
 FALSE = 'allow values at which this goal is false'
 
 
+def renamed(pairs):
+    """Whether each new text is the old one but for the names of steps and goals, which have dashes."""
+    return len(pairs) % 2 == 0 and all(re.split(DASHED, old) == re.split(DASHED, new) for old, new in zip(pairs[::2], pairs[1::2]))
+
+
 class Edit:
-    """A paragraph: a name, what would be wrong, the file that is changed, and the texts in turn, old and new."""
+    """A paragraph: a name, what would be wrong, the file that is changed, and the texts in turn, old and new. Pairs of another file,
+    a proof of the function, only carry names along."""
 
     def __init__(self, path, text):
         first, *lines = text.split('\n')
@@ -50,8 +58,15 @@ class Edit:
         self.crate, self.tried = path.parent.parent.name, path.stem
         self.name, _, self.says = first.partition(': ')
         self.file = lines[0].partition('file: ')[2]
-        self.pairs = [line[5:] for line in lines if line[:4] in ('old:', 'new:')]
-        if not re.fullmatch(r'\w+', self.name) or not self.file or not self.pairs or len(self.pairs) % 2:
+        texts = {}
+        for line in lines:
+            if line[:6] == 'file: ':
+                pairs = texts.setdefault(line[6:], [])
+            elif line[:4] in ('old:', 'new:'):
+                pairs.append(line[5:])
+        self.pairs = texts.pop(self.file, [])
+        carried = [it for pairs in texts.values() for it in pairs]
+        if not re.fullmatch(r'\w+', self.name) or not self.pairs or len(self.pairs) % 2 or not renamed(carried):
             sys.exit(f'{path}: not an edit: {first}')
 
     def made(self, text):
