@@ -10,7 +10,7 @@ use Rattle.semantics.specs.Record.{Entry, RES, BIN, SYNC, VAR, CLASS, BLOCK, ENT
 use Rattle.promises.specs.Laws.{AllOf}
 use Rattle.promises.specs.Passes.{its_row}
 use Rattle.file_index.specs.Ties.{kind_at, body_at, ActionAt}
-use Rattle.file_actions.specs.Kinds.{kind_in, SaysKind, OfKind, IsClose}
+use Rattle.file_actions.specs.Kinds.{kind_in, SaysKind, OfKind}
 
 rows_say : (bs : List ℕ) → AllOf (SaysKind bs) table
 rows_say = omega arith
@@ -86,8 +86,5 @@ module _ {bs : List ℕ} {p : ℕ} {x : Action} (a : ActionAt bs p x) where
   pub is_trace : kind_at bs p ≡ K.TRACE → (e : Expr) × (x ≡ TRACE e)
   is_trace = of_kind K.TRACE
 
-  close_is : IsClose bs p x
-  close_is = of_kind K.CLOSE
-
   pub is_close : kind_at bs p ≡ K.CLOSE → x ≡ CLOSE
-  is_close = close_is
+  is_close = of_kind K.CLOSE

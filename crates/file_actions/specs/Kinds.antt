@@ -48,7 +48,3 @@ OfKind k x =
     ∷ (x ≡ CLOSE) ∷ [])
     (k - K.HOLD)
     ⊥
-
--- What stands at kind 30 is a CLOSE.
-abbrev pub IsClose : List ℕ → ℕ → Action → Type 0
-IsClose bs p x = kind_at bs p ≡ K.CLOSE → x ≡ CLOSE

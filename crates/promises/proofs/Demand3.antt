@@ -33,7 +33,6 @@ use Rattle.promises.specs.Answers.{run_keeps, Why, was_closed, was_idle, at_limi
 use Rattle.promises.proofs.Calls.{call_is, run_sound, calls_sound}
 use Rattle.promises.specs.Left.{exactly, likewise, together, no_try, no_try_lem, frames_left, all_left, total, Fell, Falls}
 use Rattle.promises.specs.Left.{begin-total, begin_blocked, step_falls}
-use Rattle.promises.specs.Demand3.{StepsAtMost}
 
 -- FRESH. What is left of it is the bound.
 module _ (m : Model) where
@@ -191,16 +190,13 @@ module _ (bs : List ℕ) (m : Model) (e : decode bs ≡ accepted m) (f : Forward
       remains_first a (b ∷ l) s h c.0 λ g. remains b l (call bs a s).state (does a s h).is_sound c.1
 
   -- CALLS FROM FRESH.
-  few_steps : StepsAtMost bs m
+  pub steps_at_most : (l : List Ask) → steps_of bs l (fresh m) ≤ bound m
   unfolding total
-  few_steps l =
+  steps_at_most l =
       let b = blocked_left m (leaves bs l (fresh m)) (calls_sound bs m e l) in
       let c = (calls_fall l (fresh m) fresh_ok).le in
       let t = fresh-total m f (accepted_fit bs m e).few_entities in let t₁ = t.0 in let t₂ = t.1 in
       omega arith
-
-  pub steps_at_most : (l : List Ask) → steps_of bs l (fresh m) ≤ bound m
-  steps_at_most = few_steps
 
   -- When the limits of the calls that don't answer 30 add up to the bound, some call has answered an end.
   pub ended_by_the_bound : (a : Ask) (l : List Ask) → bound m ≤ limits_of bs (a ∷ l) (fresh m)

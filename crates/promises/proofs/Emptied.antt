@@ -1,32 +1,17 @@
--- A journal that is emptied between calls gives what endless room gives, and with room for one step each call moves on.
+-- A journal that is emptied between calls: with room for one step each call moves on.
 -- Assumes nothing.
-use Rattle.std.specs.Prelude.{ℕ, ◌+◌, ◌-◌, ◌≤◌, ◌≡◌, List, length}
-use Rattle.std.proofs.Common.{arith, sym, ap, ◌∙◌, leb-false}
+use Rattle.std.specs.Prelude.{ℕ, ◌-◌, ◌≤◌, ◌≡◌, List, length}
+use Rattle.std.proofs.Common.{arith, leb-false}
 use Rattle.semantics.specs.Numbers as No
 use Rattle.semantics.specs.Model.{Model}
 use Rattle.semantics.specs.State.{State}
 use Rattle.semantics.specs.Walk.{Line}
-use Rattle.semantics.specs.Run.{Answer, FAULT, Room, endless, room_for, run}
+use Rattle.semantics.specs.Run.{Answer, FAULT, room_for, run}
 use Rattle.promises.specs.Sound.{Sound}
 use Rattle.promises.proofs.Lines.{step_lines}
 use Rattle.promises.specs.Safe.{safe_fault, step_safe}
-use Rattle.promises.specs.Answers.{Made, none_made, one_made, run_made, made_on, behind, steps_within}
+use Rattle.promises.specs.Answers.{Made, none_made, one_made, run_made}
 use Rattle.promises.specs.Answers.{Why, was_closed, was_idle, at_limit, at_fault, no_room, run_why}
-use Rattle.promises.specs.Ends.{run-endless}
-
--- Whatever its room and answer, a run is the first part of the endless one, which goes on from the state that it leaves with the
--- steps that it does not make.
-pub emptied : (m : Model) (n : ℕ) (r : Room) (s : State)
-    → run m n endless s ≡ behind (run m n r s) (run m (n - (run m n r s).steps) endless (run m n r s).state)
-emptied m n r s =
-    let k : ℕ = (run m n r s).steps in
-    let e : n ≡ k + (n - k) = let a = steps_within m n r s in omega arith in
-    ap (λ j. run m j endless s) e ∙ made_on m (run_made m n r s) (n - k)
-
--- One that does not answer 30 is the endless one.
-pub not_emptied : (m : Model) (n : ℕ) (r : Room) (s : State) → ((run m n r s).answer ≡ FAULT No.JOURNAL → ⊥)
-    → run m n endless s ≡ run m n r s
-not_emptied m n r s h = sym (run-endless m n r s h)
 
 -- One that answers 30 with room for the lines of a step has made one.
 moved : {m : Model} {s t : State} {n k j : ℕ} {ls : List Line} {a : Answer} → Sound m s → 65 ≤ k → Made m s j ls t

@@ -19,7 +19,7 @@ pub mod Safe
 pub mod Answers
 pub mod Reasons
 pub mod Ends
+pub mod Emptied
 pub mod Weight
 pub mod Left
-pub mod Demand3
 pub mod Same

@@ -30,22 +30,9 @@ use Rattle.text_reader.specs.Length.{file_fits}
 use Rattle.text_reader.specs.Going.{Done}
 use Rattle.text_reader.specs.End.{ended_of, ended_by, answer_of, Closed, Answers}
 
--- BEHIND THE TOKENS: what is asked there is so, and what is answered is what the machine answers, and so what is to be answered.
-wider : {ends : List ℕ} {n a b : ℕ} → a ≤ b → Rising ends n a → Rising ends n b
-wider h x = record { rises = x.rises; within = λ k l. omega (arith, x.within k l) }
-
+-- BEHIND THE TOKENS: what is answered is what the machine answers, and so what is to be answered.
 module _ {bs : List ℕ} {r : Turned} {m : Memory} (d : Done bs r m) (e : m.sheet ≡ r.state.sheet)
     (f : m.names.many ≡ r.state.many) where
-  pub closes : Closed r m.lent.declared m.lent.stage m.lent.ends m.lent.blocks
-  unfolding sheet_of file
-  closes =
-      record {
-        few = λ z. omega (arith, (d.ready z).names.fine.few);
-        small = λ z. rw (sym e) (d.ready z).sheet.fine.small;
-        rising = λ z. rw (sym e) (wider (d.ready z).sheet.fine.small.staged (d.ready z).sheet.fine.rising);
-        fits = λ z. rw (sym e) (file_fits (d.counts z));
-      }
-
   answers_machine : {out after : List ℕ} {a : Answered}
       → Answers r m.names.what m.names.lacks m.lent.class_line m.lent.declared m.lent.stage m.lent.ends
       m.lent.blocks (length bs) out a after → Says (machine bs (length out)) a out after

@@ -168,3 +168,19 @@ module _ {r : Turned} {what : List ℕ} {lacks : List Bool} {lines declared stag
                 says = rw (eq-eqb r.number 0 e, f, ← g, le-ltb c most_names h, le-leb r.state.sheet.total (length out) i)
                     (record { answer = rw j; bytes = k ∙ rw j });
               }
+
+-- BEHIND THE TOKENS: what is asked there is so.
+wider : {ends : List ℕ} {n a b : ℕ} → a ≤ b → Rising ends n a → Rising ends n b
+wider h x = record { rises = x.rises; within = λ k l. omega (arith, x.within k l) }
+
+module _ {bs : List ℕ} {r : Turned} {m : Memory} (d : Done bs r m) (e : m.sheet ≡ r.state.sheet)
+    (f : m.names.many ≡ r.state.many) where
+  pub closes : Closed r m.lent.declared m.lent.stage m.lent.ends m.lent.blocks
+  unfolding sheet_of file
+  closes =
+      record {
+        few = λ z. omega (arith, (d.ready z).names.fine.few);
+        small = λ z. rw (sym e) (d.ready z).sheet.fine.small;
+        rising = λ z. rw (sym e) (wider (d.ready z).sheet.fine.small.staged (d.ready z).sheet.fine.rising);
+        fits = λ z. rw (sym e) (file_fits (d.counts z));
+      }

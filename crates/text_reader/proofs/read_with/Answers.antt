@@ -1,6 +1,7 @@
 -- `text_reader::read_with` meets its contract. Assumes nothing.
 use mathlib.Core.Path.{refl}
-use Rattle.text_reader.proofs.End.{closes, answers_text}
+use Rattle.text_reader.specs.End.{closes}
+use Rattle.text_reader.proofs.End.{answers_text}
 use Rattle.text_reader.specs.First.{reads_first}
 use Rattle.text_reader.proofs.read_with.Goals as goal
 
