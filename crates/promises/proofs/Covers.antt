@@ -1,15 +1,12 @@
 -- The rule of barring (document 02, Three), for all claims: what bars by document 01 still does, nothing bars its equal, and to
 -- bar is a strict order. Assumes nothing.
-use Rattle.std.specs.Prelude.{ℕ, suc, ◌≤◌, ◌≡◌, refl, List, [], ◌∷◌, Bool, true, false, not, leb, ltb}
-use Rattle.std.proofs.Common.{arith, sym, subst, ◌∙◌, ap, leb-true, eqb-true, eq-eqb, ltb-true, lt-ltb, le-leb}
-use Rattle.std.proofs.Math.Option.{some}
-use Rattle.std.proofs.Math.ListN.{get_elem?}
-use Rattle.semantics.specs.Words.{all, any, is_empty}
-use Rattle.semantics.specs.Model.{Kind, resource, bin, sync, Claim}
-use Rattle.semantics.specs.Claim.{Offer, Name, names_of, same_kind, same_name, strict_part, same_names, amount_of, covers}
-use Rattle.semantics.specs.Claim.{covered, bars}
-use Rattle.promises.specs.Laws.{no_way, and-true, true-and, or-true, or_left, or_right, not-true, not-false, AllOf, all_map}
-use Rattle.promises.specs.Laws.{all_both, all_at, all_hold, all_told, any_has, any_map}
+use Rattle.std.specs.Prelude.{suc, ◌≡◌, refl, List, [], ◌∷◌, true, false}
+use Rattle.std.proofs.Common.{sym, ◌∙◌}
+use Rattle.semantics.specs.Words.{is_empty}
+use Rattle.semantics.specs.Model.{Claim}
+use Rattle.semantics.specs.Claim.{Offer, names_of, amount_of}
+use Rattle.semantics.specs.Claim.{bars}
+use Rattle.promises.specs.Laws.{no_way, true-and, AllOf, all_map}
 use Rattle.promises.specs.Covers.{not_so, names, part, own_names, part_self, Equal, bars_through, EqualIn, never_equal}
 
 equal_self : (c : Claim) → Equal c c

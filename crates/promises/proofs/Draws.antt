@@ -1,15 +1,12 @@
 -- The generator, once for every seed and every sampler: a seed stays in its range, and a draw within lowest..highest.
 -- Assumes nothing.
-use Rattle.std.specs.Prelude.{ℕ, zero, suc, ◌+◌, ◌-◌, ◌*◌, ◌/◌, ◌%◌, ◌≤◌, ◌<◌, ◌≡◌, refl, Bool, true, false, cond, ltb, ℤ, pos, negsuc, nat_abs, ◌+ℤ◌, ◌-ℤ◌}
-use native.Mathlib.Omega.{arith, div_fact, mod_fact}
-use Rattle.std.proofs.Common.{mod-lt, leb-true, le-leb, ltb-true, ltb-false, le-ltb}
-use Rattle.std.proofs.Math.IntN.{sub_ℕ}
-use Rattle.std.specs.Int.Signed.{le_z, mag}
-use Rattle.semantics.specs.Numbers as No
-use Rattle.semantics.specs.Generator.{multiplier, modulus, next_seed, values_in, drawn}
+use Rattle.std.specs.Prelude.{ℕ, ◌≡◌, true, ℤ, pos, negsuc}
+use native.Mathlib.Omega.{arith}
+use Rattle.std.proofs.Common.{leb-true}
+use Rattle.std.specs.Int.Signed.{le_z}
+use Rattle.semantics.specs.Generator.{drawn}
 use Rattle.promises.specs.Laws.{no_way}
 use Rattle.promises.specs.Fit.{I32}
-use Rattle.promises.specs.Sound.{Seed}
 use Rattle.promises.specs.Draws.{Inside, draw_within}
 
 between : (lo v hi : ℤ) → I32 lo → I32 hi → Inside lo hi v → I32 v

@@ -1,16 +1,16 @@
 -- What has ended stays ended, and a journal that is not met changes nothing.
 -- Assumes nothing.
-use Rattle.std.specs.Prelude.{ℕ, zero, suc, ◌≡◌, refl, List, Bool, true, false, eqb, if◌then◌else◌}
+use Rattle.std.specs.Prelude.{ℕ, zero, suc, ◌≡◌, refl, List, false}
 use Rattle.std.proofs.Common.{sym, ap, ne_eqb}
-use Rattle.semantics.specs.Words.{Outcome, ok, fails}
+use Rattle.semantics.specs.Words.{fails}
 use Rattle.semantics.specs.Numbers as No
 use Rattle.semantics.specs.Model.{Model}
 use Rattle.semantics.specs.State.{State}
-use Rattle.semantics.specs.Walk.{Line, Next}
+use Rattle.semantics.specs.Walk.{Line}
 use Rattle.semantics.specs.Step.{step}
-use Rattle.semantics.specs.Run.{Answer, CLOSED, IDLE, LIMIT, FAULT, Ran, stopped, further, Before, before, is_closed, is_idle}
+use Rattle.semantics.specs.Run.{Answer, CLOSED, IDLE, FAULT, stopped, before, is_closed, is_idle}
 use Rattle.semantics.specs.Run.{goes_on}
-use Rattle.semantics.specs.Run.{Room, endless, fits, left, run, no_end}
+use Rattle.semantics.specs.Run.{Room, run, no_end}
 use Rattle.promises.specs.Laws.{no_way}
 use Rattle.promises.specs.Answers.{run_why, Why, was_closed, was_idle, at_limit, at_fault, no_room}
 use Rattle.promises.specs.Ends.{again}

@@ -1,37 +1,24 @@
 -- The parts of a state that a step changes: values stay in their range, blocks stay chained, a process stays in order, and
 -- amounts and slaves add up.
 -- Assumes nothing.
-use Prim.Native.Nat.{ℕ, zero, suc, ◌+◌, ◌-◌, ◌≤◌, ◌<◌}
+use Prim.Native.Nat.{ℕ, ◌≤◌, ◌<◌}
 use native.Mathlib.Omega.{arith}
-use Rattle.std.specs.Prelude.{◌≡◌, Bool, ◌&&◌, eqb, leb, ltb, length, get_or, set, ℤ, negsuc, neg_ℤ, ◌+ℤ◌, ◌-ℤ◌, ◌*ℤ◌, if◌then◌else◌}
-use Rattle.std.proofs.Math.Path.{refl}
-use Rattle.std.proofs.Common.{◌∙◌, ltb-true, leb-true, le-leb, eqb-true, eq-eqb, length-set}
-use mathlib.Core.List.{List, [], ◌∷◌, map}
-use Rattle.std.proofs.Math.Bool.{true, false}
-use Rattle.std.proofs.Math.Option.{Option, none, some}
-use Rattle.std.proofs.lemmas.Bool.{eqb-false}
-use Rattle.std.proofs.Math.ListN.{get_elem?}
-use Rattle.std.proofs.lemmas.List.{length-replicate}
+use Rattle.std.specs.Prelude.{length, get_or, ℤ, neg_ℤ, ◌+ℤ◌, ◌-ℤ◌, ◌*ℤ◌}
+use Rattle.std.proofs.Common.{◌∙◌, ltb-true, length-set}
+use mathlib.Core.List.{List}
 use Rattle.std.proofs.Math.IntN.{pos}
 use Rattle.std.specs.Int.Signed.{mag, le_z}
-use Rattle.semantics.specs.Words.{Outcome, ok, fails, ◌>>=◌, any, keep, is_empty, more, fewer}
+use Rattle.semantics.specs.Words.{Outcome}
 use Rattle.semantics.specs.Numbers as No
 use Rattle.semantics.specs.Numbers.{lowest}
 use Rattle.semantics.specs.Model.{Expr, literal, global, local, add, subtract, multiply, lesser, greater, negate, the_clock, draw}
-use Rattle.semantics.specs.Model.{Share, Model, block, body, Action, HOLD, PRIO, TRACE, SET, LSET, DO, PUTR, PUTB, PUTS, BECOME}
-use Rattle.semantics.specs.Model.{REQ, TRY, WHILE, START, CLOSE}
-use Rattle.semantics.specs.State.{State, Process, Frame, Slave, Event, Notice, wakes, returns_r, returns_b, process, newcomer}
-use Rattle.semantics.specs.State.{with_priority, with_locals, with_held, with_slaves, with_frames, onward, past}
-use Rattle.semantics.specs.Value.{is_i32, in_range, Valued, Drawing, plain, of_one, of_two, draw_from, eval}
-use Rattle.semantics.specs.Claim.{stands_in}
-use Rattle.semantics.specs.Walk.{Next, quiet}
-use Rattle.semantics.specs.Step.{is_return, handed, kept, freed, stay, comes_back, leave, ends, exhausted, act, moves}
-use Rattle.semantics.specs.Sound.{enters, enters_at, named_there, chained}
-use Rattle.promises.specs.Laws.{and-true, true-and, or_left, or_right, if_has, not_some, Good, good, good_then, good_need}
-use Rattle.promises.specs.Laws.{AllOf, all_map, all_both, all_set, all_get, all_in, all_at, all_replicate, Ordered, some_in}
-use Rattle.promises.specs.Laws.{over, over-keep, over_same, only, once, once_apart, set_away, more_at, less_at}
-use Rattle.promises.specs.Fit.{I32, ExprFit, SharesApart, ActFit, SamplerFit, Fit}
-use Rattle.promises.specs.Sound.{Below, al, slaved, owes, returning, Fine, Seed, SeedsOk}
+use Rattle.semantics.specs.Model.{Model}
+use Rattle.semantics.specs.State.{State, Process}
+use Rattle.semantics.specs.Value.{is_i32, in_range, Drawing, plain, of_one, of_two, draw_from, eval}
+use Rattle.promises.specs.Laws.{if_has, Good, good, good_then, good_need}
+use Rattle.promises.specs.Laws.{AllOf, all_set, all_get, all_in}
+use Rattle.promises.specs.Fit.{I32, ExprFit, SamplerFit, Fit}
+use Rattle.promises.specs.Sound.{Seed, SeedsOk}
 use Rattle.promises.specs.Draws.{seed_stays}
 use Rattle.promises.proofs.Draws.{draw_ranged}
 use Rattle.promises.specs.Parts.{ValuedOk}

@@ -1,22 +1,21 @@
 -- Why a job waits (document 02, Two): the value of each line of kind 3 is -1 or 1 to 4, and is what it says.
 -- Assumes nothing.
-use Prim.Native.Nat.{ℕ, zero, suc, ◌+◌, ◌≤◌, ◌<◌}
+use Prim.Native.Nat.{ℕ, zero, suc, ◌+◌, ◌≤◌}
 use Rattle.std.proofs.Common.{arith, sym, ap, ◌∙◌}
 use Rattle.std.proofs.Math.Path.{◌≡◌, refl, subst}
 use mathlib.Core.List.{List, [], ◌∷◌, ◌++◌}
-use Rattle.std.specs.Prelude.{Bool, leb, length, get_or, set, take, ℤ, pos}
+use Rattle.std.specs.Prelude.{Bool, leb, length, get_or, set, pos}
 use Rattle.std.proofs.Math.Bool.{true, false}
 use Rattle.std.proofs.Math.Option.{some}
-use Rattle.std.proofs.Math.ListN.{get_elem?}
 use Rattle.semantics.specs.Words.{Outcome, ok, more}
 use Rattle.semantics.specs.Numbers as No
-use Rattle.semantics.specs.Model.{Item, Claim, Branch, Model, Action, HOLD, PRIO, TRACE, SET, LSET, DO, PUTR, PUTB, PUTS, BECOME}
+use Rattle.semantics.specs.Model.{Claim, Branch, Model, Action, HOLD, PRIO, TRACE, SET, LSET, DO, PUTR, PUTB, PUTS, BECOME}
 use Rattle.semantics.specs.Model.{REQ, TRY, WHILE, START, CLOSE}
 use Rattle.semantics.specs.State.{State, Waiter, Event, Notice, wakes, returns_r, returns_b, Floor, empty, held_by, process}
 use Rattle.semantics.specs.State.{put, at_clock, with_globals, with_free, with_bins, with_waiting, with_floor, with_events}
 use Rattle.semantics.specs.State.{with_seeds, wake, join, past}
 use Rattle.semantics.specs.Value.{eval}
-use Rattle.semantics.specs.Claim.{item_met, Test, met, lacks, test_from, test, Offer, offers, stands_in, asks, barred, Reason}
+use Rattle.semantics.specs.Claim.{Test, met, lacks, test, Offer, offers, stands_in, asks, barred, Reason}
 use Rattle.semantics.specs.Claim.{is_barred, first_lacks, Choice, waits, goes, or_lacks, first_met, choice, reason_said, grant}
 use Rattle.semantics.specs.Walk.{Line, Next, line, quiet, after, walk_on, walk}
 use Rattle.semantics.specs.Step.{freed, free_all, ends, hold, prio, set_global, set_local, do_times, notify, putr, putb}

@@ -1,29 +1,23 @@
 -- The test sound_in decides Sound: its clauses, split in document 01's order, against the record that the promises carry.
 -- Assumes nothing.
-use Rattle.std.specs.Prelude.{ℕ, zero, suc, ◌+◌, ◌≤◌, ◌<◌, ◌≡◌, refl, List, [], ◌∷◌, map, Bool, true, false, ◌&&◌, ◌||◌, eqb, leb, ltb, length, get_or, ℤ, pos, if◌then◌else◌}
-use Rattle.std.proofs.Common.{arith, sym, ap, ◌∙◌, ltb-true, ltb-false}
+use Rattle.std.specs.Prelude.{ℕ, ◌+◌, ◌≤◌, ◌<◌, ◌≡◌, refl, List, [], ◌∷◌, map, Bool, true, false, eqb, ltb, length, if◌then◌else◌}
+use Rattle.std.proofs.Common.{arith, ap, ◌∙◌, ltb-true, ltb-false}
 use Rattle.std.proofs.Math.ListN.{get_or-eq_default}
-use Rattle.semantics.specs.Words.{all, is_empty, keep}
+use Rattle.semantics.specs.Words.{is_empty, keep}
 use Rattle.semantics.specs.Numbers as No
 use Rattle.semantics.specs.Numbers.{lowest, of_returns}
-use Rattle.semantics.specs.Model.{Model}
-use Rattle.semantics.specs.State.{State, Process, Frame, Event, Notice, wakes, returns_r, returns_b, Waiter, Floor, empty, held_by}
-use Rattle.semantics.specs.State.{nobody, process, is_free, with_frames}
-use Rattle.semantics.specs.Step.{is_return}
+use Rattle.semantics.specs.State.{State, Process, Frame, Notice, wakes, returns_r, returns_b, Floor, empty, held_by}
+use Rattle.semantics.specs.State.{nobody, process, is_free}
 use Rattle.semantics.specs.Sound as Test
 use Rattle.semantics.specs.Sound.{vacant, furnished, event_tied, waiter_tied, process_in_range, return_in_range, event_in_range}
 use Rattle.semantics.specs.Sound.{chained, all_chained, own_number, own_numbers, woken, waiters_places, listed, in_one, adds_up}
 use Rattle.semantics.specs.Sound.{sound_in}
-use Rattle.promises.specs.Laws.{◌&◌, AllOf, all_map, over, over-append, over_zero, over_same, over_found, over-map}
-use Rattle.promises.specs.Laws.{over-collect, once, once_same, only_apart, once_self, once_apart, only_if, keep-once}
-use Rattle.promises.specs.Fit.{Within}
-use Rattle.promises.specs.Sound.{al, on_floor, noticed, in_events, waits, in_all, owned, bearing, held_in, gives, back_in}
-use Rattle.promises.specs.Sound.{returning, Fine, Vacant, ProcOk, ReturnOk, NoticeOk, EventOk, Tied, InOne, AddsUp, Sound}
-use Rattle.promises.specs.Says.{Says, says_is, says_true, says_for, ◌and◌, says_le, says_lt, says_eq, says_within}
-use Rattle.promises.specs.Says.{says_all, says_ordered, says_empty, says_also, says_up_to, says_below, says_same}
-use Rattle.promises.specs.Says.{says_ranked, says_late}
-use Rattle.promises.specs.Keep.{free_or_fine}
-use Rattle.promises.specs.Parts.{returning_are}
+use Rattle.promises.specs.Laws.{AllOf, over, over-append, over_zero, over_same, over-map}
+use Rattle.promises.specs.Laws.{over-collect, once, once_self, once_apart, keep-once}
+use Rattle.promises.specs.Sound.{al, on_floor, noticed, in_events, waits, in_all, owned}
+use Rattle.promises.specs.Sound.{InOne}
+use Rattle.promises.specs.Says.{Says, says_for, ◌and◌, says_lt, says_eq}
+use Rattle.promises.specs.Says.{says_all, says_up_to}
 
 -- What holds of the numbers below n, and of those from n on.
 pub near_far : {P : ℕ → Type 0} (n : ℕ) → ((k : ℕ) → k < n → P k) → ((k : ℕ) → n ≤ k → P k) → (k : ℕ) → P k

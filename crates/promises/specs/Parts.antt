@@ -1,11 +1,11 @@
 -- The parts of a state that a step changes: values stay in their range, blocks stay chained, a process stays in order, and
 -- amounts and slaves add up.
 -- Assumes nothing.
-use Prim.Native.Nat.{ℕ, zero, suc, ◌+◌, ◌-◌, ◌≤◌, ◌<◌}
+use Prim.Native.Nat.{ℕ, zero, suc, ◌+◌, ◌-◌, ◌<◌}
 use native.Mathlib.Omega.{arith}
-use Rattle.std.specs.Prelude.{◌≡◌, Bool, ◌&&◌, eqb, leb, ltb, length, get_or, set, ℤ, negsuc, neg_ℤ, ◌+ℤ◌, ◌-ℤ◌, ◌*ℤ◌, if◌then◌else◌}
+use Rattle.std.specs.Prelude.{◌≡◌, Bool, ◌&&◌, eqb, leb, ltb, length, get_or, set, ℤ, negsuc, if◌then◌else◌}
 use Rattle.std.proofs.Math.Path.{refl}
-use Rattle.std.proofs.Common.{◌∙◌, ltb-true, leb-true, le-leb, eqb-true, eq-eqb, length-set}
+use Rattle.std.proofs.Common.{◌∙◌, leb-true, le-leb, eqb-true, eq-eqb, length-set}
 use mathlib.Core.List.{List, [], ◌∷◌, map}
 use Rattle.std.proofs.Math.Bool.{true, false}
 use Rattle.std.proofs.Math.Option.{Option, none, some}
@@ -13,26 +13,24 @@ use Rattle.std.proofs.lemmas.Bool.{eqb-false}
 use Rattle.std.proofs.Math.ListN.{get_elem?}
 use Rattle.std.proofs.lemmas.List.{length-replicate}
 use Rattle.std.proofs.Math.IntN.{pos}
-use Rattle.std.specs.Int.Signed.{mag, le_z}
-use Rattle.semantics.specs.Words.{Outcome, ok, fails, ◌>>=◌, any, keep, is_empty, more, fewer}
+use Rattle.std.specs.Int.Signed.{le_z}
+use Rattle.semantics.specs.Words.{Outcome, ok, fails, any, keep, is_empty, more, fewer}
 use Rattle.semantics.specs.Numbers as No
 use Rattle.semantics.specs.Numbers.{lowest}
-use Rattle.semantics.specs.Model.{Expr, literal, global, local, add, subtract, multiply, lesser, greater, negate, the_clock, draw}
 use Rattle.semantics.specs.Model.{Share, Model, block, body, Action, HOLD, PRIO, TRACE, SET, LSET, DO, PUTR, PUTB, PUTS, BECOME}
 use Rattle.semantics.specs.Model.{REQ, TRY, WHILE, START, CLOSE}
 use Rattle.semantics.specs.State.{State, Process, Frame, Slave, Event, Notice, wakes, returns_r, returns_b, process, newcomer}
 use Rattle.semantics.specs.State.{with_priority, with_locals, with_held, with_slaves, with_frames, onward, past}
-use Rattle.semantics.specs.Value.{is_i32, in_range, Valued, Drawing, plain, of_one, of_two, draw_from, eval}
+use Rattle.semantics.specs.Value.{Valued}
 use Rattle.semantics.specs.Claim.{stands_in}
 use Rattle.semantics.specs.Walk.{Next, quiet}
 use Rattle.semantics.specs.Step.{is_return, handed, kept, freed, stay, comes_back, leave, ends, exhausted, act, moves}
 use Rattle.semantics.specs.Sound.{enters, enters_at, named_there, chained}
-use Rattle.promises.specs.Laws.{and-true, true-and, or_left, or_right, if_has, not_some, Good, good, good_then, good_need}
-use Rattle.promises.specs.Laws.{AllOf, all_map, all_both, all_set, all_get, all_in, all_at, all_replicate, Ordered, some_in}
+use Rattle.promises.specs.Laws.{and-true, true-and, or_left, or_right, if_has, not_some}
+use Rattle.promises.specs.Laws.{AllOf, all_map, all_both, all_set, all_at, all_replicate, Ordered, some_in}
 use Rattle.promises.specs.Laws.{over, over-keep, over_same, only, once, once_apart, set_away, more_at, less_at}
-use Rattle.promises.specs.Fit.{I32, ExprFit, SharesApart, ActFit, SamplerFit, Fit}
-use Rattle.promises.specs.Sound.{Below, al, slaved, owes, returning, Fine, Seed, SeedsOk}
-use Rattle.promises.specs.Draws.{seed_stays}
+use Rattle.promises.specs.Fit.{I32, SharesApart, ActFit, Fit}
+use Rattle.promises.specs.Sound.{Below, al, slaved, owes, returning, Fine, SeedsOk}
 
 -- VALUES. A value in its range, with seeds that are as they should.
 pub record ValuedOk (m : Model) (v : Valued) : Type 0 where

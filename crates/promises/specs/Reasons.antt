@@ -1,33 +1,22 @@
 -- Why a job waits (document 02, Two): the value of each line of kind 3 is -1 or 1 to 4, and is what it says.
 -- Assumes nothing.
 use Prim.Native.Nat.{ℕ, zero, suc, ◌+◌, ◌≤◌, ◌<◌}
-use Rattle.std.proofs.Common.{arith, sym, ap, ◌∙◌}
-use Rattle.std.proofs.Math.Path.{◌≡◌, refl, subst}
-use mathlib.Core.List.{List, [], ◌∷◌, ◌++◌}
-use Rattle.std.specs.Prelude.{Bool, leb, length, get_or, set, take, ℤ, pos}
+use Rattle.std.proofs.Common.{arith, ap}
+use Rattle.std.proofs.Math.Path.{◌≡◌, refl}
+use mathlib.Core.List.{List, [], ◌∷◌}
+use Rattle.std.specs.Prelude.{Bool, length, take, ℤ, pos}
 use Rattle.std.proofs.Math.Bool.{true, false}
 use Rattle.std.proofs.Math.Option.{some}
 use Rattle.std.proofs.Math.ListN.{get_elem?}
-use Rattle.semantics.specs.Words.{Outcome, ok, more}
 use Rattle.semantics.specs.Numbers as No
-use Rattle.semantics.specs.Model.{Item, Claim, Branch, Model, Action, HOLD, PRIO, TRACE, SET, LSET, DO, PUTR, PUTB, PUTS, BECOME}
-use Rattle.semantics.specs.Model.{REQ, TRY, WHILE, START, CLOSE}
-use Rattle.semantics.specs.State.{State, Waiter, Event, Notice, wakes, returns_r, returns_b, Floor, empty, held_by, process}
-use Rattle.semantics.specs.State.{put, at_clock, with_globals, with_free, with_bins, with_waiting, with_floor, with_events}
-use Rattle.semantics.specs.State.{with_seeds, wake, join, past}
-use Rattle.semantics.specs.Value.{eval}
-use Rattle.semantics.specs.Claim.{item_met, Test, met, lacks, test_from, test, Offer, offers, stands_in, asks, barred, Reason}
-use Rattle.semantics.specs.Claim.{is_barred, first_lacks, Choice, waits, goes, or_lacks, first_met, choice, reason_said, grant}
-use Rattle.semantics.specs.Walk.{Line, Next, line, quiet, after, walk_on, walk}
-use Rattle.semantics.specs.Step.{freed, free_all, ends, hold, prio, set_global, set_local, do_times, notify, putr, putb}
-use Rattle.semantics.specs.Step.{become, puts, start, in_front, request, while, trace, close, act, moves, occurs, next, step}
-use Rattle.semantics.specs.Run.{Room, run}
-use Rattle.promises.specs.Laws.{no_way, Good, good, stopped, good_bind, good_need, good_map}
-use Rattle.promises.specs.Laws.{good_out, AllOf, all_map, all_append}
-use Rattle.promises.specs.Fit.{ActFit, Fit}
-use Rattle.promises.specs.Parts.{fit_at, moves_has, exhausted_has}
-use Rattle.promises.specs.Takes.{choice_has}
-use Rattle.promises.specs.Answers.{Made, none_made, one_made, run_made}
+use Rattle.semantics.specs.Model.{Item, Claim, Model, Action}
+use Rattle.semantics.specs.State.{State, Waiter, Event, wakes, returns_r, returns_b, empty, held_by, process}
+use Rattle.semantics.specs.State.{at_clock, with_floor, with_events}
+use Rattle.semantics.specs.Claim.{item_met, Test, lacks, test_from, Offer, offers, stands_in, barred}
+use Rattle.semantics.specs.Walk.{Line}
+use Rattle.semantics.specs.Step.{in_front}
+use Rattle.promises.specs.Laws.{AllOf}
+use Rattle.promises.specs.Answers.{Made}
 
 -- THE FIRST LACKING ITEM of a claim, counted from k, is its n-th: it is lacking, and those before it aren't.
 pub record FirstLacking (s : State) (k : ℕ) (c : Claim) (n : ℕ) : Type 0 where
