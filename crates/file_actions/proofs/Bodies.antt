@@ -3,20 +3,17 @@
 -- Assumes nothing.
 use Prim.Native.Nat.{ℕ, ◌+◌, ◌*◌, ◌≤◌}
 use Rattle.std.proofs.Common.{arith, subst}
-use Rattle.std.specs.Prelude.{◌≡◌, refl, true, leb, length}
+use Rattle.std.specs.Prelude.{◌≡◌, refl, leb, length}
 use mathlib.Core.List.{List}
-use Rattle.std.proofs.Math.Option.{some}
 use borrow.Author.Tests.{eqb-true}
-use Rattle.std.proofs.Math.ListN.{drop, get_elem?, length-drop, length-map}
+use Rattle.std.proofs.Math.ListN.{drop, length-drop, length-map}
 use Rattle.std.proofs.Math.Seq.{get_or-drop}
-use Rattle.semantics.specs.Model.{Expr, Share, Action, HOLD, PRIO, TRACE, SET, LSET, DO, PUTR, PUTB, PUTS, BECOME, REQ, TRY}
-use Rattle.semantics.specs.Model.{WHILE, START, CLOSE, Model, block}
+use Rattle.semantics.specs.Model.{Expr, Action, HOLD, PRIO, TRACE, SET, LSET}
 use Rattle.semantics.specs.Bytes.{u16, u32, parts}
-use Rattle.semantics.specs.Record.{expression_in, claim_in, share_of, shares_in, branches_in, Tail, nothing, expression, branches}
-use Rattle.semantics.specs.Record.{claim, shares, sized, valid, Entry, RES, BIN, SYNC, VAR, CLASS, BLOCK, ENTITY, SAMPLER}
-use Rattle.semantics.specs.Record.{ACTION, Row, table, row_of}
-use Rattle.promises.specs.Laws.{and-true, AllOf, all_at, ◌&◌}
-use Rattle.promises.specs.Fit.{ExprFit, ActFit, Fit}
+use Rattle.semantics.specs.Record.{expression_in, claim_in, share_of, shares_in, branches_in, nothing}
+use Rattle.semantics.specs.Record.{shares}
+use Rattle.semantics.specs.Record.{Row, table, row_of}
+use Rattle.promises.specs.Laws.{and-true, AllOf, ◌&◌}
 use Rattle.promises.specs.Passes.{its_row}
 use Rattle.promises.specs.Valued.{parts_many}
 use Rattle.file_index.specs.Ties.{body_at, ActionAt}

@@ -1,12 +1,12 @@
 -- The kind of a record, and the action that a kind is.
 -- Assumes nothing.
-use Rattle.std.specs.Prelude.{ℕ, ◌-◌, ◌≡◌, refl, List, [], ◌∷◌, get_or, drop}
+use Rattle.std.specs.Prelude.{ℕ, ◌≡◌, refl, List, drop}
 use Rattle.std.proofs.Common.{arith, sym, ◌∙◌, ap, subst}
 use Rattle.semantics.specs.Kinds as K
 use Rattle.semantics.specs.Model.{Expr, Claim, Branch, Share, Action, HOLD, PRIO, TRACE, SET, LSET, DO, PUTR, PUTB, PUTS}
 use Rattle.semantics.specs.Model.{BECOME, REQ, TRY, WHILE, START, CLOSE, kind_of}
 use Rattle.semantics.specs.Bytes.{u16}
-use Rattle.semantics.specs.Record.{Entry, RES, BIN, SYNC, VAR, CLASS, BLOCK, ENTITY, SAMPLER, ACTION, Row, table}
+use Rattle.semantics.specs.Record.{table}
 use Rattle.promises.specs.Laws.{AllOf}
 use Rattle.promises.specs.Passes.{its_row}
 use Rattle.file_index.specs.Ties.{kind_at, body_at, ActionAt}

@@ -2,25 +2,19 @@
 -- or list stand in it.
 -- Assumes nothing.
 use Prim.Native.Nat.{ℕ, ◌+◌, ◌*◌, ◌≤◌}
-use Rattle.std.proofs.Common.{arith, subst}
-use Rattle.std.specs.Prelude.{◌≡◌, refl, true, leb, length}
+use Rattle.std.specs.Prelude.{◌≡◌, true, length}
 use mathlib.Core.List.{List}
 use Rattle.std.proofs.Math.Option.{some}
-use borrow.Author.Tests.{eqb-true}
-use Rattle.std.proofs.Math.ListN.{drop, get_elem?, length-drop, length-map}
-use Rattle.std.proofs.Math.Seq.{get_or-drop}
+use Rattle.std.proofs.Math.ListN.{drop, get_elem?}
 use Rattle.semantics.specs.Model.{Expr, Share, Action, HOLD, PRIO, TRACE, SET, LSET, DO, PUTR, PUTB, PUTS, BECOME, REQ, TRY}
 use Rattle.semantics.specs.Model.{WHILE, START, CLOSE, Model, block}
-use Rattle.semantics.specs.Bytes.{u16, u32, parts}
-use Rattle.semantics.specs.Record.{expression_in, claim_in, share_of, shares_in, branches_in, Tail, nothing, expression, branches}
+use Rattle.semantics.specs.Bytes.{u16, u32}
+use Rattle.semantics.specs.Record.{expression_in, claim_in, shares_in, branches_in, Tail, expression, branches}
 use Rattle.semantics.specs.Record.{claim, shares, sized, valid, Entry, RES, BIN, SYNC, VAR, CLASS, BLOCK, ENTITY, SAMPLER}
-use Rattle.semantics.specs.Record.{ACTION, Row, table, row_of}
-use Rattle.promises.specs.Laws.{and-true, AllOf, all_at, ◌&◌}
+use Rattle.semantics.specs.Record.{ACTION, Row}
+use Rattle.promises.specs.Laws.{all_at}
 use Rattle.promises.specs.Fit.{ExprFit, ActFit, Fit}
-use Rattle.promises.specs.Passes.{its_row}
-use Rattle.promises.specs.Valued.{parts_many}
-use Rattle.file_index.specs.Ties.{body_at, ActionAt}
-use Rattle.file_index.proofs.Records.{Sized, sized_by}
+use Rattle.file_index.proofs.Records.{Sized}
 
 -- bs is a tail of the form t, in its size and its numbers, and is read as a.
 abbrev pub Reads : {A : Type 0} → Tail → (List ℕ → A) → List ℕ → A → Type 0

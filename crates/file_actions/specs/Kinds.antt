@@ -1,15 +1,10 @@
 -- The kind of a record, and the action that a kind is.
 -- Assumes nothing.
-use Rattle.std.specs.Prelude.{ℕ, ◌-◌, ◌≡◌, refl, List, [], ◌∷◌, get_or, drop}
-use Rattle.std.proofs.Common.{arith, sym, ◌∙◌, ap, subst}
+use Rattle.std.specs.Prelude.{ℕ, ◌-◌, ◌≡◌, List, [], ◌∷◌, get_or}
 use Rattle.semantics.specs.Kinds as K
 use Rattle.semantics.specs.Model.{Expr, Claim, Branch, Share, Action, HOLD, PRIO, TRACE, SET, LSET, DO, PUTR, PUTB, PUTS}
 use Rattle.semantics.specs.Model.{BECOME, REQ, TRY, WHILE, START, CLOSE, kind_of}
-use Rattle.semantics.specs.Bytes.{u16}
-use Rattle.semantics.specs.Record.{Entry, RES, BIN, SYNC, VAR, CLASS, BLOCK, ENTITY, SAMPLER, ACTION, Row, table}
-use Rattle.promises.specs.Laws.{AllOf}
-use Rattle.promises.specs.Passes.{its_row}
-use Rattle.file_index.specs.Ties.{kind_at, body_at, ActionAt}
+use Rattle.semantics.specs.Record.{Entry, RES, BIN, SYNC, VAR, CLASS, BLOCK, ENTITY, SAMPLER, ACTION, Row}
 
 -- THE KIND of every entry.
 abbrev pub kind_in : Entry → ℕ
