@@ -1,34 +1,20 @@
 -- The end: what is answered behind the last token, by the numbers and arrays that it goes by.
 -- Assumes nothing.
-use Rattle.std.specs.Prelude.{ℕ, zero, suc, ◌≤◌, ◌<◌, ◌≡◌, List, [], ◌∷◌, ◌++◌, Bool, ltb, length, get_or, take, drop, if◌then◌else◌}
-use Rattle.std.proofs.Common.{arith, sym, ◌∙◌, subst, get_or-take}
-use Rattle.std.proofs.Math.Path.{refl, ap}
+use Rattle.std.specs.Prelude.{ℕ, ◌≡◌, List, Bool, length, if◌then◌else◌}
+use Rattle.std.proofs.Common.{subst}
+use Rattle.std.proofs.Math.Path.{refl}
 use Rattle.std.proofs.Math.Bool.{true, false}
-use Rattle.std.proofs.Math.Dec.{eqb, leb}
-use borrow.Author.Tests.{ltb-true, ltb-false, lt-ltb, le-ltb, lt-leb, le-leb, eqb-true, eqb-false, eq-eqb, ne_eqb}
-use Rattle.semantics.specs.Words.{any, keep, first_at}
-use Rattle.semantics.specs.Numbers as F
-use Rattle.semantics.specs.Kinds as K
-use Rattle.text_semantics.specs.Numbers as No
-use Rattle.text_semantics.specs.Names.{Known}
-use Rattle.text_semantics.specs.Answer.{Answer, refused, written, answer}
-use Rattle.text_machine.specs.Sheet.{file}
-use Rattle.text_machine.specs.Machine.{most_names, lacking, ended, machine}
+use Rattle.std.proofs.Math.Dec.{eqb}
+use borrow.Author.Tests.{eqb-true, eqb-false}
+use Rattle.text_semantics.specs.Answer.{Answer, refused, answer}
+use Rattle.text_machine.specs.Machine.{machine}
 use Rattle.text_answers.specs.Agreeing.{machine_is_answer}
-use Rattle.text_names.specs.Table.{known_at, lacking_of, lacking_in}
-use Rattle.text_names.specs.Lacking.{lacking_known, lacks_any}
-use Rattle.text_names.specs.Span.{span-length}
-use Rattle.text_sheet.specs.declared.Sheet.{Sheet}
-use Rattle.text_sheet.specs.Shown.{sheet_of}
-use Rattle.text_sheet.specs.Fine.{Small, Rising}
-use Rattle.text_sheet.specs.Told.{filed}
 use Rattle.text_reader.specs.declared.Turned.{Turned}
-use Rattle.text_reader.specs.Shown.{Memory, reader_of, known_in}
+use Rattle.text_reader.specs.Shown.{Memory}
 use Rattle.text_reader.specs.declared.Answered.{Answered}
 use Rattle.text_reader.specs.Answer.{Says}
-use Rattle.text_reader.specs.Length.{file_fits}
 use Rattle.text_reader.specs.Going.{Done}
-use Rattle.text_reader.specs.End.{ended_of, ended_by, answer_of, Closed, Answers}
+use Rattle.text_reader.specs.End.{ended_of, ended_by, answer_of, Answers}
 
 -- BEHIND THE TOKENS: what is answered is what the machine answers, and so what is to be answered.
 module _ {bs : List ℕ} {r : Turned} {m : Memory} (d : Done bs r m) (e : m.sheet ≡ r.state.sheet)

@@ -1,20 +1,19 @@
 -- The end: what is answered behind the last token, by the numbers and arrays that it goes by.
 -- Assumes nothing.
 use Rattle.std.specs.Prelude.{ℕ, zero, suc, ◌≤◌, ◌<◌, ◌≡◌, List, [], ◌∷◌, ◌++◌, Bool, ltb, length, get_or, take, drop, if◌then◌else◌}
-use Rattle.std.proofs.Common.{arith, sym, ◌∙◌, subst, get_or-take}
+use Rattle.std.proofs.Common.{arith, sym, ◌∙◌, get_or-take}
 use Rattle.std.proofs.Math.Path.{refl, ap}
 use Rattle.std.proofs.Math.Bool.{true, false}
 use Rattle.std.proofs.Math.Dec.{eqb, leb}
-use borrow.Author.Tests.{ltb-true, ltb-false, lt-ltb, le-ltb, lt-leb, le-leb, eqb-true, eqb-false, eq-eqb, ne_eqb}
+use borrow.Author.Tests.{ltb-true, ltb-false, lt-ltb, le-ltb, lt-leb, le-leb, eq-eqb, ne_eqb}
 use Rattle.semantics.specs.Words.{any, keep, first_at}
 use Rattle.semantics.specs.Numbers as F
 use Rattle.semantics.specs.Kinds as K
 use Rattle.text_semantics.specs.Numbers as No
 use Rattle.text_semantics.specs.Names.{Known}
-use Rattle.text_semantics.specs.Answer.{Answer, refused, written, answer}
+use Rattle.text_semantics.specs.Answer.{Answer, refused, written}
 use Rattle.text_machine.specs.Sheet.{file}
-use Rattle.text_machine.specs.Machine.{most_names, lacking, ended, machine}
-use Rattle.text_answers.specs.Agreeing.{machine_is_answer}
+use Rattle.text_machine.specs.Machine.{most_names, lacking, ended}
 use Rattle.text_names.specs.Table.{known_at, lacking_of, lacking_in}
 use Rattle.text_names.specs.Lacking.{lacking_known, lacks_any}
 use Rattle.text_names.specs.Span.{span-length}

@@ -8,7 +8,7 @@ use Rattle.std.proofs.lemmas.Bool.{eqb-false}
 use Rattle.text_semantics.specs.Token as K
 use Rattle.text_semantics.specs.Lexing.{Placed, clear, tokens_from}
 use Rattle.text_semantics.specs.Answer.{refused}
-use Rattle.text_machine.specs.Machine.{Reader, Turned, stops, goes, turned, ended, going, machine}
+use Rattle.text_machine.specs.Machine.{Reader, stops, goes, turned, ended, going, machine}
 use Rattle.text_tokens.specs.declared.Token.{Token}
 use Rattle.text_tokens.specs.Next.{Next, behind}
 use Rattle.text_entry.specs.declared.Draft.{Draft}
