@@ -68,7 +68,7 @@ pub fn exhausted<'a>(
 ) -> Went
     requires exhausted { Exhausted s.now map.now w.old p }
     requires roomy { Roomy at out.old }
-    ensures { (v : Exhausted s.entry.now map.now w.old p)
+    ensures { (v : Exhausted s.now map.now w.old p)
         → Stepped (made (runs v.running) (λ m s. exhausted m s p (process s p).frames))
         result.fault result.lines w.old w.new at out.old out.new }
 {

@@ -64,7 +64,7 @@ pub fn request<'a>(
 ) -> Went
     requires requesting { Requesting s.now map.now w.old p a enters }
     requires roomy { Roomy at out.old }
-    ensures { (v : Requesting s.entry.now map.now w.old p a enters)
+    ensures { (v : Requesting s.now map.now w.old p a enters)
         → Stepped (made v.asked (λ m s. request m s p v.action))
         result.fault result.lines w.old w.new at out.old out.new }
 {
@@ -91,7 +91,7 @@ pub fn pass_or_enter<'a>(
 ) -> Went
     requires looping { Looping s.now map.now w.old p a }
     requires roomy { Roomy at out.old }
-    ensures { (v : Looping s.entry.now map.now w.old p a)
+    ensures { (v : Looping s.now map.now w.old p a)
         → Stepped (made v.asked (λ m s. while m s p (WHILE v.looped v.claim)))
         result.fault result.lines w.old w.new at out.old out.new }
 {

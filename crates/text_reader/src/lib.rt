@@ -502,7 +502,7 @@ fn done(
     level_block: &[u32; limit::DEPTH],
 ) -> Staged
     requires { Open s × Entry.Fine d × Right faulty d body.now }
-    ensures { (m : Lent) (ws : List ℕ) → Sound s (with_both m declared.old stage.old ends.entry.now
+    ensures { (m : Lent) (ws : List ℕ) → Sound s (with_both m declared.old stage.old ends.old
         blocks.old level_block.now)
         → Steps (over_limit (Machine.done (Entry.draft_of d body.now ws) (sheet_of s (with_both m declared.old
         stage.old ends.old blocks.old level_block.now)))
@@ -850,7 +850,7 @@ fn sheet_after(
 ) -> Staged
     requires fact { Open s × Entry.Fine d × (Numbers.last_of s.levels kept_size.old ≤ Numbers.ROOM) }
     requires titled { sort ≡ Sort.BODY → Titled s class_at.old known class }
-    ensures { (ws x : List ℕ) (v first : ℕ) → (sort ≡ Sort.BODY → first ≡ d.line) → Sound s (lent_of declared.entry.now class_at.old class_line.old
+    ensures { (ws x : List ℕ) (v first : ℕ) → (sort ≡ Sort.BODY → first ≡ d.line) → Sound s (lent_of declared.old class_at.old class_line.old
         stage.old ends.old blocks.old level_block.old kept_line.old
         kept_size.old kept_body.old)
         → Steps (cut_by sort (sheet_of s (lent_of declared.old class_at.old class_line.old
@@ -1016,10 +1016,10 @@ fn step<'a>(
         ends.old blocks.old level_block.old kept_line.old kept_size.old
         kept_body.old)) }
     requires kind_bound { (kind ≤ BAD) × (p ≤ e) × (e ≤ length text.now) }
-    ensures { Moves text.now (memory_of pile.old height (names_of n at.old len.entry.now key.old what.old
+    ensures { Moves text.now (memory_of pile.old height (names_of n at.old len.old key.old what.old
         number.old lacks.old) q f d
         body.old starts.old sheet (lent_of declared.old class_at.old class_line.old stage.old
-        ends.old blocks.old level_block.old kept_line.old kept_size.entry.now
+        ends.old blocks.old level_block.old kept_line.old kept_size.old
         kept_body.old))
         (record { token = token_of kind value (part_of text.now p e); place = p }) result
         (memory_of pile.new result.height (names_of result.names at.new len.new key.new what.new

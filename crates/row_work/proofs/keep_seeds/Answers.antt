@@ -7,7 +7,6 @@ use Rattle.base_numbers.specs.Limit as Limit
 use Rattle.row_work.specs.Seeds.{seeds_instead}
 use Rattle.row_work.proofs.keep_seeds.Goals as goal
 
--- src/lib.rt:52:1
 pub returns : goal.returns
 returns c = let w = c.args.w.now in
     ap (λ y. take Row.SEEDS w ++ (y ++ drop Limit.SAMPLERS (drop Row.SEEDS w))) c.copy_words.ensures
