@@ -26,7 +26,6 @@ class Contract:
     """The memories lent to a function to be written, and its clauses, with what is meant at the call written as in `requires`."""
 
     def __init__(self, head):
-        head = re.sub(r'\b(\w+)\.entry\.now', r'\1.now', re.sub('[«»]', '', head))
         takes, *clauses = re.split(r'^ +(?=requires|ensures)', head, flags=re.M)
         self.lent = LENT.findall(takes)
         self.asks, self.says = (' '.join(' '.join(clause for clause in clauses if clause.startswith(kind)).split())
