@@ -1252,6 +1252,7 @@ fn all_tokens<'a>(
 {
     let mut state = first;
     let mut place = 0;
+    // The label names the loop in its proof.
     'tokens: loop {
         let token = text_tokens::next(text, place);
         let r = turn(
