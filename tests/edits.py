@@ -34,7 +34,8 @@ says how the edits of one file are kept apart.
 ITEM = re.compile(r'^(pub )?(?:extern "C" )?(fn|const) (\w+)', re.M)
 # A function of a cycle of calls, whose proofs have one folder.
 CYCLE = re.compile(r'^#\[cycle\((\w+)\)\]\n(?:pub )?fn (\w+)', re.M)
-DASHED = r'[\w]+(?:-[\w]+)+'
+# A name of a step or a goal.
+DASHED = r'\w+(?:-\w+)+'
 # What the check says of a fact or a term, and where; and what it says where only something else was refused, or a name is missing.
 SAID = re.compile(r'^(?:note: )?(.+?):(\d+):\d+: (?:error: |(it is not proved ))(.*)$', re.M)
 BESIDE = re.compile(r'was not admitted|was rejected')
@@ -44,7 +45,7 @@ FALSE = 'allow values at which this goal is false'
 
 
 def renamed(pairs):
-    """Whether each new text is the old one but for the names of steps and goals, which have dashes."""
+    """Whether each new text is the old one but for the names of steps and goals."""
     return len(pairs) % 2 == 0 and all(re.split(DASHED, old) == re.split(DASHED, new) for old, new in zip(pairs[::2], pairs[1::2]))
 
 
