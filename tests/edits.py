@@ -36,22 +36,18 @@ ITEM = re.compile(r'^(pub )?(?:extern "C" )?(fn|const) (\w+)', re.M)
 CYCLE = re.compile(r'^#\[cycle\((\w+)\)\]\n(?:pub )?fn (\w+)', re.M)
 # A name of a step or a goal.
 DASHED = r'\w+(?:-\w+)+'
-# What the check says of a fact or a term, and where; and what it says where only something else was refused, or a name is missing.
+# What the check says of a fact or a term, and where; and what it says where only something else was refused, or a name is
+# missing.
 SAID = re.compile(r'^(?:note: )?(.+?):(\d+):\d+: (?:error: |(it is not proved ))(.*)$', re.M)
 BESIDE = re.compile(r'was not admitted|was rejected')
-MISSING = re.compile(r'has no field|is not in scope|has no `')
+MISSING = re.compile(r'has no field|is not in scope|has no `|\(nearest: ')
 # What it says of a goal without an answer, if it found values at which that is false.
 FALSE = 'allow values at which this goal is false'
 
 
-def renamed(pairs):
-    """Whether each new text is the old one but for the names of steps and goals."""
-    return len(pairs) % 2 == 0 and all(re.split(DASHED, old) == re.split(DASHED, new) for old, new in zip(pairs[::2], pairs[1::2]))
-
-
 class Edit:
-    """A paragraph: a name, what would be wrong, the file that is changed, and the texts in turn, old and new. Pairs of another file,
-    a proof of the function, only carry names along."""
+    """A paragraph: a name, what would be wrong, the file that is changed, and the texts in turn, old and new. Pairs of another
+    file, a proof of the function, only carry names along."""
 
     def __init__(self, path, text):
         first, *lines = text.split('\n')
@@ -65,9 +61,8 @@ class Edit:
                 pairs = texts.setdefault(line[6:], [])
             elif line[:4] in ('old:', 'new:'):
                 pairs.append(line[5:])
-        self.pairs = texts.pop(self.file, [])
-        carried = [it for pairs in texts.values() for it in pairs]
-        if not re.fullmatch(r'\w+', self.name) or not self.pairs or len(self.pairs) % 2 or not renamed(carried):
+        self.pairs, self.carried = texts.pop(self.file, []), texts
+        if not re.fullmatch(r'\w+', self.name) or any(not pairs or len(pairs) % 2 for pairs in (self.pairs, *texts.values())):
             sys.exit(f'{path}: not an edit: {first}')
 
     def made(self, text):
@@ -132,6 +127,11 @@ class Source:
         items = {self.item_of(old) for old in edit.pairs[::2]}
         return items - self.constants | {name for name in self.bodies if self.names[name] & items & self.constants}
 
+    def proved_in(self, file):
+        """The functions whose proof a file is part of."""
+        found = re.fullmatch(r'proofs/\+?(\w+)/\w+\.antt', file)
+        return self.cycles.get(found[1], {found[1]}) if found else set()
+
     def come_to(self, name):
         met, rest = set(), {name}
         while rest:
@@ -175,10 +175,7 @@ class Log:
 
     def functions(self, file, line, source):
         """Those that a file of the copy speaks of; an empty name for a file that speaks of none."""
-        if file == source.file:
-            return {source.item_on(line)}
-        found = re.fullmatch(r'proofs/\+?(\w+)/\w+\.antt', file)
-        return source.cycles.get(found[1], {found[1]}) if found else {''}
+        return {source.item_on(line)} if file == source.file else source.proved_in(file) or {''}
 
 
 def together(source, edits):
@@ -194,12 +191,28 @@ def together(source, edits):
     return wrong
 
 
+def carried(source, edit):
+    """Faults of the pairs that carry names along: they are of a proof of a function that the edit changes, and change names alone,
+    each to one and the same that doesn't stand there."""
+    for file, pairs in edit.carried.items():
+        olds, news = pairs[::2], pairs[1::2]
+        names = dict(both for old, new in zip(olds, news) for both in zip(re.findall(DASHED, old), re.findall(DASHED, new)))
+        changed = {old: new for old, new in names.items() if old != new}
+        standing = set(re.findall(DASHED, (ROOT / 'crates' / edit.crate / file).read_text()))
+        is_of_it = source.proved_in(file) & source.shown_in(edit)
+        is_new = len(set(changed.values()) - standing) == len(changed)
+        is_alone = [re.sub(DASHED, lambda found: names.get(found[0], found[0]), old) for old in olds] == news
+        if not (is_of_it and is_new and is_alone):
+            yield f'{edit.name}: what is carried along in {file} is more than names'
+
+
 def refused(source, edits, said):
     """Faults of the edits of one file as they were tried: those that were not refused for themselves."""
     log = Log(said, source)
     if len(edits) == 1 and (edits[0].file != source.file or not source.in_code(edits[0])):
         return [] if log.refused else [f'{edits[0].name}: refused at no fact']
-    return [f'{edit.name}: not refused in its own proof, or not at a fact' for edit in edits if not log.refused & source.shown_in(edit)]
+    return [f'{edit.name}: not refused in its own proof, or not at a fact' for edit in edits
+            if not log.refused & source.shown_in(edit)]
 
 
 def rows():
@@ -221,6 +234,7 @@ def few(source, told):
 def faults(crate, source, told, tried):
     for name in sorted({edit.tried for edit, _ in told}):
         edits = [edit for edit, _ in told if edit.tried == name]
+        yield from (fault for edit in edits for fault in carried(source, edit))
         yield from together(source, edits) or refused(source, edits, tried.log(crate, name))
 
 
@@ -244,6 +258,8 @@ def main(words):
     if words == ['write']:
         PAPER.write_text(paper(table))
         return
+    for name in set(words) - {row[0] for row in table}:
+        sys.exit(f'no crate {name}')
     if PAPER.read_text() != paper(table):
         sys.exit('docs/EDITS.md is not up to date: python3 -B tests/edits.py write')
     wrong = [f'{crate}: {fault}' for crate, source, told in table for fault in few(source, told)]
@@ -252,7 +268,7 @@ def main(words):
     wrong += tried.bad + [f'{crate}: {fault}' for crate, source, told in wanted for fault in faults(crate, source, told, tried)]
     if wrong:
         sys.exit('\n'.join(wrong))
-    print(f'{sum(len(told) for _, _, told in wanted)} must-fail edits in {tried.files} files, each refused for itself; {tried.tried} '
+    print(sum(len(told) for _, _, told in wanted), 'must-fail edits in', tried.files, 'files, each refused for itself;', tried.tried,
           'files were tried in this run, the others earlier on this machine, with all that they rest on as it is now')
 
 

@@ -1,9 +1,9 @@
-"""What the check says of each must-fail edit. `rt ci` tries them all, but tells one line of what the check says; here each is tried by
-the toolchain's own code once more, and all that is said is kept, for tests/edits.py to judge.
+"""What the check says of each must-fail edit. `rt ci` tries them all, but tells one line of what the check says; here each is
+tried by the toolchain's own code once more, and all that is said is kept, for tests/edits.py to judge.
 
-A log is kept under the sum of all that it rests on: the toolchain, the edit, its crate, and the crates below. So what was tried on this
-machine is not tried again until one of those changes, as with `rt ci`. Logs are in the user's cache folder: $XDG_CACHE_HOME, or
-~/.cache.
+A log is kept under the sum of all that it rests on: the toolchain, the edit, its crate, and the crates below. So what was tried on
+this machine is not tried again until one of those changes, as with `rt ci`. Logs are in the user's cache folder:
+$XDG_CACHE_HOME, or ~/.cache.
 """
 import concurrent.futures
 import hashlib
@@ -49,14 +49,17 @@ class Tries:
         stamps, todo = {}, []
         for crate in self.rt.rtlib.crates_below(str(ROOT)):
             for path in self.rt.edits_of(crate)[0] if crate.name in crates else []:
-                name, stamp = pathlib.Path(path).stem, self.rt.stamp_of(crate, stamps)
-                edit = pathlib.Path(path).read_bytes()
-                log = KEPT / hashlib.sha256(repr((stamp, name, edit)).encode()).hexdigest()
-                self.logs[crate.name, name] = log
+                log = self.kept(crate, path, stamps)
+                self.logs[crate.name, pathlib.Path(path).stem] = log
                 if not log.exists():
                     todo.append((crate, path, log))
         self.tried, self.files = len(todo), len(self.logs)
         self.make(todo)
+
+    def kept(self, crate, path, stamps):
+        """Where the log of an edit is kept, with all that it rests on as it is now."""
+        path = pathlib.Path(path)
+        return KEPT / hashlib.sha256(repr((self.rt.stamp_of(crate, stamps), path.stem, path.read_bytes())).encode()).hexdigest()
 
     def listen(self):
         """Keeps what each check says, by the thread that runs it."""
@@ -90,10 +93,12 @@ class Tries:
         print(told, flush=True)
         if kind not in (self.rt.REFUSED, self.rt.AT_LIMIT):
             self.bad.append(f'{crate.name}: {pathlib.Path(path).stem}: not refused')
-            return
-        with tempfile.NamedTemporaryFile('w', dir=KEPT, delete=False) as made:
-            made.write(self.said.text)
-        os.replace(made.name, log)
+        elif self.kept(crate, path, {}) != log:
+            self.bad.append(f'{crate.name}: {pathlib.Path(path).stem}: a file that it rests on moved meanwhile')
+        else:
+            with tempfile.NamedTemporaryFile('w', dir=KEPT, delete=False) as made:
+                made.write(self.said.text)
+            os.replace(made.name, log)
 
     def log(self, crate, name):
         """What the check said; empty where it did not refuse."""
