@@ -1,7 +1,7 @@
 // From the bytes of a text to its tokens, one at a call (docs/TEXT.md, section 2).
 #![tactic(auto)]
 
-ghost use Rattle.std.specs.Prelude.{◌≡◌, true, ◌+◌, ◌*◌, ◌-◌, ◌≤◌, ◌<◌, min, length, get_or};
+ghost use Rattle.std.specs.Prelude.{◌≡◌, ℕ, true, unwrap_or, ◌+◌, ◌*◌, ◌-◌, ◌≤◌, ◌<◌, min, length, get_or};
 ghost use Rattle.semantics.specs.Words.{all};
 ghost use Rattle.text_semantics.specs.Numbers as No;
 ghost use Rattle.text_semantics.specs.Lexing.{ZERO, BASE, is_digit, is_word, is_break, is_blank};
@@ -36,13 +36,13 @@ const BEYOND: u32 = 4294967295;
 fn is_digit(b: u8) -> bool
     ensures { result ≡ is_digit b }
 {
-    (b'0' <= b) & (b <= b'9')
+    b.is_ascii_digit()
 }
 
 fn is_word(b: u8) -> bool
     ensures { result ≡ is_word b }
 {
-    is_digit(b) | (((b'A' <= b) & (b <= b'Z')) | ((b'a' <= b) & (b <= b'z')))
+    b.is_ascii_alphanumeric()
 }
 
 fn is_break(b: u8) -> bool
@@ -77,17 +77,15 @@ fn begin(text: &[u8], at: usize) -> usize
     requires { at ≤ length text.now }
     ensures { Begins text.now at result }
 {
-    let mut i = at;
     let mut comment = false;
-    while i < text.len() {
+    for i in at..text.len() {
         let b = text[i];
         if !passed(comment, b) {
             return i;
         }
         comment = commented(comment, b);
-        i += 1;
     }
-    i
+    text.len()
 }
 
 // ---- words
@@ -105,11 +103,8 @@ fn grown(n: u32, b: u8) -> u32
     requires { ZERO ≤ b }
     ensures { result ≡ min No.beyond (BASE * n + (b - ZERO)) }
 {
-    let next = BASE * base_wide::wide(n) + base_wide::wide(base_wide::wide_byte(b - b'0'));
-    if next < (BEYOND as u64) {
-        return next as u32;
-    }
-    BEYOND
+    let next = BASE * u64::from(n) + u64::from(b - b'0');
+    next.min(u64::from(BEYOND)) as u32
 }
 
 // One pass over a word, which may be as long as the text.
@@ -117,19 +112,21 @@ fn word_at(text: &[u8], at: usize) -> Word
     requires { at ≤ length text.now }
     ensures { WordAt text.now at result }
 {
-    let mut end = at;
     let mut digits = true;
     let mut value = 0;
-    while end < text.len() {
+    for end in at..text.len() {
         let b = text[end];
         if !is_word(b) {
             return Word { end, digits, value };
         }
         digits = digits & is_digit(b);
         value = grown(value, b);
-        end += 1;
     }
-    Word { end, digits, value }
+    Word {
+        end: text.len(),
+        digits,
+        value,
+    }
 }
 
 // What each keyword and each sign of one byte that begins no longer one is packed to, in the order of their marks.
@@ -194,10 +191,8 @@ fn packed(text: &[u8], at: usize, end: usize) -> u64
     ensures { result ≡ pack (part at end text.now) }
 {
     let mut key = 0;
-    let mut i = end;
-    while at < i {
-        i -= 1;
-        key = BYTE * key + base_wide::wide(base_wide::wide_byte(text[i]));
+    for i in (at..end).rev() {
+        key = BYTE * key + u64::from(text[i]);
     }
     key
 }
@@ -209,19 +204,17 @@ fn spelling(k: usize) -> u64
     SPELLINGS[k]
 }
 
-// The first mark from `from` to just before `to` that is spelled so; `other` where there is none.
-fn find(key: u64, from: usize, to: usize, other: u8) -> u8
+// The first mark from `from` to just before `to` that is spelled so.
+fn find(key: u64, from: usize, to: usize) -> Option<u8>
     requires { (from ≤ to) × (to ≤ SPELLED) }
-    ensures { result ≡ found from other (part from to spellings) key }
+    ensures { (other : ℕ) → unwrap_or result other ≡ found from other (part from to spellings) key }
 {
-    let mut k = from;
-    while k < to {
+    for k in from..to {
         if key == spelling(k) {
-            return k as u8;
+            return Some(k as u8);
         }
-        k += 1;
     }
-    other
+    None
 }
 
 // The kind of the word from place to end, which is not all digits.
@@ -236,7 +229,7 @@ fn word_kind(text: &[u8], place: usize, end: usize) -> u8
     if LONGEST_KEYWORD < size {
         return mark::NAME;
     }
-    find(packed(text, place, end), 0, KEYWORDS, mark::NAME)
+    find(packed(text, place, end), 0, KEYWORDS).unwrap_or(mark::NAME)
 }
 
 // The token that begins with a letter or a digit.
@@ -265,50 +258,36 @@ fn word_token(text: &[u8], place: usize) -> Token
 // ---- signs
 
 // The sign of two bytes that these are, or no token.
+#[tactic(auto, unfolding(crate::specs::Parts::double_of))]
 fn double(b: u8, next: u8) -> u8
     ensures { result ≡ double_of b next }
 {
-    if (b == b':') & (next == b'=') {
-        return mark::BECOMES;
+    match (b, next) {
+        (b':', b'=') => mark::BECOMES,
+        (b'<', b'=') => mark::LE,
+        (b'<', b'>') => mark::NE,
+        (b'>', b'=') => mark::GE,
+        _ => mark::BAD,
     }
-    if (b == b'<') & (next == b'=') {
-        return mark::LE;
-    }
-    if (b == b'<') & (next == b'>') {
-        return mark::NE;
-    }
-    if (b == b'>') & (next == b'=') {
-        return mark::GE;
-    }
-    mark::BAD
 }
 
 // The sign of one byte that this is, or no token.
+#[tactic(auto, unfolding(crate::specs::Parts::single_of))]
 fn single(b: u8) -> u8
     ensures { result ≡ single_of b }
 {
-    if b == b'<' {
-        return mark::LT;
+    match b {
+        b'<' => mark::LT,
+        b'>' => mark::GT,
+        _ => find(u64::from(b), KEYWORDS, SPELLED).unwrap_or(mark::BAD),
     }
-    if b == b'>' {
-        return mark::GT;
-    }
-    find(
-        base_wide::wide(base_wide::wide_byte(b)),
-        KEYWORDS,
-        SPELLED,
-        mark::BAD,
-    )
 }
 
 // The byte at `at`; behind the end 0, which continues no sign.
 fn byte_at(text: &[u8], at: usize) -> u8
     ensures { result ≡ get_or text.now at 0 }
 {
-    if at < text.len() {
-        return text[at];
-    }
-    0
+    text.get(at).copied().unwrap_or(0)
 }
 
 // The token that begins with another byte.

@@ -1,6 +1,8 @@
 -- `text_tokens::begin` meets its contract: what is told from `at` on is told from each byte on that is passed. Assumes nothing.
-use mathlib.Core.Path.{refl, sym, ◌∙◌}
+use mathlib.Core.Path.{◌≡◌, refl, sym, ◌∙◌}
 use native.Mathlib.Omega.{arith}
+use lib.ListN.{length}
+use Rattle.text_tokens.specs.Parts.{Begins}
 use Rattle.text_tokens.proofs.Turns.{passing_on, passing_stops, passing_ends}
 use Rattle.text_tokens.proofs.begin.Goals as goal
 
@@ -17,4 +19,7 @@ loop-i-preserved c = let l = c.loop-i in
     (sym c.passed.ensures ∙ c.if-not-passed.false))
 
 pub returns : goal.returns
-returns c = passing_ends c.loop-i.invariant (omega arith)
+returns c = let l = c.loop-i in
+    let all : l.i ≡ length c.args.text.now = omega (arith, l.invariant.within) in
+    let ends : Begins c.args.text.now c.args.at l.i = passing_ends l.invariant (omega arith) in
+    rw all at ends

@@ -1,5 +1,6 @@
 -- `text_tokens::packed` meets its contract: the key is that of the bytes from i on. Assumes nothing.
 use mathlib.Core.Path.{◌≡◌, ◌∙◌, ap}
+use Prim.Native.Nat.{◌-◌}
 use native.Mathlib.Omega.{arith}
 use Rattle.text_tokens.specs.Next.{part}
 use Rattle.text_tokens.specs.Parts.{pack}
@@ -23,9 +24,8 @@ overflow_add-key c = let o = c.requires in
 pub loop-i-preserved : goal.loop-i-preserved
 loop-i-preserved c = let o = c.requires in
     let l = c.loop-i in
-    pack_on l.invariant c.wide.result c.loop-i-test.true o.1
-    (c.wide.ensures.0 ∙ c.wide_byte.ensures.0)
-    (omega (arith, c.wide.ensures.0, c.wide_byte.ensures.1))
+    pack_on l.invariant c.from.result c.loop-i-test.true o.1 c.from.ensures
+    (omega (arith, c.from.ensures, c.type_inv.text (l.i - 1)))
 
 pub returns : goal.returns
 returns c = let l = c.loop-i in

@@ -1,8 +1,9 @@
 -- `text_tokens::word_at` meets its contract: what is told of the word so far. Assumes nothing.
-use mathlib.Core.Path.{sym, ◌∙◌, ap}
+use mathlib.Core.Path.{◌≡◌, sym, ◌∙◌, ap}
 use native.Mathlib.Omega.{arith}
-use lib.ListN.{get_or-eq_default}
+use lib.ListN.{length, get_or-eq_default}
 use Rattle.text_semantics.specs.Lexing.{is_word}
+use Rattle.text_tokens.specs.Parts.{WordAt}
 use Rattle.text_tokens.specs.Tests.{word_byte}
 use Rattle.text_tokens.proofs.Turns.{run_begins, runs_on, run_stops}
 use Rattle.text_tokens.proofs.word_at.Goals as goal
@@ -24,5 +25,8 @@ loop-end-preserved c = let l = c.loop-end in
     (sym c.is_word.ensures ∙ c.if-not-is_word.false))
 
 pub returns : goal.returns
-returns c = run_stops c.loop-end.invariant
-    (ap is_word (get_or-eq_default c.args.text.now 0 (omega arith)))
+returns c = let l = c.loop-end in
+    let all : l.end ≡ length c.args.text.now = omega (arith, l.invariant.within) in
+    let stops : WordAt c.args.text.now c.args.at (record { end = l.end; digits = l.digits; value = l.value })
+    = run_stops l.invariant (ap is_word (get_or-eq_default c.args.text.now 0 (omega arith))) in
+    rw all at stops

@@ -27,5 +27,5 @@ packed-requires c = (c.requires.0, c.requires.1, omega (arith, c.if-size-gt-LONG
 pub returns : goal.returns
 returns c = let a = c.args in
     let n = part_length a.text.now a.place a.end c.requires.1 in
-    c.find.ensures ∙ ap (found 0 NAME (part 0 K.LP spellings)) c.packed.ensures
+    c.unwrap_or.ensures ∙ c.find.ensures NAME ∙ ap (found 0 NAME (part 0 K.LP spellings)) c.packed.ensures
     ∙ kind_short _ c.requires.2 (omega (arith, n, c.if-size-gt-LONGEST_NAME.false))
