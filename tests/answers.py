@@ -11,10 +11,12 @@ import sys
 
 ROOT = pathlib.Path(__file__).resolve().parent.parent
 PAPER = ROOT / 'docs' / 'ANSWERS.md'
-ROW = re.compile(r'^\| `(\w+::\w+)` \| (.*) \| (.*) \| (.*) \|$', re.M)
-# A function up to its body: its parameters and what it answers, then its clauses.
-HEAD = re.compile(r'^( *)pub (?:extern "C" )?fn (\w+)(.*?)^\1\{', re.M | re.S)
-LENT = re.compile(r"(\w+): &(?:'\w+ )?mut ")
+ROW = re.compile(r'^\| `(\w+(?:::\w+)+)` \| (.*) \| (.*) \| (.*) \|$', re.M)
+# A function up to its body: its parameters and what it answers, then its clauses. One of a trait has no `pub` and may have no body.
+HEAD = re.compile(r'^( *)(pub )?(?:extern "C" )?fn (\w+)(.*?)(?:^\1\{|(?<= \});$)', re.M | re.S)
+# Where the methods of a type or of a public trait stand.
+HOLDER = re.compile(r'^(?:impl(?:<.*?>)? (?:[\w:]+(?:<.*?>)? for )?|(pub )trait )(\w+).*?^\}', re.M | re.S)
+LENT = re.compile(r"(\w+): &(?:'\w+ )?mut |&(?:'\w+ )?mut (self)\b")
 CODE = re.compile(r'`([^`]+)`')
 # What is short for "given what the `requires` asks for", and that.
 SHORT = {'Done': 'Doing', 'PutBack': 'PuttingBack'}
@@ -27,7 +29,7 @@ class Contract:
 
     def __init__(self, head):
         takes, *clauses = re.split(r'^ +(?=requires|ensures)', head, flags=re.M)
-        self.lent = LENT.findall(takes)
+        self.lent = [one or other for one, other in LENT.findall(takes)]
         self.asks, self.says = (' '.join(' '.join(clause for clause in clauses if clause.startswith(kind)).split())
                                 for kind in ('requires', 'ensures'))
 
@@ -44,8 +46,13 @@ class Contract:
 
 def contracts():
     for path in sorted((ROOT / 'crates').glob('*/src/**/*.rt')):
-        for _, name, head in HEAD.findall(path.read_text()):
-            yield f'{path.relative_to(ROOT).parts[1]}::{name}', Contract(head)
+        text = path.read_text()
+        holders = [(m.start(), m.end(), m[1], m[2]) for m in HOLDER.finditer(text)]
+        for m in HEAD.finditer(text):
+            within = [(trait, holder) for start, end, trait, holder in holders if start < m.start() < end]
+            if m[2] or any(trait for trait, _ in within):
+                name = '::'.join([path.relative_to(ROOT).parts[1]] + [holder for _, holder in within] + [m[3]])
+                yield name, Contract(m[4])
 
 
 def stands(law, files):

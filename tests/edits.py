@@ -31,9 +31,12 @@ proof of each function whose code was edited, at a fact; or, of an edited contra
 function has two or more. `python3 -B tests/edits.py write` writes this page from `crates/*/must-fail`; the head of that script
 says how the edits of one file are kept apart.
 '''
-ITEM = re.compile(r'^(pub )?(?:extern "C" )?(fn|const) (\w+)', re.M)
-# A function of a cycle of calls, whose proofs have one folder.
-CYCLE = re.compile(r'^#\[cycle\((\w+)\)\]\n(?:pub )?fn (\w+)', re.M)
+# A function, a method or a constant, with the attributes above it.
+ITEM = re.compile(r'^((?: *#\[[^\[\]]*\]\n)*) *(pub )?(?:extern "C" )?(fn|const) (\w+)', re.M)
+# Where the methods of a type or of a trait stand: they are called TYPE::NAME here.
+HOLDER = re.compile(r'^(?:impl(?:<.*?>)? (?:[\w:]+(?:<.*?>)? for )?|(?:pub )?trait )(\w+).*?^\}', re.M | re.S)
+# The name of a cycle of calls, whose proofs have one folder.
+CYCLE = re.compile(r'#\[cycle\((\w+)\)\]')
 # A name of a step or a goal.
 DASHED = r'\w+(?:-\w+)+'
 # What the check says of a fact or a term, and where; and what it says where only something else was refused, or a name is
@@ -85,8 +88,10 @@ def crates():
 
 
 def uses(body, name):
-    """Whether a body calls a function of its crate, or names a constant of it."""
-    return re.search(r'(?<![:.\w])%s%s' % (name, r'\b' if name.isupper() else r'\('), body)
+    """Whether a body calls a function of its crate, or names a constant of it. A method goes by its name, whatever it is called on."""
+    holder, _, name = name.rpartition('::')
+    before = rf'(?:\.|\bSelf::|\b{holder}::)' if holder else r'(?<![:.\w])'
+    return re.search(before + name + (r'\b' if name.isupper() else r'(?:::<.*?>)?\('), body)
 
 
 class Source:
@@ -96,13 +101,17 @@ class Source:
         folder = ROOT / 'crates' / crate
         self.file = PROGRAM if (folder / PROGRAM).exists() else SOURCE
         self.text = (folder / self.file).read_text() if (folder / self.file).exists() else ''
-        found = list(ITEM.finditer(self.text))
-        self.items = [(m.start(), m[3]) for m in found]
-        self.public = {m[3] for m in found if m[1]}
-        self.constants = {m[3] for m in found if m[2] == 'const'}
-        self.cycles = {}
-        for cycle, name in CYCLE.findall(self.text):
-            self.cycles.setdefault(cycle, set()).add(name)
+        holders = [(m.start(), m.end(), m[1]) for m in HOLDER.finditer(self.text)]
+        self.items, self.public, self.constants, self.cycles = [], set(), set(), {}
+        for m in ITEM.finditer(self.text):
+            name = '::'.join([holder for start, end, holder in holders if start < m.start() < end] + [m[4]])
+            self.items.append((m.start(), name))
+            if m[2]:
+                self.public.add(name)
+            if m[3] == 'const':
+                self.constants.add(name)
+            for cycle in CYCLE.findall(m[1]):
+                self.cycles.setdefault(cycle, set()).add(name)
         ends = [start for start, _ in self.items[1:]] + [len(self.text)]
         self.bodies = {name: self.text[start:end] for (start, name), end in zip(self.items, ends)}
         self.names = {name: {other for other in self.bodies if other != name and uses(re.sub(r'//.*', '', body), other)}
@@ -119,8 +128,12 @@ class Source:
 
     def in_code(self, edit):
         """Whether all that it changes is code, and no contract."""
-        bodies = [(self.bodies[self.item_of(old)], old) for old in edit.pairs[::2]]
-        return all(old in body[body.find('\n{'):] or '\n{' not in body for body, old in bodies)
+        for old in edit.pairs[::2]:
+            body = self.bodies[self.item_of(old)]
+            begun = re.search(r'^ *\{$', body, re.M)
+            if begun and old not in body[begun.start():]:
+                return False
+        return True
 
     def shown_in(self, edit):
         """The functions whose own proofs an edit of code must break: those that it changes, or that name what it changes."""
@@ -129,8 +142,9 @@ class Source:
 
     def proved_in(self, file):
         """The functions whose proof a file is part of."""
-        found = re.fullmatch(r'proofs/\+?(\w+)/\w+\.antt', file)
-        return self.cycles.get(found[1], {found[1]}) if found else set()
+        found = re.fullmatch(r'proofs/\+?([\w/]+)/\w+\.antt', file)
+        name = found[1].replace('/', '::') if found else ''
+        return self.cycles.get(name, {name}) if found else set()
 
     def come_to(self, name):
         met, rest = set(), {name}
