@@ -8,7 +8,7 @@ ghost use Rattle.run_limit.specs.Ran.{answer_of};
 ghost use Rattle.plan_text.specs.Text.{ascii, line_text, lines_text};
 ghost use Rattle.plan_text.specs.Text.{answer_text, bound_text, end_text, refused_text};
 ghost use Rattle.plan_text.specs.Tells.{tell_in, tells_in};
-ghost use Rattle.plan_text.specs.Told.{bound_told};
+ghost use Rattle.plan_text.specs.Told.{bound_as};
 ghost use Rattle.plan_text.specs.Width as Width;
 
 use arrayvec::ArrayString;
@@ -23,7 +23,7 @@ pub const REFUSAL: usize = 43;
 
 // The bound of a model that is not refused.
 #[derive(Clone, Copy)]
-pub enum Bound {
+pub enum Bounded {
     None,
     Over,
     At(u32),
@@ -88,20 +88,20 @@ fn push_answer<const N: usize>(text: &mut ArrayString<N>, answer: Answer)
 }
 
 // Puts the bound and the end of the line behind the text.
-fn push_bound<const N: usize>(text: &mut ArrayString<N>, bound: Bound)
+fn push_bound<const N: usize>(text: &mut ArrayString<N>, bound: Bounded)
     requires { array_string_len text.old + Width.FIELD ≤ N }
-    ensures { text.new.bytes ≡ text.old.bytes ++ (bound_text (bound_told bound) ++ ascii "\n") }
+    ensures { text.new.bytes ≡ text.old.bytes ++ (bound_text (bound_as bound) ++ ascii "\n") }
 {
     match bound {
-        Bound::None => text.push_str("none\n"),
-        Bound::Over => text.push_str("over\n"),
-        Bound::At(number) => push_number(text, number, "\n"),
+        Bounded::None => text.push_str("none\n"),
+        Bounded::Over => text.push_str("over\n"),
+        Bounded::At(number) => push_number(text, number, "\n"),
     }
 }
 
 // The last line.
-pub fn ending(answer: Answer, steps: u32, bound: Bound) -> ArrayString<ENDING>
-    ensures { result.bytes ≡ end_text (answer_of answer) steps (bound_told bound) }
+pub fn ending(answer: Answer, steps: u32, bound: Bounded) -> ArrayString<ENDING>
+    ensures { result.bytes ≡ end_text (answer_of answer) steps (bound_as bound) }
 {
     let mut text = ArrayString::new();
     push_answer(&mut text, answer);
