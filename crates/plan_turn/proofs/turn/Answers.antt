@@ -1,14 +1,17 @@
 -- `plan_turn::turn` meets its contract: its lines fit, and are those of the run. Assumes nothing.
-use Rattle.std.proofs.Common.{length, arith, ap}
+use Rattle.std.proofs.Common.{length, arith, ap, rules}
 use Rattle.plan_text.specs.Writable.{run_writable}
 use Rattle.plan_turn.proofs.Turned.{fits_journal, fits_text, answered}
 use Rattle.plan_turn.proofs.turn.Goals as goal
 
 pub lines-requires : goal.lines-requires
-lines-requires g c = let t = c.run-ran.ensures c.requires.fact in record {
-  n_in_bounds = fits_journal c.requires.fact _ _ t c.journal-1.given;
-  n_in_bounds_2 = omega (arith, ap length c.clear.ensures, fits_text c.requires.fact _ _ t c.requires.journal_in_bounds);
-}
+lines-requires g c = let t = c.run-ran.ensures c.requires.fact in (
+  search rules,
+  (
+    fits_journal c.requires.fact _ _ t (search rules),
+    omega (arith, ap length c.clear.ensures, fits_text c.requires.fact _ _ t c.requires.journal_in_bounds),
+  ),
+)
 
 pub returns : goal.returns
 returns g c = λ v.
