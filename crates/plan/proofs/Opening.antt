@@ -17,10 +17,8 @@ use Rattle.semantics.specs.State.{fresh}
 use Rattle.semantics.specs.Decode.{Checked, refused, accepted, if_accepted, decode}
 use Rattle.semantics.specs.Model.{Model}
 use Rattle.semantics.specs.Run.{Answer, CLOSED, IDLE, LIMIT, FAULT}
-use Rattle.semantics.specs.Bound.{Bounded, NONE, OVER, AT, bound_is}
+use Rattle.semantics.specs.Bound.{Bounded, NONE, bound_is}
 use Rattle.semantics.specs.Desk.{bound_file}
-use Rattle.file_bound.specs.Answer.{bounded_of}
-use Rattle.file_bound.specs.declared.Bounded.{Bounded as Told}
 use Rattle.promises.specs.Laws.{and-true}
 use Rattle.base_numbers.specs.Row as Row
 use Rattle.file_index.specs.Index.{Readable}
@@ -36,50 +34,37 @@ use Rattle.run_file.proofs.Says.{all_bytes}
 use Rattle.plan.specs.Given.{Accepted, is_limit}
 use Rattle.plan.specs.Room.{TURN}
 
--- The bound as it is told by `file_bound` is the bound as it is told here.
-from_word : Told → Checked Bounded
-from_word (Told.Refused n p) = refused n p
-from_word Told.None = accepted NONE
-from_word Told.Over = accepted OVER
-from_word (Told.At n) = accepted (AT n)
-
-from_told : (x : Checked Bounded) → from_word (bounded_of x) ≡ x
-from_told (refused n p) = refl
-from_told (accepted NONE) = refl
-from_told (accepted OVER) = refl
-from_told (accepted (AT n)) = refl
-
-pub told_again : {bs : List ℕ} (t : Told) {r : Told} → t ≡ r → r ≡ bounded_of (bound_file bs) → from_word t ≡ bound_file bs
-told_again {bs} t e f = ap from_word (e ∙ f) ∙ from_told (bound_file bs)
-
--- A file that has a bound is accepted, and that is its model's; one that has a refusal is refused.
-bound_in : Checked Bounded → Bounded
+-- A file that has a bound is accepted, and the bound is its model's; one that has a refusal is refused.
+abbrev bound_in : Checked Bounded → Bounded
 bound_in (refused n p) = NONE
 bound_in (accepted b) = b
 
-refusal_in : Checked Bounded → ℕ × ℕ
-refusal_in (refused n p) = (n, p)
-refusal_in (accepted b) = (0, 0)
+abbrev refusal_in : Checked Bounded → Checked Model
+refusal_in (refused n p) = refused n p
+refusal_in (accepted b) = refused 0 0
 
-passes_in : Checked Bounded → ℕ
+abbrev passes_in : Checked Bounded → ℕ
 passes_in (refused n p) = 0
 passes_in (accepted b) = 1
 
-pub has_bound : (bs : List ℕ) (b : Bounded) → accepted b ≡ bound_file bs → (a : Accepted bs) × (b ≡ bound_is a.model)
+pub is_accepted : (bs : List ℕ) (b : Bounded) → accepted b ≡ bound_file bs → Accepted bs
 unfolding bound_file
-has_bound bs b e = go (decode bs) refl e
+is_accepted bs b e = go (decode bs) refl e
   where
-    go : (q : Checked Model) → decode bs ≡ q → accepted b ≡ (if_accepted q λ m. accepted (bound_is m))
-        → (a : Accepted bs) × (b ≡ bound_is a.model)
+    go : (q : Checked Model) → decode bs ≡ q → accepted b ≡ (if_accepted q λ m. accepted (bound_is m)) → Accepted bs
     go (refused n p) d e = let z : ◌≡◌ {A = ℕ} 1 0 = ap passes_in e in absurd (omega arith)
-    go (accepted m) d e = (record { model = m; passes = d }, ap bound_in e)
+    go (accepted m) d e = record { model = m; passes = d }
+
+pub the_bound : (bs : List ℕ) (b : Bounded) (m : Model) → accepted b ≡ bound_file bs → decode bs ≡ accepted m → b ≡ bound_is m
+unfolding bound_file
+the_bound bs b m e d = ap bound_in e ∙ ap (λ q. bound_in (if_accepted q λ m. accepted (bound_is m))) d
 
 pub has_refusal : (bs : List ℕ) (n p : ℕ) → refused n p ≡ bound_file bs → decode bs ≡ refused n p
 unfolding bound_file
 has_refusal bs n p e = go (decode bs) e
   where
     go : (q : Checked Model) → refused n p ≡ (if_accepted q λ m. accepted (bound_is m)) → q ≡ refused n p
-    go (refused k l) e = sym (ap (λ x. refused {A = Model} (refusal_in x).0 (refusal_in x).1) e)
+    go (refused k l) e = sym (ap refusal_in e)
     go (accepted m) e = let z : ◌≡◌ {A = ℕ} 0 1 = ap passes_in e in absurd (omega arith)
 
 module _ {bs : List ℕ} (a : Accepted bs) where
