@@ -1,22 +1,24 @@
--- The fresh run of an accepted file is open, and the turns of a run come to an end. Assumes nothing.
+-- A file is refused or has a bound; the fresh run of an accepted file is open, and the turns of a run come to an end. Assumes nothing.
 use Rattle.std.specs.Prelude.{if◌then◌else◌}
+use Rattle.std.proofs.lemmas.Bool.{false≢true}
 use Prim.Native.Nat.{ℕ, ◌+◌, ◌-◌, ◌<◌, min}
 use native.Mathlib.Omega.{arith}
-use mathlib.Core.Path.{◌≡◌, refl}
+use mathlib.Core.Path.{◌≡◌, refl, sym, ap, ◌∙◌}
 use mathlib.Core.List.{List}
 use mathlib.Core.Bool.{Bool, true, false, ◌&&◌}
-use borrow.Author.Tests.{eqb-true, ltb-true}
-use lib.Dec.{eqb, ltb}
+use borrow.Author.Tests.{ltb-true}
+use lib.Dec.{ltb}
 use mir.Syntax.{w8}
 use mir.Val.{Fits}
 use lib.ListN.{get_or, replicate}
 use Rattle.semantics.specs.Numbers as No
 use Rattle.semantics.specs.Bytes.{records_from}
 use Rattle.semantics.specs.State.{fresh}
-use Rattle.semantics.specs.Decode.{decode}
-use Rattle.file_check.specs.Check.{refusal_of}
-use Rattle.file_check.specs.declared.Refusal.{Refusal}
-use Rattle.file_check.proofs.Answer.{accepts}
+use Rattle.semantics.specs.Decode.{Checked, refused, accepted, if_accepted, decode}
+use Rattle.semantics.specs.Model.{Model}
+use Rattle.semantics.specs.Run.{Answer, CLOSED, IDLE, LIMIT, FAULT}
+use Rattle.semantics.specs.Bound.{Bounded, NONE, bound_is}
+use Rattle.semantics.specs.Desk.{bound_file}
 use Rattle.promises.specs.Laws.{and-true}
 use Rattle.base_numbers.specs.Row as Row
 use Rattle.file_index.specs.Index.{Readable}
@@ -29,12 +31,41 @@ use Rattle.run_fresh.specs.Fresh.{Loaded}
 use Rattle.act_floor.specs.Acting.{Open}
 use Rattle.act_floor.proofs.Fresh.{fresh_open}
 use Rattle.run_file.proofs.Says.{all_bytes}
-use Rattle.plan.specs.Given.{Accepted}
+use Rattle.plan.specs.Given.{Accepted, is_limit}
 use Rattle.plan.specs.Room.{TURN}
 
--- A file that the check doesn't refuse is accepted.
-pub accepted_as : {bs : List ℕ} (r : Refusal) → r ≡ refusal_of (decode bs) → r.number ≡ 0 → Accepted bs
-accepted_as {bs} r e z = let a = accepts bs r e z in record { model = a.0; passes = a.1 }
+-- A file that has a bound is accepted, and the bound is its model's; one that has a refusal is refused.
+abbrev bound_in : Checked Bounded → Bounded
+bound_in (refused n p) = NONE
+bound_in (accepted b) = b
+
+abbrev refusal_in : Checked Bounded → Checked Model
+refusal_in (refused n p) = refused n p
+refusal_in (accepted b) = refused 0 0
+
+abbrev passes_in : Checked Bounded → ℕ
+passes_in (refused n p) = 0
+passes_in (accepted b) = 1
+
+pub is_accepted : (bs : List ℕ) (b : Bounded) → accepted b ≡ bound_file bs → Accepted bs
+unfolding bound_file
+is_accepted bs b e = go (decode bs) refl e
+  where
+    go : (q : Checked Model) → decode bs ≡ q → accepted b ≡ (if_accepted q λ m. accepted (bound_is m)) → Accepted bs
+    go (refused n p) d e = let z : ◌≡◌ {A = ℕ} 1 0 = ap passes_in e in absurd (omega arith)
+    go (accepted m) d e = record { model = m; passes = d }
+
+pub the_bound : (bs : List ℕ) (b : Bounded) (m : Model) → accepted b ≡ bound_file bs → decode bs ≡ accepted m → b ≡ bound_is m
+unfolding bound_file
+the_bound bs b m e d = ap bound_in e ∙ ap (λ q. bound_in (if_accepted q λ m. accepted (bound_is m))) d
+
+pub has_refusal : (bs : List ℕ) (n p : ℕ) → refused n p ≡ bound_file bs → decode bs ≡ refused n p
+unfolding bound_file
+has_refusal bs n p e = go (decode bs) e
+  where
+    go : (q : Checked Model) → refused n p ≡ (if_accepted q λ m. accepted (bound_is m)) → q ≡ refused n p
+    go (refused k l) e = sym (ap refusal_in e)
+    go (accepted m) e = let z : ◌≡◌ {A = ℕ} 0 1 = ap passes_in e in absurd (omega arith)
 
 module _ {bs : List ℕ} (a : Accepted bs) where
   pub reads : Readable bs
@@ -56,20 +87,26 @@ module _ {bs : List ℕ} (a : Accepted bs) where
         let o = begun in
         record { run = in_state o.run (fresh a.model) (g loaded); mapped = maps; sound = o.sound }
 
--- A turn that answers LIMIT, which is 2, has made all its steps; so what is left of a million steps falls.
-abbrev pub left_of : (answer steps : ℕ) → ℕ
-left_of a n = (if eqb a 2 then 1 else 0) + (No.plan_steps - n)
+-- A turn that answers LIMIT has made all its steps; so what is left of a million steps falls.
+abbrev pub left_of : (answer : Answer) (steps : ℕ) → ℕ
+left_of a n = (if is_limit a then 1 else 0) + (No.plan_steps - n)
 
-pub falls : (a b n k : ℕ) → eqb a 2 && ltb n No.plan_steps ≡ true → (b ≡ 2 → k ≡ min (No.plan_steps - n) TURN)
-    → left_of b (n + k) < left_of a n
-falls a b n k e h = rw both.0 (by (eqb b 2) refl)
+pub limit_is : (a : Answer) → is_limit a ≡ true → a ≡ LIMIT
+limit_is CLOSED e = absurd (false≢true e)
+limit_is IDLE e = absurd (false≢true e)
+limit_is LIMIT e = refl
+limit_is (FAULT k) e = absurd (false≢true e)
+
+pub falls : (a b : Answer) (n k : ℕ) → is_limit a && ltb n No.plan_steps ≡ true
+    → (b ≡ LIMIT → k ≡ min (No.plan_steps - n) TURN) → left_of b (n + k) < left_of a n
+falls a b n k e h = rw both.0 (by (is_limit b) refl)
   where
-    both : (eqb a 2 ≡ true) × (ltb n No.plan_steps ≡ true)
-    both = and-true (eqb a 2) (ltb n No.plan_steps) e
+    both : (is_limit a ≡ true) × (ltb n No.plan_steps ≡ true)
+    both = and-true (is_limit a) (ltb n No.plan_steps) e
 
     l : n < No.plan_steps
     l = ltb-true n No.plan_steps both.1
 
-    by : (t : Bool) → eqb b 2 ≡ t → (if t then 1 else 0) + (No.plan_steps - (n + k)) < 1 + (No.plan_steps - n)
-    by true d = let g = h (eqb-true b 2 d) in omega (arith, l)
+    by : (t : Bool) → is_limit b ≡ t → (if t then 1 else 0) + (No.plan_steps - (n + k)) < 1 + (No.plan_steps - n)
+    by true d = let g = h (limit_is b d) in omega (arith, l)
     by false d = omega arith

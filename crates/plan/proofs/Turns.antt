@@ -5,8 +5,8 @@ use native.Mathlib.Omega.{arith}
 use mathlib.Core.Path.{◌≡◌, refl, sym, ap, ◌∙◌}
 use mathlib.Core.List.{List, ◌++◌}
 use mathlib.Core.Bool.{Bool, true, false, ◌&&◌}
-use borrow.Author.Tests.{ne_eqb, leb-false, ltb-false}
-use lib.Dec.{eqb, ltb}
+use borrow.Author.Tests.{leb-false, ltb-false}
+use lib.Dec.{ltb}
 use lib.ListN.{length, length-append}
 use Rattle.semantics.specs.Words.{fails}
 use Rattle.semantics.specs.Numbers as No
@@ -20,12 +20,10 @@ use Rattle.promises.specs.Fit.{Fit}
 use Rattle.promises.specs.Sound.{Sound}
 use Rattle.promises.proofs.Stays.{step_ok}
 use Rattle.promises.proofs.Lines.{step_lines}
-use Rattle.promises.specs.Safe.{safe_fault, step_safe}
 use Rattle.promises.proofs.Calls.{run_sound}
 use Rattle.promises.specs.Answers.{Made, none_made, one_made, run_made, made_on, behind, steps_within}
 use Rattle.promises.specs.Answers.{Why, was_closed, was_idle, at_limit, at_fault, no_room, run_why}
-use Rattle.run_limit.specs.Ran.{number_of}
-use Rattle.plan_text.specs.Codes.{answer_of, a_fault}
+use Rattle.plan.specs.Given.{is_limit}
 use Rattle.plan.specs.Room.{LINES, TURN}
 
 -- LINES. Steps write at most 65 each.
@@ -58,13 +56,8 @@ module _ (m : Model) (t : State) where
   at_its_fault e f (suc n) l = rw (run, e, f) refl
 
 -- WHAT IS LEFT of a million steps after `steps` of them, where the last turn told `answer`: the run goes on while it is LIMIT.
-abbrev pub left_over : Model → State → (answer steps : ℕ) → Ran
-left_over m s a n =
-    if eqb a 2 && ltb n No.plan_steps then run m (No.plan_steps - n) endless s else stopped (answer_of a) s
-
--- Behind a fault, which has a number above 2, nothing is left.
-fault_ends : (m : Model) (s : State) (j n : ℕ) → 2 < j → left_over m s j n ≡ stopped (FAULT j) s
-fault_ends m s j n h = rw (ne_eqb j 2 (λ z. omega (arith, h)), a_fault j h) refl
+abbrev pub left_over : Model → State → (answer : Answer) (steps : ℕ) → Ran
+left_over m s a n = if is_limit a && ltb n No.plan_steps then run m (No.plan_steps - n) endless s else stopped a s
 
 -- A TURN of 62 steps, or what is left, whose journal has room for 4,096 lines.
 abbrev limit_at : ℕ → ℕ
@@ -77,8 +70,7 @@ module _ {m : Model} (f : Fit m) (n : ℕ) (under : n < No.plan_steps) where
   -- Behind it comes what is left; 30 is not met.
   left_is : {a : Answer} {k : ℕ} {ls : List Line} {t : State} → Sound m t → length ls ≤ 65 * k → k ≤ limit_at n
       → Why m (limit_at n) (room_for LINES) a k ls t
-      → run m ((No.plan_steps - n) - k) endless t ≡ left_over m t (number_of a) (n + k)
-  unfolding answer_of
+      → run m ((No.plan_steps - n) - k) endless t ≡ left_over m t a (n + k)
   left_is {t = t} h few within (was_closed e) = at_closed m t e _
   left_is {t = t} h few within (was_idle e) = at_idle m t e _
   left_is {k = k} {t = t} h few within (at_limit e all) = by (ltb (n + k) No.plan_steps) refl
@@ -91,9 +83,8 @@ module _ {m : Model} (f : Fit m) (n : ℕ) (under : n < No.plan_steps) where
           let l = ltb-false (n + k) No.plan_steps g in
           let z : (No.plan_steps - n) - k ≡ 0 = omega arith in
           ap (λ j. run m j endless t) z ∙ at_its_limit m t e
-  left_is {k = k} {t = t} h few within (at_fault {j = j} e less g) =
-      let q = safe_fault (step_safe m t h e) g in
-      at_its_fault m t e g ((No.plan_steps - n) - k) (omega arith) ∙ sym (fault_ends m t j (n + k) (omega (arith, q.0)))
+  left_is {k = k} {t = t} h few within (at_fault e less g) =
+      at_its_fault m t e g ((No.plan_steps - n) - k) (omega arith)
   left_is {ls = ls} {t = t} h few within (no_room {x = x} e less g over) =
       let a = step_lines m t h x g in
       let b = leb-false (length (ls ++ x.lines)) LINES over in
@@ -101,7 +92,7 @@ module _ {m : Model} (f : Fit m) (n : ℕ) (under : n < No.plan_steps) where
 
   pub turned : (s : State) → Sound m s
       → run m (No.plan_steps - n) endless s
-      ≡ behind (turn_at m s n) (left_over m (turn_at m s n).state (number_of (turn_at m s n).answer) (n + (turn_at m s n).steps))
+      ≡ behind (turn_at m s n) (left_over m (turn_at m s n).state (turn_at m s n).answer (n + (turn_at m s n).steps))
   turned s h =
       let made = run_made m (limit_at n) (room_for LINES) s in
       let within = steps_within m (limit_at n) (room_for LINES) s in

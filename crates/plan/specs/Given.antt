@@ -1,18 +1,26 @@
--- What the program knows of a file that it runs. Assumes nothing.
-use Rattle.std.specs.Prelude.{ℕ, ◌≡◌, List}
+-- What the program knows of a file, and of an answer. Assumes nothing.
+use Rattle.std.specs.Prelude.{◌≡◌, List, ℕ, Bool, true, false, Result, Ok, Err}
 use Rattle.semantics.specs.Model.{Model}
-use Rattle.semantics.specs.Decode.{accepted, decode}
-use Rattle.base_numbers.specs.Bound as Bound
-use Rattle.file_bound.specs.declared.Bounded.{Bounded}
+use Rattle.semantics.specs.Decode.{Checked, refused, accepted, decode}
+use Rattle.semantics.specs.Run.{Answer, CLOSED, IDLE, LIMIT, FAULT}
+use Rattle.semantics.specs.Bound as definition
+use Rattle.file_check.specs.declared.Refusal.{Refusal}
+use Rattle.plan_text.specs.declared.Bounded.{Bounded}
+use Rattle.plan_text.specs.Told.{bound_as}
 
 -- It was checked and passed.
 pub record Accepted (bs : List ℕ) : Type 0 where
   pub model : Model
   pub passes : decode bs ≡ accepted model
 
--- The bound in one word, as `bound_of` reads it. A file that is refused has none: its word isn't used.
-abbrev pub bound_word : Bounded → ℕ
-bound_word (Bounded.At n) = n
-bound_word Bounded.None = Bound.NONE
-bound_word Bounded.Over = Bound.OVER
-bound_word (Bounded.Refused n p) = Bound.OVER
+-- The bound of a file or its refusal, as the code tells it.
+abbrev pub told_as : Result Bounded Refusal → Checked definition.Bounded
+told_as (Ok b) = accepted (bound_as b)
+told_as (Err r) = refused r.number r.place
+
+-- A run that ended by its limit goes on.
+abbrev pub is_limit : Answer → Bool
+is_limit CLOSED = false
+is_limit IDLE = false
+is_limit LIMIT = true
+is_limit (FAULT n) = false

@@ -10,18 +10,22 @@
 // one that fails is handed over all the same; the first of them ends the program.
 #![tactic(auto)]
 
-ghost use Rattle.std.specs.Prelude.{◌≡◌, ◌+◌, ◌≤◌, ◌<◌, min, length, take, IfSome, IfOk, OnOk};
+ghost use Rattle.std.specs.Prelude.{◌≡◌, ◌+◌, ◌<◌, ◌&&◌, ltb, length, take, IfSome, OnOk};
 ghost use Rattle.std.specs.Io.KnownBytes.{Appends};
 ghost use Rattle.semantics.specs.Numbers as No;
+ghost use Rattle.semantics.specs.Decode.{accepted};
 ghost use Rattle.semantics.specs.Desk.{bound_file};
 ghost use Rattle.base_numbers.specs.Byte as Byte;
-ghost use Rattle.file_bound.specs.Answer.{bounded_of};
-ghost use Rattle.plan.specs.Given.{Accepted, bound_word};
+ghost use Rattle.run_limit.specs.Ran.{answer_of};
+ghost use Rattle.plan_text.specs.Told.{bound_as};
+ghost use Rattle.plan.specs.Given.{told_as, is_limit};
 ghost use Rattle.plan.specs.Printed.{plan_text, Next};
-ghost use Rattle.plan.specs.Room.{TEXT, TURN};
 
-use base_numbers::{answer, bound, limit, line, row};
-use file_bound::Bounded;
+use arrayvec::ArrayString;
+use base_numbers::{limit, line, row};
+use file_check::Refusal;
+use plan_text::Bounded;
+use run_limit::Answer;
 use std::io;
 use std::io::{Read, Write};
 
@@ -36,55 +40,51 @@ const TEXT: usize = LINES * line::TEXT;
 // journal: 62 times 66 are within LINES.
 const TURN: u32 = 62;
 
-// How many bytes were handed over to be written, and the first write that failed.
+// How many bytes were handed over to be written, and the first write that failed. It is no Result: the bytes are counted behind
+// a write that failed too.
 #[derive(Drop)]
 struct Written {
     bytes: usize,
     went: io::Result<()>,
 }
 
-// The bound in one word, as `plan_text::ending` takes it.
-fn bound_word(bounded: Bounded) -> u64
-    ensures { result ≡ bound_word bounded }
+// The bound of the model file s, or its refusal.
+fn bound_of(s: &[u8]) -> Result<Bounded, Refusal>
+    ensures { told_as result ≡ bound_file s.now }
 {
-    match bounded {
-        Bounded::At(n) => n as u64,
-        Bounded::None => bound::NONE,
-        Bounded::Over => bound::OVER,
-        Bounded::Refused(_, _) => bound::OVER,
+    match file_bound::bound(s) {
+        file_bound::Bounded::Refused(number, place) => Err(Refusal { number, place }),
+        file_bound::Bounded::None => Ok(Bounded::None),
+        file_bound::Bounded::Over => Ok(Bounded::Over),
+        file_bound::Bounded::At(number) => Ok(Bounded::At(number)),
     }
 }
 
 // Prints the next piece of the plan of the file s, of which `at` bytes were printed before.
-fn print<W: Write>(s: &[u8], text: &[u8], at: &mut usize, writer: &mut W) -> io::Result<()>
+fn print<W: Write>(s: &[u8], text: &str, at: &mut usize, writer: &mut W) -> io::Result<()>
     requires next { Next (plan_text s.now) at.old text.now }
     requires text_bound { at.old + length text.now < Byte.EIGHT }
     ensures at_after { at.new ≡ at.old + length text.now }
     ensures written { OnOk result (Appends (W.contents writer.old) (W.contents writer.new) text.now) }
 {
-    let went = writer.write_all(text);
+    let went = writer.write_all(text.as_bytes());
     *at += text.len();
     went
 }
 
-// How many steps the next turn may make.
-fn turn_steps(left: u32) -> u32
-    ensures { result ≡ min left TURN }
+// Whether another turn is made.
+fn goes_on(answer: Answer, steps: u32) -> bool
+    ensures { result ≡ (is_limit (answer_of answer) && ltb steps No.plan_steps) }
 {
-    if left < TURN { left } else { TURN }
+    match answer {
+        Answer::Limit => steps < limit::PLAN_STEPS,
+        _ => false,
+    }
 }
 
 // Runs an accepted model, and prints its lines and its last line: the whole plan.
-fn print_run<W: Write>(
-    s: &[u8],
-    bound: u64,
-    out: &mut [u8],
-    at: &mut usize,
-    writer: &mut W,
-) -> io::Result<()>
-    requires accepted { Accepted s.now }
-    requires bound_value { bound ≡ bound_word (bounded_of (bound_file s.now)) }
-    requires out_len { length out.old ≡ TEXT }
+fn print_run<W: Write>(s: &[u8], bound: Bounded, at: &mut usize, writer: &mut W) -> io::Result<()>
+    requires accepted { accepted (bound_as bound) ≡ bound_file s.now }
     requires at_value { at.old ≡ 0 }
     ensures at_after { at.new ≡ length (plan_text s.now) }
     ensures written { OnOk result (Appends (W.contents writer.old) (W.contents writer.new) (plan_text s.now)) }
@@ -92,56 +92,39 @@ fn print_run<W: Write>(
     let map = file_map::map_of(s);
     let mut w = [0u64; row::WORDS];
     let mut journal = [0u8; JOURNAL];
+    let mut text = ArrayString::<TEXT>::new();
     run_fresh::fresh(s, &map.words, &mut w);
     let mut steps: u32 = 0;
-    let mut answer: u32 = answer::LIMIT;
+    let mut answer = Answer::Limit;
     let mut went = Ok(());
-    while (answer == answer::LIMIT) & (steps < limit::PLAN_STEPS) {
-        let limit = turn_steps(limit::PLAN_STEPS - steps);
-        let turn = plan_turn::turn(s, &map.words, &mut w, limit, &mut journal, out);
-        let bytes = turn.bytes;
-        went = went.and(print(s, &out[..bytes], at, writer));
+    while goes_on(answer, steps) {
+        let limit = (limit::PLAN_STEPS - steps).min(TURN);
+        let turn = plan_turn::turn(s, &map.words, &mut w, limit, &mut journal, &mut text);
+        went = went.and(print(s, text.as_str(), at, writer));
         steps += turn.steps;
         answer = turn.answer;
     }
-    let bytes = plan_text::ending(answer, steps, bound, out);
-    went.and(print(s, &out[..bytes], at, writer))
+    let end = plan_text::ending(answer, steps, bound);
+    went.and(print(s, end.as_str(), at, writer))
 }
 
 // Prints the plan of the model file s, or its refusal; answers how many bytes that is, and the first write that failed.
-fn plan<W: Write>(s: &[u8], out: &mut [u8], writer: &mut W) -> Written
-    requires { length out.old ≡ TEXT }
+fn plan<W: Write>(s: &[u8], writer: &mut W) -> Written
     ensures bytes { result.bytes ≡ length (plan_text s.now) }
     ensures written { OnOk result.went (Appends (W.contents writer.old) (W.contents writer.new) (plan_text s.now)) }
 {
     let mut at = 0;
-    let refusal = file_check::check(s);
-    if refusal.number != 0 {
-        let bytes = plan_text::refusal(refusal.number, refusal.place, out);
-        let went = print(s, &out[..bytes], &mut at, writer);
-        return Written { bytes: at, went };
-    }
-    let bound = bound_word(file_bound::bound(s));
-    let went = print_run(s, bound, out, &mut at, writer);
-    Written { bytes: at, went }
-}
-
-// Reads into `room` until that is full or the input ends, and answers how many bytes that was.
-fn read_full<R: Read>(reader: &mut R, room: &mut [u8]) -> io::Result<usize>
-    ensures bound { IfOk result (λ n. n ≤ length room.new) }
-    ensures same_len { length room.new ≡ length room.old }
-    ensures bytes { IfOk result (λ n. IfSome (R.remaining reader.old) (λ input.
-        take n room.new ≡ take (length room.old) input)) }
-{
-    let mut size = 0;
-    while size < room.len() {
-        let n = reader.read(&mut room[size..])?;
-        if n == 0 {
-            return Ok(size);
+    match bound_of(s) {
+        Ok(bound) => {
+            let went = print_run(s, bound, &mut at, writer);
+            Written { bytes: at, went }
         }
-        size += n;
+        Err(refused) => {
+            let text = plan_text::refusal(refused.number, refused.place);
+            let went = print(s, text.as_str(), &mut at, writer);
+            Written { bytes: at, went }
+        }
     }
-    Ok(size)
 }
 
 // Reads a model, and prints its plan and nothing else.
@@ -150,9 +133,8 @@ fn run<R: Read, W: Write>(reader: &mut R, writer: &mut W) -> io::Result<()>
         Appends (W.contents writer.old) (W.contents writer.new) (plan_text (take (No.longest_file + 1) input)))) }
 {
     let mut model = [0u8; limit::FILE + 1];
-    let mut out = [0u8; TEXT];
-    let size = read_full(reader, &mut model)?;
-    plan(&model[..size], &mut out, writer).went
+    let size = plan_input::read_full(reader, &mut model)?;
+    plan(&model[..size], writer).went
 }
 
 fn main(rt: HostRuntime) -> io::Result<()> {

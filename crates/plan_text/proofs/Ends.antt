@@ -1,73 +1,53 @@
 -- The last line and a refusal, put word by word. Assumes nothing.
-use mathlib.Core.Path.{◌≡◌, sym, ◌∙◌, ap}
-use mathlib.Core.Logic.{◌≢◌}
-use mathlib.Core.List.{List, ◌++◌, append_assoc}
-use Prim.Native.Nat.{ℕ, ◌≤◌, ◌<◌}
-use native.Mathlib.Omega.{arith}
-use borrow.Author.Tests.{lt-ltb, le-ltb}
-use lib.ListN.{length}
-use Rattle.semantics.specs.Run.{Answer}
-use Rattle.semantics.specs.Bound.{Bounded, NONE, OVER, AT}
-use Rattle.base_numbers.specs.Bound as Bound
+use Rattle.std.specs.Prelude.{◌≡◌, [], List, ◌++◌, ℕ, ◌^◌, ◌<◌}
+use Rattle.std.specs.Fmt.{decimal as library_decimal}
+use Rattle.std.proofs.Common.{sym, ◌∙◌, ap, append_assoc, arith}
+use Rattle.semantics.specs.Run.{Answer, FAULT}
+use Rattle.semantics.specs.Bound.{Bounded, AT}
 use Rattle.plan_text.specs.Text.{ascii, decimal, answer_text, bound_text, end_text, refused_text}
-use Rattle.plan_text.specs.Codes.{answer_of, bound_of, a_fault, a_number, no_number}
-use Rattle.plan_text.specs.Put.{Put, Front}
-use Rattle.plan_text.proofs.Puts.{put_on, put_as, put_front}
+use Rattle.plan_text.proofs.Decimals.{same_decimal}
+use Rattle.plan_text.proofs.Fields.{put_on}
 
--- THE ANSWER. Its word by its number.
-pub above_two : (n : ℕ) → n ≢ 0 → n ≢ 1 → n ≢ 2 → 2 < n
-above_two n a b c = omega arith
+fault_parts : (n : ℕ) → ascii "fault " ++ (decimal n ++ ascii " ") ≡ answer_text (FAULT n) ++ ascii " "
+unfolding answer_text
+fault_parts n = simp append_assoc
 
-module _ {xs ys : List ℕ} {at r : ℕ} (n : ℕ) where
-  pub answer_as : (k : ℕ) → n ≡ k → Put (answer_text (answer_of k) ++ ascii " ") xs at ys r
-      → Put (answer_text (answer_of n) ++ ascii " ") xs at ys r
-  answer_as k e p = put_as (ap (λ k. answer_text (answer_of k) ++ ascii " ") (sym e)) p
+pub fault_put : (a : List ℕ) (n : ℕ) {b c : List ℕ} → n < 2 ^ 64 → b ≡ a ++ ascii "fault "
+    → c ≡ b ++ (library_decimal n ++ ascii " ") → c ≡ a ++ (answer_text (FAULT n) ++ ascii " ")
+fault_put a n h word number =
+    put_on a _ _ word number ∙ ap (λ l. a ++ l) (rw (sym (same_decimal n h)) (fault_parts n))
 
-  pub answer_fault : {zs : List ℕ} {m : ℕ} → 2 < n → Put (ascii "fault ") xs at zs m → Put (decimal n ++ ascii " ") zs m ys r
-      → Put (answer_text (answer_of n) ++ ascii " ") xs at ys r
-  unfolding answer_text
-  answer_fault h p q = put_as (ap (λ a. answer_text a ++ ascii " ") (sym (a_fault n h))) (put_on p q)
+pub number_put : (a : List ℕ) (n : ℕ) {b : List ℕ} → n < 2 ^ 64 → b ≡ a ++ (library_decimal n ++ ascii "\n")
+    → b ≡ a ++ (bound_text (AT n) ++ ascii "\n")
+unfolding bound_text
+number_put a n h number = rw (same_decimal n h) number
 
--- THE BOUND, by its word.
-module _ {xs ys : List ℕ} {at r : ℕ} (w : ℕ) where
-  bound_as : (b : Bounded) → bound_of w ≡ b → Put (bound_text b ++ ascii "\n") xs at ys r
-      → Put (bound_text (bound_of w) ++ ascii "\n") xs at ys r
-  bound_as b e p = put_as (ap (λ b. bound_text b ++ ascii "\n") (sym e)) p
-
-  pub bound_number : w < Bound.NONE → Put (decimal w ++ ascii "\n") xs at ys r
-      → Put (bound_text (bound_of w) ++ ascii "\n") xs at ys r
-  unfolding bound_text
-  bound_number h p = bound_as (AT w) (a_number w h) p
-
-  pub bound_none : Bound.NONE ≤ w → w < Bound.OVER → Put (ascii "none\n") xs at ys r
-      → Put (bound_text (bound_of w) ++ ascii "\n") xs at ys r
-  unfolding bound_text
-  bound_none h k p = bound_as NONE (no_number w h ∙ rw (lt-ltb w Bound.OVER k)) p
-
-  pub bound_over : Bound.OVER ≤ w → Put (ascii "over\n") xs at ys r → Put (bound_text (bound_of w) ++ ascii "\n") xs at ys r
-  unfolding bound_text
-  bound_over h p = bound_as OVER (no_number w (omega arith) ∙ rw (le-ltb w Bound.OVER h)) p
-
--- THE WHOLE
 end_parts : (a : Answer) (n : ℕ) (b : Bounded)
     → (((answer_text a ++ ascii " ") ++ (decimal n ++ ascii " ")) ++ ascii "bound ") ++ (bound_text b ++ ascii "\n") ≡ end_text a n b
 unfolding end_text
 end_parts a n b = simp append_assoc
 
 refused_parts : (n p : ℕ)
-    → (((ascii "refused " ++ (decimal n ++ ascii " ")) ++ ascii "at ") ++ decimal p) ++ ascii "\n" ≡ refused_text n p
+    → ((ascii "refused " ++ (decimal n ++ ascii " ")) ++ ascii "at ") ++ (decimal p ++ ascii "\n") ≡ refused_text n p
 unfolding refused_text
 refused_parts n p = simp append_assoc
 
-module _ {xs us vs ws ys : List ℕ} {i j k r : ℕ} where
-  pub end_put : (a : Answer) (n : ℕ) (b : Bounded) → Put (answer_text a ++ ascii " ") xs 0 us i
-      → Put (decimal n ++ ascii " ") us i vs j → Put (ascii "bound ") vs j ws k → Put (bound_text b ++ ascii "\n") ws k ys r
-      → r ≤ length xs → Front (end_text a n b) xs ys r
-  end_put a n b answer steps bound number h =
-      put_front (put_as (end_parts a n b) (put_on (put_on (put_on answer steps) bound) number)) h
+module _ {empty us vs ws ys : List ℕ} (begun : empty ≡ []) where
+  pub end_put : (a : Answer) (n : ℕ) (b : Bounded) → n < 2 ^ 64 → us ≡ empty ++ (answer_text a ++ ascii " ")
+      → vs ≡ us ++ (library_decimal n ++ ascii " ") → ws ≡ vs ++ ascii "bound " → ys ≡ ws ++ (bound_text b ++ ascii "\n")
+      → ys ≡ end_text a n b
+  end_put a n b h answer steps bound number =
+      let put = put_on empty _ _ (put_on empty _ _ (put_on empty _ _ answer steps) bound) number in
+      let text : List ℕ = (((answer_text a ++ ascii " ") ++ (library_decimal n ++ ascii " ")) ++ ascii "bound ")
+      ++ (bound_text b ++ ascii "\n") in
+      let parts : text ≡ end_text a n b = rw (sym (same_decimal n h)) (end_parts a n b) in
+      put ∙ ap (λ l. l ++ text) begun ∙ parts
 
-  pub refused_put : {zs : List ℕ} {l : ℕ} (n p : ℕ) → Put (ascii "refused ") xs 0 us i
-      → Put (decimal n ++ ascii " ") us i vs j → Put (ascii "at ") vs j ws k → Put (decimal p) ws k zs l
-      → Put (ascii "\n") zs l ys r → r ≤ length xs → Front (refused_text n p) xs ys r
-  refused_put n p refused number at place end h =
-      put_front (put_as (refused_parts n p) (put_on (put_on (put_on (put_on refused number) at) place) end)) h
+  pub refused_put : (n p : ℕ) → n < 2 ^ 64 → p < 2 ^ 64 → us ≡ empty ++ ascii "refused "
+      → vs ≡ us ++ (library_decimal n ++ ascii " ") → ws ≡ vs ++ ascii "at " → ys ≡ ws ++ (library_decimal p ++ ascii "\n")
+      → ys ≡ refused_text n p
+  refused_put n p h k refused number at place =
+      let put = put_on empty _ _ (put_on empty _ _ (put_on empty _ _ refused number) at) place in
+      let text : List ℕ = ((ascii "refused " ++ (library_decimal n ++ ascii " ")) ++ ascii "at ") ++ (library_decimal p ++ ascii "\n") in
+      let parts : text ≡ refused_text n p = rw (sym (same_decimal n h), sym (same_decimal p k)) (refused_parts n p) in
+      put ∙ ap (λ l. l ++ text) begun ∙ parts

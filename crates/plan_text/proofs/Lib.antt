@@ -1,4 +1,3 @@
-pub mod Puts
-pub mod Signs
+pub mod Decimals
 pub mod Fields
 pub mod Ends

@@ -7,3 +7,4 @@ pub mod Codes
 pub mod Put
 pub mod Laws
 pub mod Same
+pub mod Told

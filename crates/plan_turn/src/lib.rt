@@ -8,38 +8,36 @@ ghost use Rattle.base_numbers.specs.Line as Line;
 ghost use Rattle.act_floor.specs.Acting.{Open};
 ghost use Rattle.plan_turn.specs.Turn.{AnsweredAs};
 
-// The answer's number, the steps done in this turn and how many bytes its lines have as text.
+use arrayvec::ArrayString;
+use run_limit::Answer;
+
+// The answer, and the steps done in this turn.
 #[derive(Clone, Copy)]
 pub struct Answered {
-    pub answer: u32,
+    pub answer: Answer,
     pub steps: u32,
-    pub bytes: usize,
 }
 
-// At most `limit` steps; what the journal held is written over, and the text of the lines stands at the front of `out`.
-pub fn turn<'a>(
+// At most `limit` steps; what the journal held is written over, and the text is that of the lines, whatever it was.
+pub fn turn<'a, const N: usize>(
     s: &'a [u8],
     map: &'a [u32],
     w: &'a mut [u64],
     limit: u32,
     journal: &'a mut [u8],
-    out: &'a mut [u8],
+    text: &'a mut ArrayString<N>,
 ) -> Answered
     requires fact { Open s.now map.now w.old }
-    requires journal_in_bounds { Line.TEXT * (length journal.old / Line.BYTES) ≤ length out.old }
+    requires journal_in_bounds { Line.TEXT * (length journal.old / Line.BYTES) ≤ N }
     ensures { (v : Open s.now map.now w.old) →
         AnsweredAs (run_of v.run.model limit (room_in journal.old) v.run.is) result w.new
-        journal.old journal.new out.old out.new }
+        journal.old journal.new text.new.bytes }
 {
     let ran = run_limit::run(s, map, w, limit, journal);
-    let steps = ran.steps;
-    let lines = ran.lines;
-    let answer = ran.answer;
-    let number = run_limit::number_of(answer);
-    let bytes = plan_text::lines(journal, lines, out);
+    text.clear();
+    plan_text::lines(journal, ran.lines, text);
     Answered {
-        answer: number,
-        steps: steps,
-        bytes: bytes,
+        answer: ran.answer,
+        steps: ran.steps,
     }
 }

@@ -6,14 +6,17 @@
 // `stdin` takes 50 calls: fault 30 is answered thirty times, LIMIT nineteen times, and then IDLE.
 #![tactic(auto)]
 
-ghost use Rattle.std.specs.Prelude.{◌*◌, ◌/◌, ◌≤◌, ◌≡◌, length, IfOk};
+ghost use Rattle.std.specs.Prelude.{◌*◌, ◌/◌, ◌≤◌, length};
 ghost use Rattle.base_numbers.specs.Line as Line;
 
-use base_numbers::{answer, bound, fault, limit, line};
-use file_bound::Bounded;
+use arrayvec::ArrayString;
+use base_numbers::{fault, limit, line};
+use plan_text::Bounded;
 use row_struct::State;
+use run_by_value::Moved;
+use run_limit::Answer;
 use std::io;
-use std::io::{Read, Write};
+use std::io::Write;
 
 // The lines that the journal has room for, its bytes, and those of the lines as text.
 const LINES: usize = 2;
@@ -22,21 +25,12 @@ const JOURNAL: usize = LINES * line::BYTES;
 
 const TEXT: usize = LINES * line::TEXT;
 
-// What a call told, how many bytes its lines have as text, and the run that it left.
-#[derive(Drop)]
-struct Shift {
-    answer: u32,
-    steps: u32,
-    bytes: usize,
-    run: State,
-}
-
-// The bound in one word, as `plan_text::ending` takes it.
-fn bound_word(bounded: Bounded) -> u64 {
-    match bounded {
-        Bounded::At(n) => n as u64,
-        Bounded::None => bound::NONE,
-        _ => bound::OVER,
+// The bound of the model file s, which is not refused.
+fn bound_of(s: &[u8]) -> Bounded {
+    match file_bound::bound(s) {
+        file_bound::Bounded::At(number) => Bounded::At(number),
+        file_bound::Bounded::None => Bounded::None,
+        _ => Bounded::Over,
     }
 }
 
@@ -54,99 +48,68 @@ fn next_limit(limit: u32) -> u32 {
     }
 }
 
-fn lesser(a: u32, b: u32) -> u32
-    ensures { (result ≤ a) × (result ≤ b) }
-{
-    if a < b { a } else { b }
+// Whether a run goes on behind this answer: its limit was met, or the journal had no room.
+fn goes_on(answer: Answer) -> bool {
+    match answer {
+        Answer::Limit => true,
+        Answer::Fault(number) => number == fault::JOURNAL,
+        _ => false,
+    }
 }
 
-// One call into an empty journal, whose lines stand as text at the front of `out` afterwards.
-fn one_shift<'a>(
+// One call into an empty journal, whose lines are the text afterwards.
+fn one_shift<'a, const N: usize>(
     s: &'a [u8],
     run: State,
     limit: u32,
     journal: &'a mut [u8],
-    out: &'a mut [u8],
-) -> Shift
-    requires { Line.TEXT * (length journal.old / Line.BYTES) ≤ length out.old }
-    ensures { (result.steps ≤ limit) × (result.bytes ≤ length out.new) }
+    text: &'a mut ArrayString<N>,
+) -> Moved
+    requires { Line.TEXT * (length journal.old / Line.BYTES) ≤ N }
+    ensures { result.steps ≤ limit }
 {
     let moved = run_lent::moved_on(s, run, limit, journal);
-    let answer = moved.answer;
-    let number = run_limit::number_of(answer);
-    let bytes = plan_text::lines(journal, moved.lines, out);
-    let left = moved.state;
-    Shift {
-        answer: number,
-        steps: moved.steps,
-        bytes,
-        run: left,
-    }
+    text.clear();
+    plan_text::lines(journal, moved.lines, text);
+    moved
 }
 
 // Moves the run on until it has ended or made 1,000,000 steps, and prints its lines and its last line.
-fn print_run<W: Write>(
-    s: &[u8],
-    opened: State,
-    bound: u64,
-    out: &mut [u8],
-    writer: &mut W,
-) -> io::Result<()>
-    requires { length out.old ≡ 2 * Line.TEXT }
-{
+fn print_run<W: Write>(s: &[u8], opened: State, writer: &mut W) -> io::Result<()> {
     let mut journal = [0u8; JOURNAL];
+    let mut text = ArrayString::<TEXT>::new();
     let mut run = opened;
     let mut steps: u32 = 0;
-    let mut answer: u32 = answer::LIMIT;
+    let mut answer = Answer::Limit;
     let mut limit: u32 = 1;
-    let mut going = true;
-    while going & (steps < limit::PLAN_STEPS) {
-        let most = lesser(limit, limit::PLAN_STEPS - steps);
-        let shift = one_shift(s, run, most, &mut journal, out);
-        let bytes = shift.bytes;
-        writer.write_all(&out[..bytes])?;
-        run = shift.run;
-        steps += shift.steps;
-        answer = shift.answer;
+    while steps < limit::PLAN_STEPS {
+        let most = limit.min(limit::PLAN_STEPS - steps);
+        let moved = one_shift(s, run, most, &mut journal, &mut text);
+        writer.write_all(text.as_str().as_bytes())?;
+        run = moved.state;
+        steps += moved.steps;
+        answer = moved.answer;
         limit = next_limit(limit);
-        going = (0 < shift.steps) & ((answer == answer::LIMIT) | (answer == fault::JOURNAL));
+        if (moved.steps == 0) | !goes_on(answer) {
+            break;
+        }
     }
-    let bytes = plan_text::ending(answer, steps, bound, out);
-    writer.write_all(&out[..bytes])
+    let end = plan_text::ending(answer, steps, bound_of(s));
+    writer.write_all(end.as_str().as_bytes())
 }
 
 // Opens a run of the model file s and prints its plan, or its refusal.
-fn plan<W: Write>(s: &[u8], out: &mut [u8], writer: &mut W) -> io::Result<()>
-    requires { length out.old ≡ 2 * Line.TEXT }
-{
+fn plan<W: Write>(s: &[u8], writer: &mut W) -> io::Result<()> {
     let opened = run_lent::open_run(s);
     if opened.number != 0 {
-        let bytes = plan_text::refusal(opened.number, opened.place, out);
-        return writer.write_all(&out[..bytes]);
+        let text = plan_text::refusal(opened.number, opened.place);
+        return writer.write_all(text.as_str().as_bytes());
     }
-    let bound = bound_word(file_bound::bound(s));
-    let run = opened.state;
-    print_run(s, run, bound, out, writer)
-}
-
-// Reads into `room` until that is full or the input ends, and answers how many bytes that was.
-fn read_full<R: Read>(reader: &mut R, room: &mut [u8]) -> io::Result<usize>
-    ensures { IfOk result (λ n. n ≤ length room.new) }
-{
-    let mut size = 0;
-    while size < room.len() {
-        let n = reader.read(&mut room[size..])?;
-        if n == 0 {
-            return Ok(size);
-        }
-        size += n;
-    }
-    Ok(size)
+    print_run(s, opened.state, writer)
 }
 
 fn main(rt: HostRuntime) -> io::Result<()> {
     let mut model = [0u8; limit::FILE + 1];
-    let mut out = [0u8; TEXT];
-    let size = read_full(&mut rt.reader(), &mut model)?;
-    plan(&model[..size], &mut out, &mut io::writer(&rt))
+    let size = plan_input::read_full(&mut rt.reader(), &mut model)?;
+    plan(&model[..size], &mut io::writer(&rt))
 }

@@ -1,9 +1,14 @@
--- `plan_text::lines` meets its contract: whatever puts the lines that are left puts them all. Assumes nothing.
-use Rattle.plan_text.proofs.Fields.{Left}
+-- `plan_text::lines` meets its contract: with the lines that are left put too, all are. Assumes nothing.
+use Rattle.std.proofs.Common.{◌≡◌, ◌++◌, ◌+◌, ◌*◌, ◌≤◌, length}
+use Rattle.base_numbers.specs.Line as Line
+use Rattle.plan_text.specs.Text.{lines_text}
+use Rattle.plan_text.specs.Tells.{tells_in}
 use Rattle.plan_text.proofs.lines.Given as goal
 
-abbrev pub invariant-loop-left : goal.invariant-loop-left
-invariant-loop-left l = Left l.journal l.n l.initial.out l.out l.rest l.left l.at
-
-abbrev pub decreases-loop-left : goal.decreases-loop-left
-decreases-loop-left l = l.left
+abbrev pub invariant-loop-bytes : goal.invariant-loop-bytes
+invariant-loop-bytes g l =
+    let i = l.bytes-iterator in
+    (i.iter.size ≡ Line.BYTES)
+    × (Line.BYTES * i.n ≤ length i.iter.rest.now)
+    × (length l.text.bytes + Line.TEXT * i.n ≤ g.row.N)
+    × (l.text.bytes ++ lines_text (tells_in i.iter.rest.now i.n) ≡ l.initial.text.bytes ++ lines_text (tells_in l.journal l.n))

@@ -1,21 +1,9 @@
--- `plan_text::refusal` meets its contract: five parts, each put behind the one before it. Assumes nothing.
-use native.Mathlib.Omega.{arith}
-use Rattle.plan_text.specs.Laws.{decimal-length}
+-- `plan_text::refusal` meets its contract: four parts, each put behind the one before it. Assumes nothing.
+use Rattle.std.proofs.Common.{arith}
 use Rattle.plan_text.proofs.Ends.{refused_put}
 use Rattle.plan_text.proofs.refusal.Goals as goal
 
-pub digits-at-requires : goal.digits-at-requires
-digits-at-requires c = omega (arith, decimal-length 19 c.args.place (omega (arith, c.ranges)))
-
 pub returns : goal.returns
-returns c = refused_put c.args.number c.args.place c.word-at.ensures c.field-at.ensures.put
-    c.word-at-2.ensures c.digits-at.ensures.put c.word.ensures
-    (omega (
-      arith,
-      c.requires,
-      c.word-at.ensures.behind,
-      c.field-at.ensures.upper_bound,
-      c.word-at-2.ensures.behind,
-      c.digits-at.ensures.upper_bound,
-      c.word.ensures.behind,
-    ))
+returns c =
+    refused_put c.new-text.ensures _ _ (omega (arith, c.ranges.number.fits)) (omega (arith, c.ranges.place.fits))
+    c.push_str.ensures.bytes c.push_number.ensures.bytes c.push_str-2.ensures.bytes c.push_number-2.ensures.bytes

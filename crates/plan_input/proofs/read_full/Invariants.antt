@@ -1,7 +1,7 @@
--- `plan::read_full` ends, as each turn of its loop fills more of the room. Assumes nothing.
+-- `plan_input::read_full` ends, as each turn of its loop fills more of the room. Assumes nothing.
 use Rattle.std.proofs.Common.{length, ◌-◌, ◌≡◌, ◌≤◌, take}
 use Rattle.std.specs.Io.KnownBytes.{Consumes}
-use Rattle.plan.proofs.read_full.Given as goal
+use Rattle.plan_input.proofs.read_full.Given as goal
 
 -- What is read stands in front, and the rest is still to come.
 abbrev pub invariant-loop-size : goal.invariant-loop-size
