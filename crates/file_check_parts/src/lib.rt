@@ -134,9 +134,9 @@ pub trait Listed: Part {
 
     ghost sized: { Self.SIZE ≡ part_size kind };
 
-    ghost validated: { (x : List ℕ) → Self.is_valid x ≡ part_valid kind x };
+    ghost validated: { Self.is_valid ≡ part_valid kind };
 
-    ghost named: { (n x : List ℕ) → Self.is_known n x ≡ part_known kind n x };
+    ghost named: { Self.is_known ≡ part_known kind };
 }
 
 // An item of a claim.
@@ -177,9 +177,9 @@ impl Listed for Item {
 
     ghost sized = { refl };
 
-    ghost validated = { λ x. refl };
+    ghost validated = { refl };
 
-    ghost named = { λ n x. refl };
+    ghost named = { refl };
 }
 
 impl Part for Share {
@@ -211,9 +211,9 @@ impl Listed for Share {
 
     ghost sized = { refl };
 
-    ghost validated = { λ x. refl };
+    ghost validated = { refl };
 
-    ghost named = { λ n x. refl };
+    ghost named = { refl };
 }
 
 impl Part for Node {
