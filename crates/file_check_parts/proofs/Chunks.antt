@@ -9,7 +9,7 @@ use Rattle.semantics.specs.Record.{repeats}
 
 -- One comes: of r, with n parts to come, it is x; r' is left, with m parts to come.
 module _ (k n m : ℕ) (r x r' : List ℕ) (e : r ≡ x ++ r') (l : length x ≡ k) (o : m + 1 ≡ n) where
-  comes : parts k n r ≡ x ∷ parts k m r'
+  pub comes : parts k n r ≡ x ∷ parts k m r'
   comes =
       let i : n - 1 ≡ m = omega arith in
       parts-cons k n r (omega arith) ∙ rw (i, e, take_at x r' k l, drop_at x r' k l) refl
@@ -32,7 +32,7 @@ module _ (k n m : ℕ) (r x r' : List ℕ) (e : r ≡ x ++ r') (l : length x ≡
     pub seeks : p x ≡ false → any p (parts k n r) ≡ any p (parts k m r')
     seeks e = rw (comes, e) refl
 
-no_room : (k n l : ℕ) → 0 < k → k * n ≤ l → (0 < n → l < k) → n ≡ 0
+pub no_room : (k n l : ℕ) → 0 < k → k * n ≤ l → (0 < n → l < k) → n ≡ 0
 no_room k zero l o f e = refl
 no_room k (suc n) l o f e = absurd (omega (arith, e (omega arith)))
 
