@@ -1,14 +1,14 @@
 // Checks 6, 7 and 8 on the parts of one size that a record's body has: items of a claim, shares of a START, nodes.
 #![tactic(auto)]
 
-ghost use Rattle.std.specs.Prelude.{◌≡◌, true, ◌+◌, ◌*◌, ◌≤◌, ◌<◌, length, get_or};
+ghost use Rattle.std.specs.Prelude.{◌≡◌, ◌*◌, ◌≤◌, ◌<◌, refl, List, ℕ, Bool, length, get_or};
+ghost use Rattle.std.proofs.Common.{rules};
 ghost use Rattle.semantics.specs.Words.{all, any};
 ghost use Rattle.semantics.specs.Numbers as No;
 ghost use Rattle.semantics.specs.Kinds as K;
 ghost use Rattle.semantics.specs.Bytes.{u8, u32, parts};
-ghost use Rattle.semantics.specs.Record.{item, share, part_size, part_valid, same_part, repeats, node_valid};
+ghost use Rattle.semantics.specs.Record.{Part as RecordPart, item, share, part_size, part_valid, same_part, repeats, node_valid};
 ghost use Rattle.semantics.specs.Decode.{part_known, node_known};
-ghost use Rattle.file_check_parts.specs.Tests.{size_of, passes, part_of};
 
 use base_numbers::{group, item, limit, op, part};
 
@@ -75,48 +75,6 @@ fn node_known(n: [u32; group::MANY], d: &[u8]) -> bool
             & ((op != op::DRAW) | (operand < n[group::SAMPLER])))
 }
 
-// ---- all parts: `test` is one of base_numbers::part
-
-fn size_of(test: u32) -> usize
-    ensures { (result ≡ size_of test) × ((6 ≤ result) × (result ≤ 8)) }
-{
-    match test {
-        part::ITEM_VALID => item::BYTES,
-        part::ITEM_KNOWN => item::BYTES,
-        _ => op::NODE_BYTES,
-    }
-}
-
-fn part_passes(test: u32, n: [u32; group::MANY], x: &[u8]) -> bool
-    requires { size_of test ≤ length x.now }
-    ensures { result ≡ passes test n x.now }
-{
-    match test {
-        part::ITEM_VALID => item_valid(x),
-        part::SHARE_VALID => share_valid(x),
-        part::NODE_VALID => node_valid(x),
-        part::ITEM_KNOWN => item_known(n, x),
-        part::SHARE_KNOWN => share_known(n, x),
-        _ => node_known(n, x),
-    }
-}
-
-pub fn parts_pass(test: u32, n: [u32; group::MANY], count: u32, bs: &[u8]) -> bool
-    requires { size_of test * count ≤ length bs.now }
-    ensures { result ≡ all (passes test n) (parts (size_of test) count bs.now) }
-{
-    let size = size_of(test);
-    let mut ok = true;
-    let mut rest = bs;
-    let mut left = count;
-    while 0 < left {
-        ok = ok & part_passes(test, n, &rest[..size]);
-        rest = &rest[size..];
-        left = left - 1;
-    }
-    ok
-}
-
 // ---- check 7
 
 fn same_item(i: &[u8], j: &[u8]) -> bool
@@ -139,58 +97,198 @@ fn same_share(i: &[u8], j: &[u8]) -> bool
     a == b
 }
 
-fn same_part(share: bool, i: &[u8], j: &[u8]) -> bool
-    requires { (part_size (part_of share) ≤ length i.now) × (part_size (part_of share) ≤ length j.now) }
-    ensures { result ≡ same_part (part_of share) i.now j.now }
-{
-    if share {
-        same_share(i, j)
-    } else {
-        same_item(i, j)
-    }
+// ---- the kinds of parts
+
+// A kind of part. What its tests are stands here, for generic code; the functions above are its tests, where each is proved.
+pub trait Part {
+    ghost SIZE: { ℕ };
+
+    ghost is_valid: { List ℕ → Bool };
+
+    ghost is_known: { List ℕ → List ℕ → Bool };
+
+    // How many bytes it has.
+    const SIZE: usize;
+
+    // Check 6.
+    fn valid(part: &[u8]) -> bool
+        requires { SIZE ≤ length part.now }
+        ensures { result ≡ is_valid part.now };
+
+    // Check 8, where `n` has how many there are of each group.
+    fn known(n: [u32; group::MANY], part: &[u8]) -> bool
+        requires { SIZE ≤ length part.now }
+        ensures { result ≡ is_known n part.now };
+
+    ghost not_empty: { 0 < SIZE };
 }
 
-fn part_size(share: bool) -> usize
-    ensures { (result ≡ part_size (part_of share)) × ((6 ≤ result) × (result ≤ 8)) }
-{
-    if share {
-        part::SHARE_BYTES
-    } else {
-        item::BYTES
-    }
+// A kind of part that stands in a list, where no two may name the same.
+pub trait Listed: Part {
+    ghost kind: { RecordPart };
+
+    // Check 7.
+    fn same(one: &[u8], other: &[u8]) -> bool
+        requires { (Self.SIZE ≤ length one.now) × (Self.SIZE ≤ length other.now) }
+        ensures { result ≡ same_part kind one.now other.now };
+
+    ghost sized: { Self.SIZE ≡ part_size kind };
+
+    ghost validated: { Self.is_valid ≡ part_valid kind };
+
+    ghost named: { Self.is_known ≡ part_known kind };
 }
 
-// Whether one of the parts of bs names what the part x does.
-fn named_again(share: bool, x: &[u8], count: u32, bs: &[u8]) -> bool
-    requires { (part_size (part_of share) ≤ length x.now) × (part_size (part_of share) * count ≤ length bs.now) }
-    ensures { result ≡ any (same_part (part_of share) x.now)
-        (parts (part_size (part_of share)) count bs.now) }
+// An item of a claim.
+pub struct Item;
+
+// A share of a START.
+pub struct Share;
+
+// A node of an expression.
+pub struct Node;
+
+impl Part for Item {
+    ghost SIZE = { 8 };
+
+    ghost is_valid = { part_valid item };
+
+    ghost is_known = { part_known item };
+
+    const SIZE: usize = item::BYTES;
+
+    fn valid(part: &[u8]) -> bool {
+        item_valid(part)
+    }
+
+    fn known(n: [u32; group::MANY], part: &[u8]) -> bool {
+        item_known(n, part)
+    }
+
+    ghost not_empty = { Prim.search rules };
+}
+
+impl Listed for Item {
+    ghost kind = { item };
+
+    fn same(one: &[u8], other: &[u8]) -> bool {
+        same_item(one, other)
+    }
+
+    ghost sized = { refl };
+
+    ghost validated = { refl };
+
+    ghost named = { refl };
+}
+
+impl Part for Share {
+    ghost SIZE = { 6 };
+
+    ghost is_valid = { part_valid share };
+
+    ghost is_known = { part_known share };
+
+    const SIZE: usize = part::SHARE_BYTES;
+
+    fn valid(part: &[u8]) -> bool {
+        share_valid(part)
+    }
+
+    fn known(n: [u32; group::MANY], part: &[u8]) -> bool {
+        share_known(n, part)
+    }
+
+    ghost not_empty = { Prim.search rules };
+}
+
+impl Listed for Share {
+    ghost kind = { share };
+
+    fn same(one: &[u8], other: &[u8]) -> bool {
+        same_share(one, other)
+    }
+
+    ghost sized = { refl };
+
+    ghost validated = { refl };
+
+    ghost named = { refl };
+}
+
+impl Part for Node {
+    ghost SIZE = { 6 };
+
+    ghost is_valid = { node_valid };
+
+    ghost is_known = { λ n. node_known (get_or n K.VAR 0) (get_or n K.SAMPLER 0) };
+
+    const SIZE: usize = op::NODE_BYTES;
+
+    fn valid(part: &[u8]) -> bool {
+        node_valid(part)
+    }
+
+    fn known(n: [u32; group::MANY], part: &[u8]) -> bool {
+        node_known(n, part)
+    }
+
+    ghost not_empty = { Prim.search rules };
+}
+
+// ---- all parts
+
+// Whether the first `count` parts of bs pass check 6.
+pub fn all_valid<P: Part>(count: u32, bs: &[u8]) -> bool
+    requires { P.SIZE * count ≤ length bs.now }
+    ensures { result ≡ all P.is_valid (parts P.SIZE count bs.now) }
 {
-    let size = part_size(share);
-    let mut found = false;
+    for part in bs.chunks_exact(P::SIZE).take(count as usize) {
+        if !P::valid(part) {
+            return false;
+        }
+    }
+    true
+}
+
+// Whether the first `count` parts of bs pass check 8.
+pub fn all_known<P: Part>(n: [u32; group::MANY], count: u32, bs: &[u8]) -> bool
+    requires { P.SIZE * count ≤ length bs.now }
+    ensures { result ≡ all (P.is_known n) (parts P.SIZE count bs.now) }
+{
+    for part in bs.chunks_exact(P::SIZE).take(count as usize) {
+        if !P::known(n, part) {
+            return false;
+        }
+    }
+    true
+}
+
+// Whether one of the first `count` parts of bs names what the part x does.
+fn named_again<P: Listed>(x: &[u8], count: u32, bs: &[u8]) -> bool
+    requires { (P.SIZE ≤ length x.now) × (P.SIZE * count ≤ length bs.now) }
+    ensures { result ≡ any (same_part P.kind x.now) (parts P.SIZE count bs.now) }
+{
+    for part in bs.chunks_exact(P::SIZE).take(count as usize) {
+        if P::same(x, part) {
+            return true;
+        }
+    }
+    false
+}
+
+// Whether two of the first `count` parts of bs name the same.
+pub fn parts_repeat<P: Listed>(count: u32, bs: &[u8]) -> bool
+    requires { P.SIZE * count ≤ length bs.now }
+    ensures { result ≡ repeats (same_part P.kind) (parts P.SIZE count bs.now) }
+{
     let mut rest = bs;
-    let mut left = count;
-    while 0 < left {
-        found = found | same_part(share, x, &rest[..size]);
-        rest = &rest[size..];
-        left = left - 1;
+    for left in (0..count).rev() {
+        let (first, behind) = rest.split_at(P::SIZE);
+        if named_again::<P>(first, left, behind) {
+            return true;
+        }
+        rest = behind;
     }
-    found
-}
-
-pub fn parts_repeat(share: bool, count: u32, bs: &[u8]) -> bool
-    requires { part_size (part_of share) * count ≤ length bs.now }
-    ensures { result ≡ repeats (same_part (part_of share)) (parts (part_size (part_of share)) count bs.now) }
-{
-    let size = part_size(share);
-    let mut found = false;
-    let mut rest = bs;
-    let mut left = count;
-    while 0 < left {
-        let first = &rest[..size];
-        rest = &rest[size..];
-        left = left - 1;
-        found = found | named_again(share, first, left, rest);
-    }
-    found
+    false
 }

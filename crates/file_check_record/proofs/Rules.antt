@@ -22,17 +22,19 @@ use Rattle.base_numbers.specs.Group as Group
 use Rattle.base_i32.specs.Code.{code}
 use Rattle.base_i32.specs.Laws.{code_order, code_above, signed_fits}
 use Rattle.file_check_parts.proofs.Laws.{rest_of}
-use Rattle.file_check_tails.specs.Tails.{tail_of, branch_passes}
+use Rattle.file_check_tails.specs.Tails.{tail_of}
 use Rattle.file_check_tails.proofs.Branches.{and_left, and_right}
 use Rattle.file_check_record.specs.Rows.{number_of, SAMPLER_BYTES, field_size, field_at, field_low, field_high, number_at}
 use Rattle.file_check_record.specs.Rows.{naming_of, naming_at, tail_number}
 use Rattle.file_check_record.proofs.Table.{holds, tail_back}
 
 -- WHAT THE CODE READ of a row and of a body is what the row says.
-pub tail_is : {A : Type 0} (p : Tail → List ℕ → A) (r : Row) (bs : List ℕ) (h t : ℕ) → h ≡ r.head → t ≡ tail_number
-    r.tail →
-    p (tail_of t) (take (length bs - h) (drop h bs)) ≡ p r.tail (drop r.head bs)
-tail_is p r bs h t i j = rw (rest_of h bs, i, j, tail_back r.tail)
+pub tail_is : {A : Type 0} (p : Tail → List ℕ → A) (r : Row) (bs : List ℕ) (h : ℕ) (t : Tail) → h ≡ r.head → t ≡ r.tail → p t (take
+    (length bs - h) (drop h bs)) ≡ p r.tail (drop r.head bs)
+tail_is p r bs h t i j = rw (rest_of h bs, i, j)
+
+pub tail_read : (r : Row) {t : Tail} {n : ℕ} → t ≡ tail_of n → n ≡ tail_number r.tail → t ≡ r.tail
+tail_read r i j = i ∙ rw j (tail_back r.tail)
 
 pub in_set_is : (f : Field) (bs : List ℕ) → (field_size f ≡ SAMPLER_BYTES → ⊥) →
     in_set f bs ≡ within (field_low f) (field_high f) (number_at (field_size f) bs (field_at f))
@@ -159,10 +161,10 @@ pub later_while : (own : ℕ) (bs : List ℕ) → leb own (u16 bs 0) ≡ all (le
 unfolding row_of
 later_while own bs = alone (leb own (u16 bs 0))
 
-pub later_try : (own : ℕ) (n bs : List ℕ) → all (branch_passes 3 n own) (branches_from (u16 bs 0) (drop 2 bs)) ≡ all
+pub later_try : (own : ℕ) (bs : List ℕ) → all (λ b. leb own (u16 b 0)) (branches_from (u16 bs 0) (drop 2 bs)) ≡ all
     (leb own) (inner_of ((row_of K.TRY).says bs))
-unfolding row_of branches_in branch_passes
-later_try own n bs = go (branches_from (u16 bs 0) (drop 2 bs))
+unfolding row_of branches_in
+later_try own bs = go (branches_from (u16 bs 0) (drop 2 bs))
   where
     go : (xs : List (List ℕ)) → all (λ b. leb own (u16 b 0)) xs ≡ all (leb own) (map (λ x. x.block) (map branch_of xs))
     go [] = refl

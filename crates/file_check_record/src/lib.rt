@@ -9,7 +9,8 @@ ghost use Rattle.semantics.specs.Decode.{placed, judged, field_known, inner_of, 
 ghost use Rattle.base_numbers.specs.Column as Column;
 ghost use Rattle.file_check_record.specs.Rows.{number_of, SAMPLER_BYTES, column_of, number_at, Judged};
 
-use base_numbers::{branch, column, group, kind, limit, refusal};
+use base_numbers::{column, group, kind, limit, refusal};
+use file_check_tails::Tail;
 
 // A row for each kind from 0 to 30, in the columns of base_numbers::column: GROUP (0: no kind), MOST, HEAD, FIELD_SIZE (0:
 // none, 12: a sampler's three together), FIELD_AT, LOWEST, HIGHEST, TAIL, NAMING (0: nothing, 17: a local), NAMING_AT.
@@ -113,7 +114,7 @@ fn body_number(kind: u32, bs: &[u8]) -> u32
     if bs.len() < head {
         return refusal::SIZE;
     }
-    let tail = entry(kind, column::TAIL);
+    let tail = Tail::of(entry(kind, column::TAIL));
     let rest = &bs[head..];
     if !file_check_tails::tail_sized(tail, rest) {
         return refusal::SIZE;
@@ -186,7 +187,7 @@ fn later(own: u32, kind: u32, bs: &[u8]) -> bool
 {
     match kind {
         kind::DO => own <= file_fields::u16_at(bs, 2),
-        kind::TRY => file_check_tails::all_branches(branch::LATER, [0u32; group::MANY], own, bs),
+        kind::TRY => file_check_tails::branches_later(own, bs),
         kind::WHILE => own <= file_fields::u16_at(bs, 0),
         _ => true,
     }
@@ -198,7 +199,7 @@ pub fn name(n: [u32; group::MANY], own: u32, kind: u32, bs: &[u8]) -> u32
     ensures { result ≡ number_of (named n own kind bs.now) }
 {
     let head = entry(kind, column::HEAD) as usize;
-    let tail = entry(kind, column::TAIL);
+    let tail = Tail::of(entry(kind, column::TAIL));
     if !(field_known(n, kind, bs) & file_check_tails::tail_known(tail, n, &bs[head..])) {
         return refusal::NAME;
     }

@@ -5,14 +5,14 @@ use mathlib.Core.Bool.{Bool, true, false, ◌&&◌, ◌||◌, not}
 use Prim.Native.Nat.{ℕ, zero, suc, ◌+◌, ◌*◌, ◌-◌, ◌≤◌, ◌<◌}
 use native.Mathlib.Numerals.{sub-one}
 use native.Mathlib.Omega.{arith}
-use borrow.Author.Tests.{leb-true}
+use borrow.Author.Tests.{leb-true, le-leb, lt-leb}
 use lib.Dec.{leb, eqb}
 use lib.ListN.{length, take, drop, get_or, length-drop}
 use lib.Seq.{get_or-take, get_or-drop, length-take-le}
 use Rattle.semantics.specs.Words.{all, any}
 use Rattle.semantics.specs.Bytes.{u16}
 use Rattle.semantics.specs.Record.{branch_size, branches_from, branches_fit}
-use Rattle.file_check_parts.proofs.Laws.{rest_of, and-true}
+use Rattle.file_check_parts.proofs.Laws.{rest_of}
 
 pub and_left : (a b : Bool) → (a && b) ≡ true → a ≡ true
 and_left true b e = refl
@@ -42,38 +42,64 @@ pub fit_none : (n : ℕ) (bs : List ℕ) → n ≡ 0 → branches_fit n bs ≡ e
 unfolding branches_fit
 fit_none n bs h = rw h
 
--- There is one more branch, and it fits.
-module _ (n : ℕ) (bs : List ℕ) (h : 0 < n) (e : branches_fit n bs ≡ true) where
-  split : (leb 4 (length bs) && (leb (branch_size bs) (length bs) && branches_fit (n - 1) (drop (branch_size bs) bs))) ≡ true
-  split = sym (fit_cons n bs h) ∙ e
+-- Of n branches i are behind, and there is one more.
+module _ (n i : ℕ) (bs : List ℕ) (h : i < n) where
+  one_less : n - i - 1 ≡ n - (i + 1)
+  one_less = omega arith
 
-  pub fit_four : 4 ≤ length bs
-  fit_four = leb-true _ _ (and_left (leb 4 (length bs)) _ split)
+  fit_next : branches_fit (n - i) bs ≡ (leb 4 (length bs) && (leb (branch_size bs) (length bs) && branches_fit (n -
+      (i + 1)) (drop (branch_size bs) bs)))
+  fit_next = fit_cons (n - i) bs (omega arith) ∙ rw one_less refl
 
-  pub fit_size : branch_size bs ≤ length bs
-  fit_size = leb-true _ _ (and_left (leb (branch_size bs) (length bs)) _ (and_right (leb 4 (length bs)) _ split))
+  from_next : branches_from (n - i) bs ≡ take (branch_size bs) bs ∷ branches_from (n - (i + 1)) (drop (branch_size bs) bs)
+  from_next = from_cons (n - i) bs (omega arith) ∙ rw one_less refl
 
-  pub fit_turn : (z : ℕ) → z ≡ branch_size bs → branches_fit (n - 1) (take (length bs - z) (drop z bs)) ≡ true
-  fit_turn z i = rw (rest_of z bs, i) (and_right (leb (branch_size bs) (length bs)) _ (and_right (leb 4 (length bs)) _ split))
+  -- It doesn't fit.
+  pub lacks_head : length bs < 4 → branches_fit (n - i) bs ≡ false
+  lacks_head l = rw (fit_next, lt-leb _ _ l) refl
 
-module _ (n : ℕ) (bs : List ℕ) (h : 0 < n) (z : ℕ) (j : z ≡ branch_size bs) where
-  pub all_branch : (p : List ℕ → Bool) (t r x : Bool) → r ≡ p (take z bs) → (t && all p (branches_from n bs)) ≡ x →
-      ((t && r) && all p (branches_from (n - 1) (take (length bs - z) (drop z bs)))) ≡ x
-  all_branch p true r x e i = rw (rest_of z bs, e, j) (rw (from_cons n bs h) at i)
-  all_branch p false r x e i = i
+  pub lacks_claim : (z : ℕ) → z ≡ branch_size bs → 4 ≤ length bs → length bs < z → branches_fit (n - i) bs ≡ false
+  lacks_claim z e f l = rw (fit_next, le-leb _ _ f, ← e, lt-leb _ _ l) refl
 
-  -- the branch's slice has the branch's size
-  branch_count : (k : ℕ) → k < 4 → 4 ≤ z → get_or (take z bs) k 0 ≡ get_or bs k 0
-  branch_count k l f = get_or-take z bs k 0 (omega arith)
+  -- It does.
+  module _ (z : ℕ) (e : z ≡ branch_size bs) where
+    pub fit_on : 4 ≤ length bs → z ≤ length bs → branches_fit (n - i) bs ≡ branches_fit (n - (i + 1)) (drop z bs)
+    fit_on f l = rw (fit_next, le-leb _ _ f, ← e, le-leb _ _ l) refl
 
-  pub branch_fits : 4 ≤ z → z ≤ length bs → (4 ≤ length (take z bs)) × (branch_size (take z bs) ≤ length (take z bs))
-  branch_fits f g =
-      let l = length-take-le z bs g in
-      (omega arith, omega (arith, branch_count 2 (omega arith) f, branch_count 3 (omega arith) f))
+    module _ (o : branches_fit (n - i) bs ≡ true) where
+      split : (leb 4 (length bs) && (leb (branch_size bs) (length bs) && branches_fit (n - (i + 1)) (drop (branch_size bs) bs))) ≡ true
+      split = sym fit_next ∙ o
 
-module _ (n : ℕ) (bs : List ℕ) (h : n ≡ 0) where
-  pub all_branched : (p : List ℕ → Bool) (t x : Bool) → (t && all p (branches_from n bs)) ≡ x → t ≡ x
-  all_branched p t x i = sym (and-true t (all p (branches_from n bs)) (rw (from_none n bs h))) ∙ i
+      pub fit_four : 4 ≤ length bs
+      fit_four = leb-true _ _ (and_left (leb 4 (length bs)) _ split)
+
+      pub fit_size : z ≤ length bs
+      fit_size = rw e (leb-true _ _ (and_left (leb (branch_size bs) (length bs)) _ (and_right (leb 4 (length bs)) _ split)))
+
+      pub fit_turn : branches_fit (n - (i + 1)) (drop z bs) ≡ true
+      fit_turn = sym (fit_on fit_four fit_size) ∙ o
+
+    pub all_on : (p : List ℕ → Bool) → p (take z bs) ≡ true → all p (branches_from (n - i) bs) ≡ all p (branches_from (n -
+        (i + 1)) (drop z bs))
+    all_on p t = rw (from_next, ← e, t) refl
+
+    pub all_fail : (p : List ℕ → Bool) → p (take z bs) ≡ false → all p (branches_from (n - i) bs) ≡ false
+    all_fail p t = rw (from_next, ← e, t) refl
+
+    -- the branch's slice has the branch's size
+    branch_count : (k : ℕ) → k < 4 → 4 ≤ z → get_or (take z bs) k 0 ≡ get_or bs k 0
+    branch_count k l f = get_or-take z bs k 0 (omega arith)
+
+    pub branch_fits : 4 ≤ z → z ≤ length bs → branch_size (take z bs) ≤ length (take z bs)
+    branch_fits f g = omega (arith, length-take-le z bs g, branch_count 2 (omega arith) f, branch_count 3 (omega arith) f)
+
+-- There is none.
+module _ (n i : ℕ) (bs : List ℕ) (h : n ≤ i) where
+  pub fit_end : branches_fit (n - i) bs ≡ eqb (length bs) 0
+  fit_end = fit_none (n - i) bs (omega arith)
+
+  pub all_end : (p : List ℕ → Bool) → all p (branches_from (n - i) bs) ≡ true
+  all_end p = rw (from_none (n - i) bs (omega arith)) refl
 
 -- The claim of a branch has its size.
 pub claim_fits : (b : List ℕ) → 4 ≤ length b → branch_size b ≤ length b → (2 ≤ length (take (length b - 2) (drop 2 b))) ×

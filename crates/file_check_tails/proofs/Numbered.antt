@@ -1,19 +1,18 @@
 -- Tails and tests on branches by the numbers that the code gives them; and how long a tail of its size is. Assumes nothing.
-use mathlib.Core.Path.{◌≡◌, refl, sym}
+use mathlib.Core.Path.{◌≡◌, refl}
 use mathlib.Core.List.{List}
-use mathlib.Core.Bool.{true, false, not}
+use mathlib.Core.Bool.{true}
 use Prim.Native.Nat.{ℕ, zero, suc, ◌+◌, ◌*◌, ◌≤◌, ◌/◌, ◌%◌}
 use native.Mathlib.Omega.{arith}
 use borrow.Author.Tests.{leb-true, eqb-true}
 use lib.Dec.{leb, eqb}
-use lib.ListN.{length, drop}
-use Rattle.semantics.specs.Words.{all, within}
+use lib.ListN.{length}
+use Rattle.semantics.specs.Words.{within}
 use Rattle.semantics.specs.Numbers as No
 use Rattle.semantics.specs.Bytes.{u16}
-use Rattle.semantics.specs.Record.{Part, nothing, expression, branches, sized, twice, part_size, list_sized}
-use Rattle.semantics.specs.Record.{branches_from, list_twice, item}
-use Rattle.file_check_tails.specs.Tails.{tail_of, branch_passes}
-use Rattle.file_check_tails.proofs.Branches.{and_left, and_right, any-not}
+use Rattle.semantics.specs.Record.{Part, nothing, expression, branches, sized, part_size, list_sized}
+use Rattle.file_check_tails.specs.Tails.{tail_of}
+use Rattle.file_check_tails.proofs.Branches.{and_left, and_right}
 
 pub no_tail : (t : ℕ) → (t ≡ 1 → ⊥) → (t ≡ 2 → ⊥) → (t ≡ 3 → ⊥) → (t ≡ 4 → ⊥) → tail_of t ≡ nothing
 unfolding tail_of
@@ -23,14 +22,6 @@ no_tail (suc (suc zero)) e f g h = absurd (f refl)
 no_tail (suc (suc (suc zero))) e f g h = absurd (g refl)
 no_tail (suc (suc (suc (suc zero)))) e f g h = absurd (h refl)
 no_tail (suc (suc (suc (suc (suc t))))) e f g h = refl
-
-pub last_branch_test : (t : ℕ) → (t ≡ 0 → ⊥) → (t ≡ 1 → ⊥) → (t ≡ 2 → ⊥) → (n : List ℕ) (own : ℕ)
-    (b : List ℕ) → branch_passes t n own b ≡ leb own (u16 b 0)
-unfolding branch_passes
-last_branch_test zero e f g n own b = absurd (e refl)
-last_branch_test (suc zero) e f g n own b = absurd (f refl)
-last_branch_test (suc (suc zero)) e f g n own b = absurd (g refl)
-last_branch_test (suc (suc (suc t))) e f g n own b = refl
 
 -- What a tail of its size has room for.
 module _ (bs : List ℕ) where
@@ -46,19 +37,3 @@ module _ (bs : List ℕ) where
 
   pub branches_room : sized branches bs ≡ true → 2 ≤ length bs
   branches_room e = leb-true _ _ (and_left (leb 2 (length bs)) _ e)
-
--- Only claims, shares and branches can name a thing twice.
-pub twice_none : (t : ℕ) → (t ≡ 2 → ⊥) → (t ≡ 3 → ⊥) → (t ≡ 4 → ⊥) → (bs : List ℕ) → false ≡ twice (tail_of t) bs
-unfolding tail_of
-twice_none zero f g h bs = refl
-twice_none (suc zero) f g h bs = refl
-twice_none (suc (suc zero)) f g h bs = absurd (f refl)
-twice_none (suc (suc (suc zero))) f g h bs = absurd (g refl)
-twice_none (suc (suc (suc (suc zero)))) f g h bs = absurd (h refl)
-twice_none (suc (suc (suc (suc (suc t))))) f g h bs = refl
-
-pub twice_is : (n : List ℕ) (own : ℕ) (bs : List ℕ) → not (all (branch_passes 1 n own) (branches_from (u16 bs 0)
-    (drop 2 bs))) ≡ twice branches bs
-unfolding branch_passes
-twice_is n own bs =
-    sym (any-not (λ b. list_twice item (drop 2 b)) (branch_passes 1 n own) (λ b. refl) (branches_from (u16 bs 0) (drop 2 bs)))

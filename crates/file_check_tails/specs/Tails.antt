@@ -1,25 +1,13 @@
--- The tails of a record, and the tests on a branch of a TRY, by the numbers that the code gives them.
+-- The tails of a record by the numbers that the table of kinds has; and the height of a pile of trees.
 -- Assumes nothing.
-use Rattle.std.specs.Prelude.{ℕ, suc, ◌+◌, ◌-◌, List, [], ◌∷◌, Bool, not, ◌&&◌, leb, ltb, length, get_or, drop, if◌then◌else◌}
+use Rattle.std.specs.Prelude.{ℕ, suc, ◌+◌, ◌-◌, List, [], ◌∷◌, leb, length, get_or, if◌then◌else◌}
 use Rattle.std.proofs.Math.Option.{Option, none, some}
-use Rattle.semantics.specs.Words.{all}
 use Rattle.semantics.specs.Model.{Expr}
-use Rattle.semantics.specs.Bytes.{u16}
-use Rattle.semantics.specs.Record.{Tail, nothing, expression, branches, claim, shares, item, parts_of, list_valid, list_twice}
-use Rattle.semantics.specs.Decode.{part_known}
+use Rattle.semantics.specs.Record.{Tail, nothing, expression, branches, claim, shares}
 
 -- 0 nothing, 1 expression, 2 branches, 3 claim, 4 shares
 unfoldable pub tail_of : ℕ → Tail
 tail_of t = get_or (nothing ∷ expression ∷ branches ∷ claim ∷ shares ∷ []) t nothing
-
--- On a branch: 0 its claim's numbers are in their sets; 1 it names nothing twice; 2 its block and all that it names are
--- declared; 3 its block is not below `own`.
-unfoldable pub branch_passes : ℕ → List ℕ → ℕ → List ℕ → Bool
-branch_passes test n own b =
-    get_or (list_valid item (drop 2 b) ∷ not (list_twice item (drop 2 b))
-    ∷ (ltb (u16 b 0) (get_or n 6 0) && all (part_known item n) (parts_of item (drop 2 b))) ∷ [])
-    test
-    (leb own (u16 b 0))
 
 -- How many trees a node takes off the pile, by its op.
 unfoldable pub arity : ℕ → ℕ

@@ -1,18 +1,21 @@
 // Checks 5 to 9 on what follows a record's fields: an expression, a claim, the shares of a START, the branches of a TRY.
 #![tactic(auto)]
 
-ghost use Rattle.std.specs.Prelude.{◌≡◌, true, ◌+◌, ◌*◌, ◌≤◌, ◌<◌, length, drop};
+ghost use Rattle.std.specs.Prelude.{◌≡◌, true, not, ◌&&◌, ◌+◌, ◌*◌, ◌≤◌, ◌<◌, List, ℕ, Bool, leb, ltb, length, get_or, drop};
+ghost use Rattle.std.specs.Borrow.{Bor};
 ghost use Rattle.semantics.specs.Words.{all};
 ghost use Rattle.semantics.specs.Numbers as No;
 ghost use Rattle.semantics.specs.Bytes.{u16, parts};
-ghost use Rattle.semantics.specs.Record.{part_size, parts_of, list_sized, list_valid, list_twice, pile, expression, branches};
+ghost use Rattle.semantics.specs.Record.{part_size, parts_of, list_sized, list_valid, list_twice, pile, nodes, item, expression, branches};
 ghost use Rattle.semantics.specs.Record.{branch_size, branches_fit, branches_from, sized, valid, twice};
-ghost use Rattle.semantics.specs.Decode.{part_known, tail_known};
+ghost use Rattle.semantics.specs.Kinds as K;
+ghost use Rattle.semantics.specs.Decode.{node_known, part_known, tail_known};
 ghost use Rattle.base_numbers.specs.Byte as Byte;
-ghost use Rattle.file_check_parts.specs.Tests.{part_of};
-ghost use Rattle.file_check_tails.specs.Tails.{tail_of, branch_passes, arity, height_of, grown_by};
+ghost use Rattle.file_check_tails.specs.Kinds.{kind_of};
+ghost use Rattle.file_check_tails.specs.Tails.{tail_of, arity, height_of, grown_by};
 
-use base_numbers::{branch, group, item, limit, op, part, tail};
+use base_numbers::{branch, group, item, limit, op, tail};
+use file_check_parts::{Item, Listed, Node, Share};
 
 // How many trees each op takes for its operands.
 const ARITY: [u32; op::MANY] = [0, 0, 0, 2, 2, 2, 2, 2, 0, 1, 0];
@@ -43,9 +46,7 @@ fn height(n: usize, bs: &[u8]) -> u32
     ensures { result ≡ height_of (pile (parts 6 n bs.now)) }
 {
     let mut h = 1;
-    let mut k = n;
-    while 0 < k {
-        k = k - 1;
+    for k in (0..n).rev() {
         let op = file_fields::u16_at(bs, op::NODE_BYTES * k);
         h = grown(operands(op), h);
     }
@@ -68,51 +69,56 @@ fn expression_sized(bs: &[u8]) -> bool
     height(n, bs) == 2
 }
 
+fn nodes_valid(bs: &[u8]) -> bool
+    requires { sized expression bs.now ≡ true }
+    ensures { result ≡ valid expression bs.now }
+{
+    file_check_parts::all_valid::<Node>((bs.len() / op::NODE_BYTES) as u32, bs)
+}
+
+fn nodes_known(n: [u32; group::MANY], bs: &[u8]) -> bool
+    requires { sized expression bs.now ≡ true }
+    ensures { result ≡ all (node_known (get_or n K.VAR 0) (get_or n K.SAMPLER 0)) (nodes bs.now) }
+{
+    file_check_parts::all_known::<Node>(n, (bs.len() / op::NODE_BYTES) as u32, bs)
+}
+
 // ---- a claim, or the shares of a START
 
-fn list_sized(share: bool, bs: &[u8]) -> bool
-    ensures { result ≡ list_sized (part_of share) bs.now }
+fn list_sized<P: Listed>(bs: &[u8]) -> bool
+    ensures { result ≡ list_sized P.kind bs.now }
 {
     if bs.len() < 2 {
         return false;
     }
     let n = file_fields::u16_at(bs, 0) as usize;
-    if share {
-        return bs.len() == 2 + part::SHARE_BYTES * n;
-    }
-    bs.len() == 2 + item::BYTES * n
+    bs.len() == 2 + P::SIZE * n
 }
 
-fn list_valid(share: bool, bs: &[u8]) -> bool
-    requires { (2 ≤ length bs.now) × (2 + part_size (part_of share) * u16 bs.now 0 ≤ length bs.now) }
-    ensures { result ≡ list_valid (part_of share) bs.now }
+#[tactic(auto, unfolding(semantics::specs::Record::list_valid))]
+fn list_valid<P: Listed>(bs: &[u8]) -> bool
+    requires { (2 ≤ length bs.now) × (2 + part_size P.kind * u16 bs.now 0 ≤ length bs.now) }
+    ensures { result ≡ list_valid P.kind bs.now }
 {
     let n = file_fields::u16_at(bs, 0);
-    if share {
-        return (n <= limit::LISTED)
-            & file_check_parts::parts_pass(part::SHARE_VALID, [0u32; group::MANY], n, &bs[2..]);
-    }
-    (n <= limit::LISTED)
-        & file_check_parts::parts_pass(part::ITEM_VALID, [0u32; group::MANY], n, &bs[2..])
+    (n <= limit::LISTED) & file_check_parts::all_valid::<P>(n, &bs[2..])
 }
 
-fn list_twice(share: bool, bs: &[u8]) -> bool
-    requires { (2 ≤ length bs.now) × (2 + part_size (part_of share) * u16 bs.now 0 ≤ length bs.now) }
-    ensures { result ≡ list_twice (part_of share) bs.now }
+#[tactic(auto, unfolding(semantics::specs::Record::list_twice))]
+fn list_twice<P: Listed>(bs: &[u8]) -> bool
+    requires { (2 ≤ length bs.now) × (2 + part_size P.kind * u16 bs.now 0 ≤ length bs.now) }
+    ensures { result ≡ list_twice P.kind bs.now }
 {
     let n = file_fields::u16_at(bs, 0);
-    file_check_parts::parts_repeat(share, n, &bs[2..])
+    file_check_parts::parts_repeat::<P>(n, &bs[2..])
 }
 
-fn list_known(share: bool, n: [u32; group::MANY], bs: &[u8]) -> bool
-    requires { (2 ≤ length bs.now) × (2 + part_size (part_of share) * u16 bs.now 0 ≤ length bs.now) }
-    ensures { result ≡ all (part_known (part_of share) n) (parts_of (part_of share) bs.now) }
+fn list_known<P: Listed>(n: [u32; group::MANY], bs: &[u8]) -> bool
+    requires { (2 ≤ length bs.now) × (2 + part_size P.kind * u16 bs.now 0 ≤ length bs.now) }
+    ensures { result ≡ all (part_known P.kind n) (parts_of P.kind bs.now) }
 {
     let count = file_fields::u16_at(bs, 0);
-    if share {
-        return file_check_parts::parts_pass(part::SHARE_KNOWN, n, count, &bs[2..]);
-    }
-    file_check_parts::parts_pass(part::ITEM_KNOWN, n, count, &bs[2..])
+    file_check_parts::all_known::<P>(n, count, &bs[2..])
 }
 
 // ---- the branches of a TRY
@@ -128,49 +134,39 @@ fn branches_fit(count: u32, bs: &[u8]) -> bool
     ensures { result ≡ branches_fit count bs.now }
 {
     let mut rest = bs;
-    let mut left = count;
-    while 0 < left {
+    for _ in 0..count {
         if rest.len() < branch::HEAD {
             return false;
         }
-        let size = branch_size(rest);
-        if rest.len() < size {
+        let Some(behind) = rest.get(branch_size(rest)..) else {
             return false;
-        }
-        rest = &rest[size..];
-        left = left - 1;
+        };
+        rest = behind;
     }
-    rest.len() == 0
+    rest.is_empty()
 }
 
-fn branch_passes(test: u32, n: [u32; group::MANY], own: u32, b: &[u8]) -> bool
+// What a branch is that stands in a slice of its own.
+fn branch_valid(b: &[u8]) -> bool
     requires { (4 ≤ length b.now) × (branch_size b.now ≤ length b.now) }
-    ensures { result ≡ branch_passes test n own b.now }
+    ensures { result ≡ list_valid item (drop 2 b.now) }
 {
-    let claim = &b[2..];
-    let block = file_fields::u16_at(b, 0);
-    match test {
-        branch::VALID => list_valid(false, claim),
-        branch::ONCE => !list_twice(false, claim),
-        branch::KNOWN => (block < n[group::BLOCK]) & list_known(false, n, claim),
-        _ => own <= block,
-    }
+    list_valid::<Item>(&b[2..])
 }
 
-fn branches_pass(test: u32, n: [u32; group::MANY], own: u32, count: u32, bs: &[u8]) -> bool
-    requires { branches_fit count bs.now ≡ true }
-    ensures { result ≡ all (branch_passes test n own) (branches_from count bs.now) }
+fn branch_once(b: &[u8]) -> bool
+    requires { (4 ≤ length b.now) × (branch_size b.now ≤ length b.now) }
+    ensures { result ≡ not (list_twice item (drop 2 b.now)) }
 {
-    let mut ok = true;
-    let mut rest = bs;
-    let mut left = count;
-    while 0 < left {
-        let size = branch_size(rest);
-        ok = ok & branch_passes(test, n, own, &rest[..size]);
-        rest = &rest[size..];
-        left = left - 1;
-    }
-    ok
+    !list_twice::<Item>(&b[2..])
+}
+
+fn branch_known(n: [u32; group::MANY], b: &[u8]) -> bool
+    requires { (4 ≤ length b.now) × (branch_size b.now ≤ length b.now) }
+    ensures { result ≡ (ltb (u16 b.now 0) (get_or n K.BLOCK 0) && all (part_known item n) (parts_of item (drop 2 b.now))) }
+{
+    let block = file_fields::u16_at(b, 0);
+    (block < n[group::BLOCK]) & list_known::<Item>(n, &b[2..])
 }
 
 fn branches_sized(bs: &[u8]) -> bool
@@ -182,12 +178,22 @@ fn branches_sized(bs: &[u8]) -> bool
     branches_fit(file_fields::u16_at(bs, 0), &bs[2..])
 }
 
-// All branches of a TRY's tail pass a test, one of base_numbers::branch.
-pub fn all_branches(test: u32, n: [u32; group::MANY], own: u32, bs: &[u8]) -> bool
-    requires { sized branches bs.now ≡ true }
-    ensures { result ≡ all (branch_passes test n own) (branches_from (u16 bs.now 0) (drop 2 bs.now)) }
+// Whether all branches of a TRY's tail pass a test.
+fn all_branches<F: Fn(&[u8]) -> bool>(bs: &[u8], passes: F) -> bool
+    requires fit { sized branches bs.now ≡ true }
+    requires asked { (b : Bor (List ℕ)) → 4 ≤ length b.now → branch_size b.now ≤ length b.now → F.pre passes b }
+    ensures { (p : List ℕ → Bool) → ((b : Bor (List ℕ)) (r : Bool) → F.post passes b r → r ≡ p b.now) →
+        result ≡ all p (branches_from (u16 bs.now 0) (drop 2 bs.now)) }
 {
-    branches_pass(test, n, own, file_fields::u16_at(bs, 0), &bs[2..])
+    let mut rest = &bs[2..];
+    for _ in 0..file_fields::u16_at(bs, 0) {
+        let (branch, behind) = rest.split_at(branch_size(rest));
+        if !passes(branch) {
+            return false;
+        }
+        rest = behind;
+    }
+    true
 }
 
 fn branches_valid(bs: &[u8]) -> bool
@@ -195,68 +201,111 @@ fn branches_valid(bs: &[u8]) -> bool
     ensures { result ≡ valid branches bs.now }
 {
     let count = file_fields::u16_at(bs, 0);
-    ((1 <= count) & (count <= limit::OFFERED))
-        & all_branches(branch::VALID, [0u32; group::MANY], 0, bs)
+    ((1 <= count) & (count <= limit::OFFERED)) & all_branches(bs, branch_valid)
 }
 
-// ---- any tail, by its number
-
-pub fn tail_sized(tail: u32, bs: &[u8]) -> bool
-    ensures { result ≡ sized (tail_of tail) bs.now }
+fn branches_twice(bs: &[u8]) -> bool
+    requires { sized branches bs.now ≡ true }
+    ensures { result ≡ twice branches bs.now }
 {
-    match tail {
-        tail::EXPRESSION => expression_sized(bs),
-        tail::BRANCHES => branches_sized(bs),
-        tail::CLAIM => list_sized(false, bs),
-        tail::SHARES => list_sized(true, bs),
-        _ => bs.len() == 0,
+    !all_branches(bs, branch_once)
+}
+
+fn branches_known(n: [u32; group::MANY], bs: &[u8]) -> bool
+    requires { sized branches bs.now ≡ true }
+    ensures { result ≡ all (λ b. ltb (u16 b 0) (get_or n K.BLOCK 0) && all (part_known item n) (parts_of item (drop 2 b)))
+        (branches_from (u16 bs.now 0) (drop 2 bs.now)) }
+{
+    all_branches(bs, |b| branch_known(n, b))
+}
+
+// Check 9: whether no branch names a block below `own`.
+pub fn branches_later(own: u32, bs: &[u8]) -> bool
+    requires { sized branches bs.now ≡ true }
+    ensures { result ≡ all (λ b. leb own (u16 b 0)) (branches_from (u16 bs.now 0) (drop 2 bs.now)) }
+{
+    all_branches(bs, |b| own <= file_fields::u16_at(b, 0))
+}
+
+// ---- any tail
+
+#[derive(Clone, Copy, PartialEq, Eq)]
+pub enum Tail {
+    Nothing,
+    Expression,
+    Branches,
+    Claim,
+    Shares,
+}
+
+impl Tail {
+    // The tail that the table of kinds has by a number of base_numbers::tail.
+    #[tactic(auto, using(crate::proofs::Numbered::no_tail), unfolding(crate::specs::Tails::tail_of))]
+    pub fn of(number: u32) -> Tail
+        ensures { kind_of result ≡ tail_of number }
+    {
+        match number {
+            tail::EXPRESSION => Tail::Expression,
+            tail::BRANCHES => Tail::Branches,
+            tail::CLAIM => Tail::Claim,
+            tail::SHARES => Tail::Shares,
+            _ => Tail::Nothing,
+        }
     }
 }
 
-pub fn tail_valid(tail: u32, bs: &[u8]) -> bool
-    requires { sized (tail_of tail) bs.now ≡ true }
-    ensures { result ≡ valid (tail_of tail) bs.now }
+// Check 5.
+pub fn tail_sized(tail: Tail, bs: &[u8]) -> bool
+    ensures { result ≡ sized (kind_of tail) bs.now }
 {
     match tail {
-        tail::EXPRESSION => file_check_parts::parts_pass(
-            part::NODE_VALID,
-            [0u32; group::MANY],
-            (bs.len() / op::NODE_BYTES) as u32,
-            bs,
-        ),
-        tail::BRANCHES => branches_valid(bs),
-        tail::CLAIM => list_valid(false, bs),
-        tail::SHARES => list_valid(true, bs),
-        _ => true,
+        Tail::Nothing => bs.is_empty(),
+        Tail::Expression => expression_sized(bs),
+        Tail::Branches => branches_sized(bs),
+        Tail::Claim => list_sized::<Item>(bs),
+        Tail::Shares => list_sized::<Share>(bs),
     }
 }
 
-pub fn tail_twice(tail: u32, bs: &[u8]) -> bool
-    requires { sized (tail_of tail) bs.now ≡ true }
-    ensures { result ≡ twice (tail_of tail) bs.now }
+// Check 6.
+pub fn tail_valid(tail: Tail, bs: &[u8]) -> bool
+    requires { sized (kind_of tail) bs.now ≡ true }
+    ensures { result ≡ valid (kind_of tail) bs.now }
 {
     match tail {
-        tail::BRANCHES => !all_branches(branch::ONCE, [0u32; group::MANY], 0, bs),
-        tail::CLAIM => list_twice(false, bs),
-        tail::SHARES => list_twice(true, bs),
-        _ => false,
+        Tail::Nothing => true,
+        Tail::Expression => nodes_valid(bs),
+        Tail::Branches => branches_valid(bs),
+        Tail::Claim => list_valid::<Item>(bs),
+        Tail::Shares => list_valid::<Share>(bs),
     }
 }
 
-pub fn tail_known(tail: u32, n: [u32; group::MANY], bs: &[u8]) -> bool
-    requires { sized (tail_of tail) bs.now ≡ true }
-    ensures { result ≡ tail_known n (tail_of tail) bs.now }
+// Check 7.
+pub fn tail_twice(tail: Tail, bs: &[u8]) -> bool
+    requires { sized (kind_of tail) bs.now ≡ true }
+    ensures { result ≡ twice (kind_of tail) bs.now }
 {
     match tail {
-        tail::EXPRESSION => file_check_parts::parts_pass(
-            part::NODE_KNOWN,
-            n,
-            (bs.len() / op::NODE_BYTES) as u32,
-            bs,
-        ),
-        tail::BRANCHES => all_branches(branch::KNOWN, n, 0, bs),
-        tail::CLAIM => list_known(false, n, bs),
-        tail::SHARES => list_known(true, n, bs),
-        _ => true,
+        Tail::Nothing => false,
+        Tail::Expression => false,
+        Tail::Branches => branches_twice(bs),
+        Tail::Claim => list_twice::<Item>(bs),
+        Tail::Shares => list_twice::<Share>(bs),
+    }
+}
+
+// Check 8.
+#[tactic(auto, unfolding(semantics::specs::Decode::tail_known))]
+pub fn tail_known(tail: Tail, n: [u32; group::MANY], bs: &[u8]) -> bool
+    requires { sized (kind_of tail) bs.now ≡ true }
+    ensures { result ≡ tail_known n (kind_of tail) bs.now }
+{
+    match tail {
+        Tail::Nothing => true,
+        Tail::Expression => nodes_known(n, bs),
+        Tail::Branches => branches_known(n, bs),
+        Tail::Claim => list_known::<Item>(n, bs),
+        Tail::Shares => list_known::<Share>(n, bs),
     }
 }

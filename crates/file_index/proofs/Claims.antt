@@ -1,21 +1,21 @@
 -- The bits of the things that a claim names, item by item. Assumes nothing.
 use mathlib.Core.Path.{◌≡◌, refl, sym, ◌∙◌}
-use mathlib.Core.List.{List}
+use mathlib.Core.List.{List, ◌++◌}
 use mathlib.Core.Bool.{true}
-use Prim.Native.Nat.{ℕ, ◌-◌, ◌*◌, ◌/◌, ◌%◌, ◌^◌, ◌<◌, max}
+use Prim.Native.Nat.{ℕ, ◌+◌, ◌≤◌, ◌*◌, ◌/◌, ◌%◌, ◌^◌, ◌<◌, max}
 use native.Mathlib.Nat.{one-mul}
 use native.Mathlib.Omega.{arith}
 use borrow.Author.Tests.{leb-true, eqb-true}
 use lib.Arith.{bin_ind}
 use lib.Bits.{bit_or, or_step, or_zero_r}
 use lib.Dec.{leb}
-use lib.ListN.{length, take, drop}
+use lib.ListN.{length}
 use lib.Pow.{shl_exact}
-use lib.Seq.{get_or-take}
 use Rattle.semantics.specs.Bytes.{parts}
 use Rattle.semantics.specs.Record.{item, list_sized}
 use Rattle.promises.specs.Laws.{and-true}
-use Rattle.file_check_parts.proofs.Laws.{rest_of, parts-cons, parts_none}
+use Rattle.file_check_parts.proofs.Laws.{parts_none}
+use Rattle.file_check_parts.proofs.Chunks.{comes, no_room}
 use Rattle.file_index.specs.Branches.{bit_of, bits_of, Claimed}
 
 -- A list of items of just its size begins with a claim.
@@ -42,20 +42,15 @@ or_assoc a =
 pub bit_exact : (p : ℕ) → p < 32 → (1 * 2 ^ p) % 2 ^ 32 ≡ 2 ^ p
 bit_exact p h = shl_exact 1 p 32 (omega arith) (omega arith) ∙ one-mul (2 ^ p)
 
--- It is that of the first eight bytes.
-bit_front : (j : ℕ) (bs : List ℕ) → bit_of j (take 8 bs) ≡ bit_of j bs
-bit_front j bs =
-    rw (get_or-take 8 bs 0 0 (omega arith), get_or-take 8 bs 2 0 (omega arith), get_or-take 8 bs 3 0 (omega arith))
+-- ROUND THE LOOP over items: what is found so far, and what is found in the n that are left of r.
+pub bits_turn : (j n m : ℕ) (r x r' : List ℕ) (found all b : ℕ) → r ≡ x ++ r' → length x ≡ 8 → m + 1 ≡ n → b ≡ bit_of j x →
+    bit_or found (bits_of j (parts 8 n r)) ≡ all → bit_or (bit_or found b) (bits_of j (parts 8 m r')) ≡ all
+unfolding bits_of
+bits_turn j n m r x r' found all b e l o f i =
+    rw f (or_assoc found (bit_of j x) _ ∙ (rw (comes 8 n m r x r' e l o) at i))
 
--- ROUND THE LOOP over n items: what is found so far, and what is found in the rest.
-module _ (j n : ℕ) (bs : List ℕ) (found all : ℕ) where
-  pub bits_turn : {r : ℕ} → 0 < n → r ≡ bit_of j bs → bit_or found (bits_of j (parts 8 n bs)) ≡ all →
-      bit_or (bit_or found r) (bits_of j (parts 8 (n - 1) (take (length bs - 8) (drop 8 bs)))) ≡ all
-  unfolding bits_of
-  bits_turn {r} h e i =
-      rw (rest_of 8 bs, e)
-      (or_assoc found (bit_of j bs) _ ∙ rw (← (bit_front j bs)) (rw (parts-cons 8 n bs h) at i))
-
-  pub bits_end : n ≡ 0 → bit_or found (bits_of j (parts 8 n bs)) ≡ all → found ≡ all
-  unfolding bits_of
-  bits_end h i = sym (or_zero_r found) ∙ rw (parts_none 8 n bs h) at i
+pub bits_end : (j n : ℕ) (r : List ℕ) (found all : ℕ) → (0 < n → length r < 8) → 8 * n ≤ length r → bit_or found (bits_of j
+    (parts 8 n r)) ≡ all → found ≡ all
+unfolding bits_of
+bits_end j n r found all h f i =
+    sym (or_zero_r found) ∙ rw (parts_none 8 n r (no_room 8 n (length r) (omega arith) f h)) at i

@@ -75,7 +75,7 @@ limited g seen (raw at k bs ∷ rs) n h l e =
 
 -- The kinds of a group, as the tables tell them: CLASS is 5, BLOCK 6, SAMPLER 8, actions 16.
 abbrev Tells : ℕ → (ℕ → Bool) → Row → Type 0
-Tells g f r = length (given (f r.kind) 0) ≡ once g r.group
+Tells g f r = length {A = ℕ} (given (f r.kind) 0) ≡ once g r.group
 
 rows_class : AllOf (Tells K.CLASS (λ k. eqb k K.CLASS)) table
 rows_class = omega arith
@@ -90,12 +90,12 @@ rows_act : AllOf (Tells K.ACTION acts) table
 rows_act = omega arith
 
 tells : (g : ℕ) (f : ℕ → Bool) → AllOf (Tells g f) table → (k : ℕ) → 0 < (row_of k).group → (v : ℕ) →
-    length (given (f k) v) ≡ once g (row_of k).group
+    length {A = ℕ} (given (f k) v) ≡ once g (row_of k).group
 tells g f h k l v =
     let r = its_row (Tells g f) h k l in
-    go (f k) ∙ ap (λ x. length (given (f x) 0)) r.1 ∙ r.0
+    go (f k) ∙ ap (λ x. length {A = ℕ} (given (f x) 0)) r.1 ∙ r.0
   where
-    go : (b : Bool) → length (given b v) ≡ length (given b 0)
+    go : (b : Bool) → length {A = ℕ} (given b v) ≡ length {A = ℕ} (given b 0)
     go true = refl
     go false = refl
 
@@ -117,7 +117,7 @@ firsts_count n (raw at k bs ∷ rs) f =
     let t = tells K.BLOCK (λ k. eqb k K.BLOCK) rows_block k f.0.grouped n in
     omega (arith, length-append (given (eqb k K.BLOCK) n) (firsts_of m rs), firsts_count m rs f.1)
 
-if_more : {A : Type 0} (b : Bool) (x : A) (xs : List A) → length (if b then x ∷ xs else xs) ≡ length (given b 0) + length xs
+if_more : {A : Type 0} (b : Bool) (x : A) (xs : List A) → length (if b then x ∷ xs else xs) ≡ length {A = ℕ} (given b 0) + length xs
 if_more true x xs = omega arith
 if_more false x xs = omega arith
 
@@ -137,7 +137,7 @@ samplers_count (raw at k bs ∷ rs) f =
     let t = tells K.SAMPLER (λ k. eqb k K.SAMPLER) rows_sampler k f.0.grouped 0 in
     omega (arith, length-append (sampler_in k bs) (samplers_in rs), one (eqb k K.SAMPLER), samplers_count rs f.1)
   where
-    one : (b : Bool) → length (if b then sampler_of bs ∷ [] else []) ≡ length (given b 0)
+    one : (b : Bool) → length (if b then sampler_of bs ∷ [] else []) ≡ length {A = ℕ} (given b 0)
     one true = refl
     one false = refl
 

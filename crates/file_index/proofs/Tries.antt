@@ -103,3 +103,16 @@ module _ (n : ℕ) (bs : List ℕ) (h : 0 < n) (e : branches_fit n bs ≡ true) 
 pub turned : {base : List ℕ} {m : ℕ} {all out : List ℕ} {at v : ℕ} {l left : List ℕ} → l ≡ v ∷ left →
     Fills base m all out at l → Next base m all out at (v ∷ []) left
 turned e f = record { fills = rw e at f }
+
+-- OF n BRANCHES i are behind.
+pub left_some : {m n i : ℕ} → m ≡ n → i < m → 0 < n - i
+left_some e h = omega arith
+
+pub left_none : {m n i : ℕ} → m ≡ n → m ≤ i → n - i ≡ 0
+left_none e h = omega arith
+
+pub left_less : (n i : ℕ) → n - i - 1 ≡ n - (i + 1)
+left_less n i = omega arith
+
+pub left_all : (n : ℕ) → n - 0 ≡ n
+left_all n = omega arith

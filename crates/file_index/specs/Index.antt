@@ -33,13 +33,13 @@ pub record Judged (k : ℕ) (bs : List ℕ) : Type 0 where
 abbrev pub pad : ℕ → List ℕ → List ℕ
 pad n xs = xs ++ replicate (n - length xs) 0
 
--- One number, or none.
-abbrev pub given : Bool → ℕ → List ℕ
+-- One value, or none.
+abbrev pub given : {A : Type 0} → Bool → A → List A
 given true v = v ∷ []
 given false v = []
 
 -- After xs was written at n of `before`: where the next is written, and what stands there.
-pub record Wrote (n : ℕ) (xs before : List ℕ) (next : ℕ) (after : List ℕ) : Type 0 where
+pub record Wrote {A : Type 0} (n : ℕ) (xs before : List A) (next : ℕ) (after : List A) : Type 0 where
   pub next_is : next ≡ n + length xs
   pub after_is : after ≡ sets before n xs
 

@@ -14,7 +14,7 @@ ghost use Rattle.file_index.specs.Index.{goes_in, graph_of, loops_at, loops_in, 
 ghost use Rattle.file_index.specs.Branches.{bit_of, named_in, Claimed, offered, offered_try, offered_in, rows, Roomy, Noted};
 ghost use Rattle.file_index.specs.Branches.{Tried, branches_of};
 
-use base_numbers::{kind, limit};
+use base_numbers::{item, kind, limit};
 
 // `first[b]` actions stand before block b, and `first[blocks]` is how many there are; the record of action a stands at byte
 // `place[a]`; the body block of class c is `body[c]`. What is not used is 0.
@@ -88,15 +88,11 @@ fn pair_at(s: &[u8], at: usize) -> u16
 fn body_of(body: [u16; limit::CLASSES], class: u16) -> u16
     ensures { result ≡ get_or body class 0 }
 {
-    let c = class as usize;
-    if c < limit::CLASSES {
-        return body[c];
-    }
-    0
+    body.get(class as usize).copied().unwrap_or(0)
 }
 
 // v written at n of `out`, if `on`; and where the next is written.
-fn noted(on: bool, v: u16, n: usize, out: &mut [u16]) -> usize
+fn noted<T: Copy>(on: bool, v: T, n: usize, out: &mut [T]) -> usize
     requires { n + length (given on v) ≤ length out.old }
     ensures { Wrote n (given on v) out.old result out.new }
 {
@@ -145,12 +141,12 @@ pub fn index_of(s: &[u8]) -> Index
     }
     first[blocks] = actions as u16;
     Index {
-        blocks: blocks,
-        actions: actions,
-        classes: classes,
-        first: first,
-        place: place,
-        body: body,
+        blocks,
+        actions,
+        classes,
+        first,
+        place,
+        body,
     }
 }
 
@@ -187,14 +183,12 @@ fn branches_named(bs: &[u8], n: usize, out: &mut [u16]) -> usize
     requires { Branched bs.now n out.old }
     ensures { Wrote n (branch_blocks bs.now) out.old result out.new }
 {
-    let mut left = file_fields::u16_at(bs, 0);
     let mut rest = &bs[2..];
     let mut at = n;
-    while 0 < left {
+    for _ in 0..file_fields::u16_at(bs, 0) {
         let size = 4 + 8 * (file_fields::u16_at(rest, 2) as usize);
         at = noted(true, pair_at(rest, 0), at, out);
         rest = &rest[size..];
-        left = left - 1;
     }
     at
 }
@@ -246,10 +240,10 @@ pub fn graph_of(s: &[u8], start: bool, body: [u16; limit::CLASSES]) -> Graph
     }
     from[actions] = ends as u16;
     Graph {
-        own: own,
-        times: times,
-        from: from,
-        goes: goes,
+        own,
+        times,
+        from,
+        goes,
     }
 }
 
@@ -272,13 +266,10 @@ fn names(j: u32, s: &[u8]) -> u32
     requires { Claimed s.now }
     ensures { result ≡ named_in j s.now }
 {
-    let mut left = file_fields::u16_at(s, 0);
-    let mut rest = &s[2..];
+    let items = file_fields::u16_at(s, 0) as usize;
     let mut found = 0;
-    while 0 < left {
-        found = found | bit(j, rest);
-        rest = &rest[8..];
-        left = left - 1;
+    for item in s[2..].chunks_exact(item::BYTES).take(items) {
+        found |= bit(j, item);
     }
     found
 }
@@ -321,17 +312,15 @@ fn try_noted(
         (rows claim.old resources.old bins.old syncs.old) result
         (rows claim.new resources.new bins.new syncs.new) }
 {
-    let mut left = file_fields::u16_at(bs, 0);
     let mut rest = &bs[2..];
     let mut here = at + 2;
     let mut next = n;
-    while 0 < left {
+    for _ in 0..file_fields::u16_at(bs, 0) {
         let size = 4 + 8 * (file_fields::u16_at(rest, 2) as usize);
         let place = (here + 2) as u16;
         next = branch_noted(place, &rest[2..size], next, claim, resources, bins, syncs);
         here = here + size;
         rest = &rest[size..];
-        left = left - 1;
     }
     next
 }
@@ -396,11 +385,11 @@ pub fn branches_of(s: &[u8]) -> Branches
     }
     from[actions] = ends as u16;
     Branches {
-        from: from,
-        claim: claim,
-        resources: resources,
-        bins: bins,
-        syncs: syncs,
+        from,
+        claim,
+        resources,
+        bins,
+        syncs,
     }
 }
 
@@ -477,27 +466,15 @@ pub fn counts_of(s: &[u8]) -> Counts
         at = file_reader::next(s, at);
     }
     Counts {
-        resources: resources,
-        bins: bins,
-        syncs: syncs,
-        variables: variables,
-        samplers: samplers,
+        resources,
+        bins,
+        syncs,
+        variables,
+        samplers,
     }
 }
 
 // ---- the samplers
-
-// v written at n of `out`, if `on`; and where the next is written.
-fn noted_u32(on: bool, v: u32, n: usize, out: &mut [u32]) -> usize
-    requires { n + length (given on v) ≤ length out.old }
-    ensures { Wrote n (given on v) out.old result out.new }
-{
-    if on {
-        out[n] = v;
-        return n + 1;
-    }
-    n
-}
 
 // The code of a SAMPLER's lowest value; 0 of any other record.
 fn lowest_of(kind: u32, bs: &[u8]) -> u32
@@ -537,13 +514,13 @@ pub fn samplers_of(s: &[u8]) -> Samplers
         let kind = x.kind;
         let end = file_reader::next(s, at);
         let bs = &s[at + 4..end];
-        noted_u32(
+        noted(
             kind == kind::SAMPLER,
             lowest_of(kind, bs),
             samplers,
             &mut lowest,
         );
-        samplers = noted_u32(
+        samplers = noted(
             kind == kind::SAMPLER,
             values_of(kind, bs),
             samplers,
@@ -551,8 +528,5 @@ pub fn samplers_of(s: &[u8]) -> Samplers
         );
         at = end;
     }
-    Samplers {
-        lowest: lowest,
-        values: values,
-    }
+    Samplers { lowest, values }
 }

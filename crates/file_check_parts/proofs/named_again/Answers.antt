@@ -1,51 +1,27 @@
--- `file_check_parts::named_again` meets its contract. The loop's invariant: what is found so far or in the rest is the whole
--- answer. Assumes nothing.
-use lib.Seq.{length-take-le}
-use mathlib.Core.Path.{refl, sym}
-use native.Mathlib.Omega.{arith}
-use Rattle.file_check_parts.proofs.Laws.{fits_more, fits_turn, any_turn, any_end}
-use Rattle.file_check_parts.specs.Tests.{part_of}
+-- `file_check_parts::named_again` meets its contract. Assumes nothing.
+use Rattle.std.proofs.Common.{sym, ◌∙◌}
+use Rattle.file_check_parts.proofs.Chunks.{room, finds, seeks, any_came}
 use Rattle.semantics.specs.Record.{same_part}
 use Rattle.file_check_parts.proofs.named_again.Goals as goal
 
-pub loop-left-init : goal.loop-left-init
-loop-left-init c = (c.part_size-size.ensures.0, (rw c.part_size-size.ensures.0 c.requires.1, refl))
+pub returns-then-same : goal.returns-then-same
+returns-then-same g c =
+    let i = c.loop-part.invariant in
+    let s = c.in-Some.ensures.steps in
+    sym (finds _ _ _ _ _ _ s.0.1.0 (s.0.1.1 ∙ i.0) s.1 (same_part g.P.Listed.kind c.args.x.now) (sym c.if-same.ensures)) ∙ i.2
 
-pub slice_bounds-same_part-end : goal.slice_bounds-same_part-end
-slice_bounds-same_part-end c = let l = c.loop-left in
-    sym (length-take-le _ _ (fits_more _ l.left _ c.loop-left-test.true l.invariant.1.0))
-
-pub same_part-found-requires : goal.same_part-found-requires
-same_part-found-requires c = let l = c.loop-left in
-    rw (length-take-le _ _ (fits_more _ l.left _ c.loop-left-test.true l.invariant.1.0)) (omega (arith, l.invariant.0))
-
-pub slice_bounds-rest-count : goal.slice_bounds-rest-count
-slice_bounds-rest-count c = let l = c.loop-left in fits_more _ l.left _ c.loop-left-test.true
-    l.invariant.1.0
-
-pub slice_bounds-rest-start : goal.slice_bounds-rest-start
-slice_bounds-rest-start c = let l = c.loop-left in fits_more _ l.left _
-    c.loop-left-test.true l.invariant.1.0
-
-pub overflow_sub-left : goal.overflow_sub-left
-overflow_sub-left c = omega (arith, c.loop-left-test.true)
-
-pub loop-left-smaller : goal.loop-left-smaller
-loop-left-smaller c = omega (arith, c.loop-left-test.true)
-
-pub loop-left-preserved : goal.loop-left-preserved
-loop-left-preserved c = let l = c.loop-left in
-    let t = c.loop-left-test.true in
-    let z = c.part_size-size.result in
-    let p = c.same_part-found in (
-      l.invariant.0,
-      (
-        fits_turn z l.left l.rest.now t l.invariant.1.0,
-        any_turn z l.left l.rest.now t (same_part
-            (part_of c.args.share) c.args.x.now) l.found p.result _ p.ensures l.invariant.1.1,
-      ),
+pub loop-part-preserved : goal.loop-part-preserved
+loop-part-preserved g c =
+    let i = c.loop-part.invariant in
+    let s = c.in-Some.ensures.steps in
+    let l = s.0.1.1 ∙ i.0 in (
+      s.0.0 ∙ i.0,
+      room _ _ _ _ _ _ s.0.1.0 l s.1 i.1,
+      sym (seeks _ _ _ _ _ _ s.0.1.0 l s.1 (same_part g.P.Listed.kind c.args.x.now) (sym c.if-same.ensures)) ∙ i.2,
     )
 
 pub returns : goal.returns
-returns c = let l = c.loop-left in
-    rw (← l.invariant.0) (any_end _ l.left l.rest.now (omega (arith, c.loop-left-test.false)) _ l.found _ l.invariant.1.1)
+returns g c =
+    let i = c.loop-part.invariant in
+    let e = c.in-None.ensures.steps in
+    sym (any_came _ _ _ g.met.P.Part.not_empty i.1 (λ o. rw i.0 at (e o).1.0) (same_part g.P.Listed.kind c.args.x.now)) ∙ i.2

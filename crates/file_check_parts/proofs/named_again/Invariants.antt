@@ -1,19 +1,15 @@
--- `file_check_parts::named_again` meets its contract. The loop's invariant: what is found so far or in the rest is the whole
--- answer. Assumes nothing.
-use Prim.Native.Nat.{◌≤◌, ◌*◌}
-use lib.ListN.{length}
-use mathlib.Core.Bool.{◌||◌}
-use mathlib.Core.Path.{◌≡◌}
-use Rattle.file_check_parts.specs.Tests.{part_of}
-use Rattle.semantics.specs.Bytes.{parts}
-use Rattle.semantics.specs.Record.{part_size, same_part}
+-- `file_check_parts::named_again` meets its contract. The loop's invariant: the parts that are left decide. Assumes nothing.
+use Rattle.std.proofs.Common.{◌≡◌, ◌*◌, ◌≤◌, length}
 use Rattle.semantics.specs.Words.{any}
+use Rattle.semantics.specs.Bytes.{parts}
+use Rattle.semantics.specs.Record.{same_part}
 use Rattle.file_check_parts.proofs.named_again.Given as goal
 
-abbrev pub invariant-loop-left : goal.invariant-loop-left
-invariant-loop-left l = (l.size ≡ part_size (part_of l.share)) ×
-    ((l.size * l.left ≤ length l.rest) × ((l.found || any (same_part (part_of l.share) l.x) (parts l.size l.left l.rest)) ≡ any (same_part
-    (part_of l.share) l.x) (parts l.size l.count l.bs)))
-
-abbrev pub decreases-loop-left : goal.decreases-loop-left
-decreases-loop-left l = l.left
+abbrev pub invariant-loop-part : goal.invariant-loop-part
+invariant-loop-part g l =
+    let k = g.P.Part.SIZE in
+    let i = l.part-iterator in
+    let p = same_part g.P.Listed.kind l.x in
+    (i.iter.size ≡ k)
+    × (k * i.n ≤ length i.iter.rest.now)
+    × (any p (parts k i.n i.iter.rest.now) ≡ any p (parts k l.count l.bs))

@@ -1,55 +1,30 @@
--- `file_check_parts::parts_repeat` meets its contract. The loop's invariant: what is found so far or in the rest is the whole
--- answer. Assumes nothing.
-use lib.Seq.{length-take-le}
-use mathlib.Core.Path.{refl, sym}
+-- `file_check_parts::parts_repeat` meets its contract. Assumes nothing.
+use Rattle.std.proofs.Common.{sym, ◌∙◌}
 use native.Mathlib.Omega.{arith}
-use Rattle.file_check_parts.proofs.Laws.{fits_more, fits_turn, repeats_turn, repeats_end}
-use Rattle.file_check_parts.specs.Tests.{part_of}
 use Rattle.semantics.specs.Record.{same_part}
+use Rattle.file_check_parts.proofs.Laws.{fits_less}
+use Rattle.file_check_parts.proofs.Chunks.{repeats_here, repeats_on, repeats_no_more}
 use Rattle.file_check_parts.proofs.parts_repeat.Goals as goal
 
-pub loop-left-init : goal.loop-left-init
-loop-left-init c = (c.part_size-size.ensures.0, (rw c.part_size-size.ensures.0 c.requires, refl))
-
-pub slice_bounds-first-end : goal.slice_bounds-first-end
-slice_bounds-first-end c = let l = c.loop-left in
-    sym (length-take-le _ l.rest.now (fits_more _ l.left _ c.loop-left-test.true l.invariant.1.0))
-
-pub slice_bounds-rest-count : goal.slice_bounds-rest-count
-slice_bounds-rest-count c = let l = c.loop-left in fits_more _ l.left _ c.loop-left-test.true l.invariant.1.0
-
-pub slice_bounds-rest-start : goal.slice_bounds-rest-start
-slice_bounds-rest-start c = let l = c.loop-left in fits_more _ l.left _ c.loop-left-test.true l.invariant.1.0
-
-pub overflow_sub-left : goal.overflow_sub-left
-overflow_sub-left c = omega (arith, c.loop-left-test.true)
-
-pub named_again-found-requires : goal.named_again-found-requires
-named_again-found-requires c = let l = c.loop-left in
-    let t = c.loop-left-test.true in
-    let z = c.part_size-size.result in
-    rw (← l.invariant.0) (
-      rw (length-take-le z l.rest.now (fits_more _ l.left _ t l.invariant.1.0)) (omega arith),
-      fits_turn z l.left l.rest.now t l.invariant.1.0,
-    )
-
-pub loop-left-smaller : goal.loop-left-smaller
-loop-left-smaller c = omega (arith, c.loop-left-test.true)
+pub returns-then-named_again : goal.returns-then-named_again
+returns-then-named_again g c =
+    let s = c.split_at.ensures in
+    sym (repeats_here (same_part g.P.Listed.kind) _ _ _ _ _ _ c.SIZE.ensures c.loop-left-test.true s.front s.back
+    (sym c.if-named_again.ensures)) ∙ c.loop-left.invariant.1
 
 pub loop-left-preserved : goal.loop-left-preserved
-loop-left-preserved c = let l = c.loop-left in
-    let t = c.loop-left-test.true in
-    let z = c.part_size-size.result in
-    let p = c.named_again-found in (
-      l.invariant.0,
-      (
-        fits_turn z l.left l.rest.now t l.invariant.1.0,
-        repeats_turn z l.left l.rest.now t
-            (same_part (part_of c.args.share)) l.found p.result _ (rw (← l.invariant.0) at p.ensures) l.invariant.1.1,
+loop-left-preserved g c =
+    let s = c.split_at.ensures in (
+      omega (
+        arith,
+        c.SIZE.ensures,
+        s.back_len,
+        fits_less g.P.Part.SIZE c.loop-left.left _ c.loop-left-test.true
+            c.loop-left.invariant.0,
       ),
+      sym (repeats_on (same_part g.P.Listed.kind) _ _ _ _ _ _ c.SIZE.ensures c.loop-left-test.true s.front s.back
+          (sym c.if-named_again.ensures)) ∙ c.loop-left.invariant.1,
     )
 
 pub returns : goal.returns
-returns c = let l = c.loop-left in
-    rw (← l.invariant.0) (repeats_end _ l.left l.rest.now (omega (arith, c.loop-left-test.false)) _ l.found _
-    l.invariant.1.1)
+returns g c = sym (repeats_no_more (same_part g.P.Listed.kind) _ _ _ c.loop-left-test.false) ∙ c.loop-left.invariant.1

@@ -5,7 +5,7 @@ use borrow.Author.Tests.{le-leb, lt-leb}
 use lib.ListN.{length, drop}
 use mathlib.Core.Bool.{true, false}
 use mathlib.Core.Path.{◌≡◌, sym, ◌∙◌}
-use Rattle.file_check_record.proofs.Rules.{tail_is, body_is}
+use Rattle.file_check_record.proofs.Rules.{tail_is, tail_read, body_is}
 use Rattle.file_check_record.specs.Rows.{column_of}
 use Rattle.semantics.specs.Record.{row_of, sized, valid, twice}
 use Rattle.file_check_record.proofs.body_number.Goals as goal
@@ -23,7 +23,7 @@ returns-then-not-tail_sized c = let r = row_of c.args.kind in
     let h : r.head ≤ length bs = rw c.entry-head.ensures at
     c.if-bs-head.false in
     let s : sized r.tail (drop r.head bs) ≡ false = sym (tail_is sized r bs _ _
-    c.entry-head.ensures c.entry-tail.ensures) ∙ sym
+    c.entry-head.ensures (tail_read (row_of c.args.kind) c.of-tail.ensures c.entry.ensures)) ∙ sym
     c.tail_sized.ensures ∙ c.if-not-tail_sized.true in
     sym (body_is r bs ∙ rw (le-leb _ _ h, s))
 
@@ -40,7 +40,7 @@ unfolding column_of
 returns-then-not-in_set-tail_valid c = let r = row_of c.args.kind in
     let bs = c.args.bs.now in
     let i = c.entry-head.ensures in
-    let j = c.entry-tail.ensures in
+    let j = (tail_read (row_of c.args.kind) c.of-tail.ensures c.entry.ensures) in
     let h : r.head ≤ length bs = rw i at c.if-bs-head.false in
     let s : sized r.tail (drop r.head bs) ≡ true = sym (tail_is sized r bs _ _ i j) ∙ sym
     c.tail_sized.ensures ∙ c.if-not-tail_sized.false in
@@ -62,7 +62,7 @@ unfolding column_of
 returns-then-tail_twice c = let r = row_of c.args.kind in
     let bs = c.args.bs.now in
     let i = c.entry-head.ensures in
-    let j = c.entry-tail.ensures in
+    let j = (tail_read (row_of c.args.kind) c.of-tail.ensures c.entry.ensures) in
     let h : r.head ≤ length bs = rw i at c.if-bs-head.false in
     let s : sized r.tail (drop r.head bs) ≡ true = sym (tail_is sized r bs _ _ i j) ∙ sym
     c.tail_sized.ensures ∙ c.if-not-tail_sized.false in
@@ -85,7 +85,7 @@ unfolding column_of
 returns c = let r = row_of c.args.kind in
     let bs = c.args.bs.now in
     let i = c.entry-head.ensures in
-    let j = c.entry-tail.ensures in
+    let j = (tail_read (row_of c.args.kind) c.of-tail.ensures c.entry.ensures) in
     let h : r.head ≤ length bs = rw i at c.if-bs-head.false in
     let s : sized r.tail (drop r.head bs) ≡ true = sym (tail_is sized r bs _ _ i j) ∙ sym
     c.tail_sized.ensures ∙ c.if-not-tail_sized.false in

@@ -14,9 +14,9 @@ u16_at-requires c = let h : 4 ≤ length c.args.bs.now = rw c.in-20.is at
     c.requires.head_in in
     omega (arith, h)
 
-pub all_branches-requires : goal.all_branches-requires
+pub branches_later-requires : goal.branches_later-requires
 unfolding row_of
-all_branches-requires c = let h : sized branches c.args.bs.now ≡ true = rw c.in-26.is at
+branches_later-requires c = let h : sized branches c.args.bs.now ≡ true = rw c.in-26.is at
     c.requires.tail_sized in h
 
 pub u16_at-requires-in-27 : goal.u16_at-requires-in-27
@@ -30,8 +30,8 @@ returns-in-20 c = rw (c.in-20.is, c.u16_at.ensures.0) (later_do c.args.own
     c.args.bs.now)
 
 pub returns-in-26 : goal.returns-in-26
-returns-in-26 c = rw c.in-26.is (c.all_branches.ensures ∙ later_try
-    c.args.own _ c.args.bs.now)
+returns-in-26 c = rw c.in-26.is (c.branches_later.ensures ∙ later_try
+    c.args.own c.args.bs.now)
 
 pub returns-in-27 : goal.returns-in-27
 returns-in-27 c = rw (c.in-27.is, c.u16_at-in-27.ensures.0) (later_while c.args.own

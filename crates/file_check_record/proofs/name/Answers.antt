@@ -1,6 +1,6 @@
 -- `file_check_record::name` meets its contract. Assumes nothing.
 use mathlib.Core.Path.{sym, ◌∙◌}
-use Rattle.file_check_record.proofs.Rules.{tail_is, named_is}
+use Rattle.file_check_record.proofs.Rules.{tail_is, tail_read, named_is}
 use Rattle.file_check_record.specs.Rows.{column_of}
 use Rattle.semantics.specs.Decode.{tail_known}
 use Rattle.semantics.specs.Record.{row_of, sized}
@@ -21,13 +21,13 @@ pub tail_known-requires : goal.tail_known-requires
 unfolding column_of
 tail_known-requires c = let r = row_of c.args.kind in
     tail_is sized r c.args.bs.now _ _
-    c.entry-head.ensures c.entry-tail.ensures ∙ c.requires.tail_sized
+    c.entry-head.ensures (tail_read (row_of c.args.kind) c.of-tail.ensures c.entry.ensures) ∙ c.requires.tail_sized
 
 pub returns-then-not-field_known-tail_known : goal.returns-then-not-field_known-tail_known
 unfolding column_of
 returns-then-not-field_known-tail_known c = let o = c.args in
     let t = tail_is (tail_known o.n) (row_of o.kind) o.bs.now _ _
-    c.entry-head.ensures c.entry-tail.ensures in
+    c.entry-head.ensures (tail_read (row_of c.args.kind) c.of-tail.ensures c.entry.ensures) in
     sym (named_is o.n o.own o.kind o.bs.now ∙ rw (
       ← t,
       ← c.field_known.ensures,
@@ -43,7 +43,7 @@ unfolding column_of
 returns-then-not-later c = let o = c.args in
     let t = tail_is (tail_known o.n) (row_of o.kind) o.bs.now _ _
     c.entry-head.ensures
-    c.entry-tail.ensures in
+    (tail_read (row_of c.args.kind) c.of-tail.ensures c.entry.ensures) in
     sym (named_is o.n o.own o.kind o.bs.now ∙ rw (
       ← t,
       ← c.field_known.ensures,
@@ -58,7 +58,7 @@ unfolding column_of
 returns c = let o = c.args in
     let t = tail_is (tail_known o.n) (row_of o.kind) o.bs.now _ _
     c.entry-head.ensures
-    c.entry-tail.ensures in
+    (tail_read (row_of c.args.kind) c.of-tail.ensures c.entry.ensures) in
     sym (named_is o.n o.own o.kind o.bs.now ∙ rw (
       ← t,
       ← c.field_known.ensures,

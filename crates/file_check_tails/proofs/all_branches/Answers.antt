@@ -1,28 +1,33 @@
 -- `file_check_tails::all_branches` meets its contract. Assumes nothing.
-use lib.Dec.{leb}
-use lib.ListN.{length}
-use native.Mathlib.Omega.{arith}
-use Rattle.file_check_parts.proofs.Laws.{rest_of}
-use Rattle.file_check_tails.proofs.Branches.{and_right}
-use Rattle.file_check_tails.proofs.Numbered.{branches_room}
+use Rattle.std.proofs.Common.{sym, ◌∙◌, refl, true, false}
+use Rattle.file_check_tails.proofs.Branches.{fit_four, fit_size, fit_turn, all_on, all_fail, all_end}
 use Rattle.file_check_tails.proofs.all_branches.Goals as goal
 
-pub u16_at-requires : goal.u16_at-requires
-u16_at-requires c = omega (arith, branches_room c.args.bs.now c.requires)
+pub branch_size-requires : goal.branch_size-requires
+branch_size-requires g c =
+    fit_four _ _ c.loop.rest.now (rw c.u16_at-end.ensures.0 at c.loop-test.true) _ refl c.loop.invariant.0
 
-pub slice_bounds-branches_pass-count : goal.slice_bounds-branches_pass-count
-slice_bounds-branches_pass-count c = omega (arith, branches_room c.args.bs.now c.requires)
+pub split_at-requires : goal.split_at-requires
+split_at-requires g c =
+    fit_size _ _ c.loop.rest.now (rw c.u16_at-end.ensures.0 at c.loop-test.true) _ c.branch_size.ensures.0 c.loop.invariant.0
 
-pub slice_bounds-branches_pass-start : goal.slice_bounds-branches_pass-start
-slice_bounds-branches_pass-start c = omega (arith, branches_room c.args.bs.now c.requires)
+pub returns-then-not-passes : goal.returns-then-not-passes
+returns-then-not-passes g c = λ p f.
+    let r = c.loop.rest.now in
+    sym (all_fail _ _ r (rw c.u16_at-end.ensures.0 at c.loop-test.true) _ c.branch_size.ensures.0 p
+    (rw (← c.split_at.ensures.front) (sym (f c.split_at.result.0 false c.if-not-passes.ensures)))) ∙ c.loop.invariant.1 p f
 
-pub branches_pass-requires : goal.branches_pass-requires
-branches_pass-requires c = let bs = c.args.bs.now in
-    rw (rest_of 2 bs, c.u16_at.ensures.0) (and_right (leb 2 (length bs)) _ c.requires)
+pub loop-preserved : goal.loop-preserved
+loop-preserved g c =
+    let r = c.loop.rest.now in
+    let t = rw c.u16_at-end.ensures.0 at c.loop-test.true in
+    let z = c.branch_size.ensures.0 in
+    let s = c.split_at.ensures in (
+      rw s.back (fit_turn _ _ r t _ z c.loop.invariant.0),
+      λ p f. rw s.back (sym (all_on _ _ r t _ z p (rw (← s.front) (sym (f c.split_at.result.0 true c.if-not-passes.ensures))))
+          ∙ c.loop.invariant.1 p f),
+    )
 
 pub returns : goal.returns
-returns c = rw (
-  c.branches_pass.ensures,
-  rest_of 2 c.args.bs.now,
-  c.u16_at.ensures.0,
-)
+returns g c = λ p f.
+    sym (all_end _ _ c.loop.rest.now (rw c.u16_at-end.ensures.0 at c.loop-test.false) p) ∙ c.loop.invariant.1 p f

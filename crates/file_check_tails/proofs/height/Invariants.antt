@@ -10,6 +10,3 @@ use Rattle.file_check_tails.proofs.height.Given as goal
 
 abbrev pub invariant-loop-k : goal.invariant-loop-k
 invariant-loop-k l = (l.k ≤ l.n) × ((l.h + l.k ≤ l.n + 1) × (l.h ≡ height_of (pile (parts 6 (l.n - l.k) (drop (6 * l.k) l.bs)))))
-
-abbrev pub decreases-loop-k : goal.decreases-loop-k
-decreases-loop-k l = l.k

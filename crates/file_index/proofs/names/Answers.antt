@@ -1,51 +1,40 @@
--- `file_index::names` meets its contract. The loop's invariant: what is found so far, with what the rest names, is all that is
--- named. Assumes nothing.
+-- `file_index::names` meets its contract. Assumes nothing.
+use Rattle.std.proofs.Common.{◌∙◌}
 use lib.ListN.{length-drop}
 use native.Mathlib.Omega.{arith}
 use Rattle.file_index.proofs.Claims.{bits_turn, bits_end}
 use Rattle.file_index.specs.Branches.{named_in}
-use Rattle.file_check_parts.proofs.Laws.{rest_of, fits_more, fits_turn}
+use Rattle.file_check_parts.proofs.Laws.{rest_of}
+use Rattle.file_check_parts.proofs.Chunks.{room}
 use Rattle.file_index.proofs.names.Goals as goal
 
-pub u16_at-left-requires : goal.u16_at-left-requires
-u16_at-left-requires c = c.requires.counted
-
-pub slice_bounds-rest-count : goal.slice_bounds-rest-count
-slice_bounds-rest-count c = c.requires.counted
-
-pub slice_bounds-rest-start : goal.slice_bounds-rest-start
-slice_bounds-rest-start c = c.requires.counted
-
-pub loop-left-init : goal.loop-left-init
+pub loop-item-init : goal.loop-item-init
 unfolding named_in
-loop-left-init c = let e = c.u16_at-left.ensures.0 in
+loop-item-init c =
+    let x = c.into_iter-item-iterator.ensures.into_iter_gives in
+    let t = c.take-item-items.ensures in
+    let k = c.chunks_exact.ensures in
     let d = rest_of 2 c.args.s.now in
-    (rw (d, e) (omega (arith, c.requires.fits, length-drop 2 c.args.s.now)), rw (d, e))
+    let e = c.u16_at-items.ensures.0 in
+    (
+      rw (x, t.source) k.size,
+      rw (x, t.count, t.source, k.rest, d, e) (omega (arith, c.requires.fits, length-drop 2 c.args.s.now)),
+      rw (x, t.count, t.source, k.rest, d, e),
+    )
 
-pub bit-found-requires : goal.bit-found-requires
-bit-found-requires c = let l = c.loop-left in fits_more 8 l.left _ c.loop-left-test.true l.invariant.0
-
-pub slice_bounds-rest-count-in-loop-left : goal.slice_bounds-rest-count-in-loop-left
-slice_bounds-rest-count-in-loop-left c = let l = c.loop-left in fits_more 8 l.left _ c.loop-left-test.true l.invariant.0
-
-pub slice_bounds-rest-start-in-loop-left : goal.slice_bounds-rest-start-in-loop-left
-slice_bounds-rest-start-in-loop-left c = let l = c.loop-left in fits_more 8 l.left _ c.loop-left-test.true l.invariant.0
-
-pub overflow_sub-left : goal.overflow_sub-left
-overflow_sub-left c = omega (arith, c.loop-left-test.true)
-
-pub loop-left-smaller : goal.loop-left-smaller
-loop-left-smaller c = omega (arith, c.loop-left-test.true)
-
-pub loop-left-preserved : goal.loop-left-preserved
-loop-left-preserved c = let t = c.loop-left-test.true in
-    let l = c.loop-left in
-    let j = c.args.j in (
-      fits_turn 8 l.left l.rest.now t l.invariant.0,
-      bits_turn j l.left l.rest.now l.found _ t c.bit-found.ensures l.invariant.1,
+pub loop-item-preserved : goal.loop-item-preserved
+loop-item-preserved c =
+    let i = c.loop-item.invariant in
+    let s = c.in-Some.ensures.steps in
+    let l = s.0.1.1 ∙ i.0 in
+    (
+      s.0.0 ∙ i.0,
+      room _ _ _ _ _ _ s.0.1.0 l s.1 i.1,
+      bits_turn c.args.j _ _ _ _ _ c.loop-item.found _ _ s.0.1.0 l s.1 c.bit-found.ensures i.2,
     )
 
 pub returns : goal.returns
-returns c = let l = c.loop-left in
-    let j = c.args.j in
-    bits_end j l.left l.rest.now l.found _ (omega (arith, c.loop-left-test.false)) l.invariant.1
+returns c =
+    let i = c.loop-item.invariant in
+    let e = c.in-None.ensures.steps in
+    bits_end c.args.j _ _ c.loop-item.found _ (λ o. rw i.0 at (e o).1.0) i.1 i.2

@@ -1,5 +1,5 @@
--- `file_index::names` meets its contract. The loop's invariant: what is found so far, with what the rest names, is all that is
--- named. Assumes nothing.
+-- `file_index::names` meets its contract. The loop's invariant: what is found so far, with what the items that are left name, is
+-- all that is named. Assumes nothing.
 use lib.Bits.{bit_or}
 use lib.ListN.{length}
 use mathlib.Core.Path.{◌≡◌}
@@ -8,8 +8,9 @@ use Rattle.file_index.specs.Branches.{bits_of, named_in}
 use Rattle.semantics.specs.Bytes.{parts}
 use Rattle.file_index.proofs.names.Given as goal
 
-abbrev pub invariant-loop-left : goal.invariant-loop-left
-invariant-loop-left l = (8 * l.left ≤ length l.rest) × (bit_or l.found (bits_of l.j (parts 8 l.left l.rest)) ≡ named_in l.j l.s)
-
-abbrev pub decreases-loop-left : goal.decreases-loop-left
-decreases-loop-left l = l.left
+abbrev pub invariant-loop-item : goal.invariant-loop-item
+invariant-loop-item l =
+    let i = l.item-iterator in
+    (i.iter.size ≡ 8)
+    × (8 * i.n ≤ length i.iter.rest.now)
+    × (bit_or l.found (bits_of l.j (parts 8 i.n i.iter.rest.now)) ≡ named_in l.j l.s)

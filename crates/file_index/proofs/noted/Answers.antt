@@ -4,10 +4,10 @@ use native.Mathlib.Omega.{arith}
 use Rattle.file_index.proofs.noted.Goals as goal
 
 pub bounds-out-n : goal.bounds-out-n
-bounds-out-n c = let h = rw c.if-on.true at c.requires in omega (arith, h)
+bounds-out-n g c = let h = rw c.if-on.true at c.requires in omega (arith, h)
 
 pub returns-then-on : goal.returns-then-on
-returns-then-on c = rw c.if-on.true (record { next_is = refl; after_is = refl })
+returns-then-on g c = rw c.if-on.true (record { next_is = refl; after_is = refl })
 
 pub returns : goal.returns
-returns c = rw c.if-on.false (record { next_is = omega arith; after_is = refl })
+returns g c = rw c.if-on.false (record { next_is = omega arith; after_is = refl })

@@ -27,21 +27,21 @@ slice_bounds-bs-end c = (step_there _ _ c.loop-at-test.true c.loop-at.invariant.
 pub lowest_of-requires : goal.lowest_of-requires
 lowest_of-requires c = judged_there _ _ c.loop-at-test.true c.loop-at.invariant.fine c.read-x.ensures c.next-end.ensures
 
-pub slice_bounds-noted_u32-end : goal.slice_bounds-noted_u32-end
-slice_bounds-noted_u32-end c = lowest_long c.loop-at.invariant
+pub slice_bounds-noted-end : goal.slice_bounds-noted-end
+slice_bounds-noted-end c = lowest_long c.loop-at.invariant
 
-pub noted_u32-requires : goal.noted_u32-requires
-noted_u32-requires c = lowest_room c.loop-at.invariant c.loop-at-test.true c.read-x.ensures c.next-end.ensures
+pub noted-requires : goal.noted-requires
+noted-requires c = lowest_room c.loop-at.invariant c.loop-at-test.true c.read-x.ensures c.next-end.ensures
     c.lowest_of.ensures
 
 pub values_of-requires : goal.values_of-requires
 values_of-requires c = judged_there _ _ c.loop-at-test.true c.loop-at.invariant.fine c.read-x.ensures c.next-end.ensures
 
-pub slice_bounds-noted_u32-end-in-loop-at : goal.slice_bounds-noted_u32-end-in-loop-at
-slice_bounds-noted_u32-end-in-loop-at c = values_long c.loop-at.invariant
+pub slice_bounds-noted-end-in-loop-at : goal.slice_bounds-noted-end-in-loop-at
+slice_bounds-noted-end-in-loop-at c = values_long c.loop-at.invariant
 
-pub noted_u32-samplers-requires : goal.noted_u32-samplers-requires
-noted_u32-samplers-requires c = values_room c.loop-at.invariant c.loop-at-test.true c.read-x.ensures c.next-end.ensures
+pub noted-samplers-requires : goal.noted-samplers-requires
+noted-samplers-requires c = values_room c.loop-at.invariant c.loop-at-test.true c.read-x.ensures c.next-end.ensures
     c.values_of.ensures
 
 pub loop-at-smaller : goal.loop-at-smaller
@@ -50,7 +50,7 @@ loop-at-smaller c = let m =
     omega arith
 
 pub loop-at-preserved : goal.loop-at-preserved
-loop-at-preserved c = rw (c.noted_u32.ensures.after_is, c.noted_u32-samplers.ensures.next_is, c.noted_u32-samplers.ensures.after_is)
+loop-at-preserved c = rw (c.noted.ensures.after_is, c.noted-samplers.ensures.next_is, c.noted-samplers.ensures.after_is)
     (sampling_turn c.loop-at.invariant c.loop-at-test.true c.read-x.ensures c.next-end.ensures
     c.lowest_of.ensures c.values_of.ensures)
 
