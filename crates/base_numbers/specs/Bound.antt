@@ -1,4 +1,4 @@
--- The answer of the bound as one word, in the words of the code (module bound): a bound is its
+-- The answer of the bound as one word, as desk_c tells it: a bound is its
 -- own, and these stand behind all of them.
 -- Assumes nothing.
 use Rattle.std.specs.Prelude.{ℕ, ◌+◌, ◌*◌}

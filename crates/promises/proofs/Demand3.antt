@@ -190,6 +190,7 @@ module _ (bs : List ℕ) (m : Model) (e : decode bs ≡ accepted m) (f : Forward
       remains_first a (b ∷ l) s h c.0 λ g. remains b l (call bs a s).state (does a s h).is_sound c.1
 
   -- CALLS FROM FRESH.
+  -- Whatever the limits and rooms, all calls together make no more steps than the bound.
   pub steps_at_most : (l : List Ask) → steps_of bs l (fresh m) ≤ bound m
   unfolding total
   steps_at_most l =
