@@ -19,7 +19,7 @@ import native
 ROOT = native.ROOT
 LIST = ROOT / 'crates.txt'
 PAPER = ROOT / 'docs' / 'ARCHITECTURE.md'
-KIT = ['itoa']
+KIT = ['arrayvec', 'itoa']
 # Types that a crate holds without naming them; `rt` says where one is missing.
 REACHED = {'try_shifts': ['run_by_value'], 'desk_c': ['run_by_value', 'row_struct']}
 # Crates whose specs and contracts still have numbers without a name.

@@ -2,6 +2,7 @@
 #![tactic(auto)]
 
 ghost use Rattle.std.specs.Prelude.{◌≡◌, ◌≤◌, length, take, IfSome, IfOk};
+ghost use Rattle.std.specs.Io.KnownBytes.{Consumes};
 
 use std::io;
 use std::io::Read;
@@ -14,6 +15,7 @@ pub fn read_full<R: Read>(reader: &mut R, room: &mut [u8]) -> io::Result<usize>
     ensures same_len { length room.new ≡ length room.old }
     ensures bytes { IfOk result (λ n. IfSome (R.remaining reader.old) (λ input.
         take n room.new ≡ take (length room.old) input)) }
+    ensures consumed { IfOk result (λ n. Consumes (R.remaining reader.old) (R.remaining reader.new) (take n room.new)) }
 {
     let mut size = 0;
     while size < room.len() {
