@@ -11,7 +11,7 @@ ghost use Rattle.text_semantics.specs.Written.{two as two_of};
 ghost use Rattle.text_machine.specs.Entry.{FULL};
 ghost use Rattle.text_machine.specs.Sheet.{headed, innermost, kept_in};
 ghost use Rattle.text_machine.specs.Sheet as M;
-ghost use Rattle.text_sheet.specs.Numbers.{HEAD, ROOM, entry, kept_length, noted};
+ghost use Rattle.text_sheet.specs.Numbers.{HEAD, ROOM, entry, kept_length, noted, OpenedTotal};
 ghost use Rattle.text_sheet.specs.Pieces.{pieces_from, Laid};
 ghost use Rattle.text_sheet.specs.Told.{Put};
 ghost use Rattle.std.proofs.Math.Option.{some};
@@ -520,7 +520,7 @@ impl Sheet {
     #[tactic(auto, unfolding(text_machine::specs::Sheet::opens, text_machine::specs::Sheet::braces, text_machine::specs::Sheet::tries, text_machine::specs::Sheet::acts, text_machine::specs::Sheet::stands, text_machine::specs::Sheet::counts))]
     pub fn opened_total(&self, kind: u32, size: usize) -> usize
         requires { size ≤ FULL }
-        ensures { (line : ℕ) (bs : List ℕ) → result ≡ (M.opens (entry line kind size bs) self.now).total }
+        ensures { OpenedTotal kind size self.now result }
     {
         let n = match self.kept_size() {
             Some(kept) if kind == kind::TRY => size.saturating_sub(kept),
