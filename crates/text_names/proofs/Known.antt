@@ -287,5 +287,5 @@ module _ (t : Table) (p e : ℕ) (h : length t.rows < most_names) where
       by true g f = absurd (let z : ◌≡◌ {A = ℕ} 0 1 = cc in omega arith)
       by false g f =
           let l : length t.rows ≤ place_of t.text t.rows x =
-              omega (arith, place_known t.text t.rows x, none_at_end x ks g, known_length t.text t.rows) in
+          omega (arith, place_known t.text t.rows x, none_at_end x ks g, known_length t.text t.rows) in
           rw (lt-leb most_names (length t.rows) h, le-ltb (place_of t.text t.rows x) (length t.rows) l) refl

@@ -199,14 +199,15 @@ impl<'t> Names<'t> {
             return;
         }
         let number = self.count(kind);
-        self.rows.push(Row {
+        let row = Row {
             at: p,
             len: e - p,
             key: key_of(&self.text[p..e]),
             kind,
             number,
             lacks,
-        });
+        };
+        self.rows.push(row);
     }
 
     // The name that stands from byte p up to byte e is declared as a kind.
