@@ -1,5 +1,5 @@
 -- The pile as a list of numbers: what is put onto it, and what a token makes of it. Assumes nothing.
-use Rattle.std.specs.Prelude.{if◌then◌else◌, Result, Ok, Err, Option, Some, None, OnErr, map, take, drop, slice_get, All}
+use Rattle.std.specs.Prelude.{if◌then◌else◌, Ok, Err, Some, None, map, take, drop, slice_get, All}
 use Rattle.std.proofs.lemmas.Option.{slice_get_within, get_or_from_slice_get, slice_get-get_or}
 use Rattle.std.proofs.Common.{drop-cons, get_or-take, length-take-le, length-drop}
 use Rattle.std.proofs.lemmas.List.Elements.{All-take, All-drop, All-from_get_or}

@@ -1,7 +1,7 @@
 -- One answer: two answers of `turn` that meet its contract, each with the pile that it leaves, are the same.
 -- Assumes nothing.
-use Rattle.std.specs.Prelude.{ℕ, zero, suc, ◌+◌, ◌*◌, ◌≤◌, ◌<◌, ◌≡◌, refl, List, [], Bool, true, false, ◌&&◌, eqb, ltb, length, get_or, if◌then◌else◌, Result, Ok, Err}
-use Rattle.std.proofs.Common.{arith, sym, ◌∙◌, ap, ext_get_or, eqb-true, ltb-true, ltb-false}
+use Rattle.std.specs.Prelude.{ℕ, zero, suc, ◌+◌, ◌*◌, ◌<◌, ◌≡◌, refl, List, [], Bool, true, false, ◌&&◌, eqb, length, get_or, if◌then◌else◌, Result, Ok, Err}
+use Rattle.std.proofs.Common.{arith, sym, ◌∙◌, ap, ext_get_or, eqb-true}
 use Rattle.std.proofs.Math.Option.{none, some}
 use Rattle.std.proofs.lemmas.Bool.{eqb-false}
 use Rattle.text_semantics.specs.Numbers as No

@@ -1,9 +1,7 @@
 -- `turn` goes by the place that the table has for the token at the top. Assumes nothing.
-use Rattle.std.proofs.Common.{◌≡◌, sym, ◌∙◌, ap, length, arith, ◌+◌}
+use Rattle.std.proofs.Common.{sym, ◌∙◌, ap, length, arith, ◌+◌}
 use Rattle.std.proofs.Math.Path.{refl}
-use Rattle.text_pile.specs.Pile.{Piled, Turns}
-use Rattle.text_pile.specs.Table.{class_of}
-use Rattle.text_pile.proofs.Table.{places, nexts, many_at}
+use Rattle.text_pile.proofs.Table.{places, nexts}
 use Rattle.text_pile.proofs.Piles.{no_top, turn_empty, turn_none, asked_none, ends_by, high_by, fits_by, next_length, next_all, shift_small}
 use Rattle.text_pile.proofs.Pile.turn.Goals as goal
 
@@ -35,7 +33,8 @@ returns-then-rest-next-gt-HIGHEST c =
     c.in-Some-place_of.place (sym c.place_of.ensures ∙ c.in-Some-place_of.is) in
     high_by c.args.self.now c.args.kind c.args.value c.in-Some.top c.class_of-class.result c.column_of.result
     (rw (← c.self.view_is) c.self.invariant) c.requires (sym c.in-Some.ensures.value) c.class_of-class.ensures.0 c.column_of.ensures.0
-    c.in-Some-place_of.place (sym c.place_of.ensures ∙ c.in-Some-place_of.is) (rw (← c.self.view_is) c.len-rest.ensures.value)
+    c.in-Some-place_of.place (sym c.place_of.ensures ∙ c.in-Some-place_of.is) {n = c.len-rest.result} {m = length c.next_at-next.result.now}
+    (rw (← c.self.view_is) c.len-rest.ensures.value)
     (ap length c.next_at-next.ensures ∙ next_length c.in-Some-place_of.place e) (omega arith) _
 
 pub put-requires-clause-known : goal.put-requires-clause-known
@@ -53,7 +52,8 @@ invariant_of-self c =
     c.in-Some-place_of.place (sym c.place_of.ensures ∙ c.in-Some-place_of.is) in
     (fits_by c.args.self.now c.args.kind c.args.value c.in-Some.top c.class_of-class.result c.column_of.result
     (rw (← c.self.view_is) c.self.invariant) c.requires (sym c.in-Some.ensures.value) c.class_of-class.ensures.0 c.column_of.ensures.0
-    c.in-Some-place_of.place (sym c.place_of.ensures ∙ c.in-Some-place_of.is) (rw (← c.self.view_is) c.len-rest.ensures.value)
+    c.in-Some-place_of.place (sym c.place_of.ensures ∙ c.in-Some-place_of.is) {n = c.len-rest.result} {m = length c.next_at-next.result.now}
+    (rw (← c.self.view_is) c.len-rest.ensures.value)
     (ap length c.next_at-next.ensures ∙ next_length c.in-Some-place_of.place e) (omega arith)
     (rw (c.put.ensures, c.truncate.ensures.items, c.next_at-next.ensures, ← c.self.view_is) refl)
     tt).piled
@@ -66,7 +66,8 @@ returns c =
     c.in-Some-place_of.place (sym c.place_of.ensures ∙ c.in-Some-place_of.is) in
     fits_by c.args.self.now c.args.kind c.args.value c.in-Some.top c.class_of-class.result c.column_of.result
     (rw (← c.self.view_is) c.self.invariant) c.requires (sym c.in-Some.ensures.value) c.class_of-class.ensures.0 c.column_of.ensures.0
-    c.in-Some-place_of.place (sym c.place_of.ensures ∙ c.in-Some-place_of.is) (rw (← c.self.view_is) c.len-rest.ensures.value)
+    c.in-Some-place_of.place (sym c.place_of.ensures ∙ c.in-Some-place_of.is) {n = c.len-rest.result} {m = length c.next_at-next.result.now}
+    (rw (← c.self.view_is) c.len-rest.ensures.value)
     (ap length c.next_at-next.ensures ∙ next_length c.in-Some-place_of.place e) (omega arith)
     (rw (c.put.ensures, c.truncate.ensures.items, c.next_at-next.ensures, ← c.self.view_is) refl)
     tt
