@@ -248,9 +248,10 @@ impl<'t> Names<'t> {
         if self.rows.is_full() {
             return;
         }
-        match self.find(p, e) {
-            Some(place) => self.give_body(place),
-            None => self.add(kind::CLASS, p, e, false),
+        if let Some(place) = self.find(p, e) {
+            self.give_body(place);
+        } else {
+            self.add(kind::CLASS, p, e, false);
         }
     }
 

@@ -13,9 +13,9 @@ returns-in-Some c =
     let k = c.give_body.ensures ∙ embodied_some c.args.self.now c.args.p c.args.e h _ (sym c.in-Some.ensures.value) in
     record { rows = k; known = ap known_in k ∙ known_bodied c.args.self.now c.args.p c.args.e c.requires.distinct }
 
-pub returns-in-None : goal.returns-in-None
-returns-in-None c =
+pub returns-in_default : goal.returns-in_default
+returns-in_default c =
     let n = eqb-false _ _ (sym c.if-is_full.ensures.value) in
     let h : length c.args.self.now.rows < most_names = rw (← c.self.view_is) (omega (arith, n, c.is_full.ensures.fits)) in
-    let k = c.add.ensures ∙ embodied_none c.args.self.now c.args.p c.args.e h (sym c.in-None.ensures.value) in
+    let k = c.add.ensures ∙ embodied_none c.args.self.now c.args.p c.args.e h (sym c.in_default.ensures.value) in
     record { rows = k; known = ap known_in k ∙ known_bodied c.args.self.now c.args.p c.args.e c.requires.distinct }
