@@ -1,7 +1,7 @@
 pub mod Draft
 pub mod Laws
 pub mod Tokens
-pub mod Steps
+pub mod Shown
 pub mod At
 pub mod Kept
 pub mod Same

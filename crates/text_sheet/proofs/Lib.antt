@@ -1,13 +1,2 @@
-pub mod Lasts
+pub mod Steps
 pub mod Files
-pub mod Nothing
-pub mod Declared
-pub mod Written
-pub mod Pieces
-pub mod Levels
-pub mod Acted
-pub mod Braced
-pub mod Tried
-pub mod Opened
-pub mod Leaves
-pub mod Again

@@ -1,8 +1,9 @@
 -- Laws of parts and of bytes put at a place. Assumes nothing.
-use Rattle.std.specs.Prelude.{◌≡◌, refl, List, ◌++◌, ℕ, suc, ◌+◌, ◌-◌, ◌≤◌, ◌<◌, length, get_or, take, drop, set}
+use Rattle.std.specs.Prelude.{◌≡◌, refl, List, [], ◌∷◌, ◌++◌, ℕ, suc, ◌+◌, ◌-◌, ◌≤◌, ◌<◌, length, get_or, take, drop, set}
 use Rattle.std.proofs.Common.{sym, ◌∙◌, ap, append_assoc, add-one, arith, length-take, length-drop, take-append-drop, length-append, drop-cons, get_or-take, get_or-drop, take_at, drop_at, length-take-le}
 use Rattle.std.proofs.lemmas.List.Edits.{sets, sets-eq}
 use Rattle.std.proofs.lemmas.List.{take-append-le, drop-append-le}
+use Rattle.std.proofs.Math.Seq.{take-length}
 use Rattle.text_sheet.specs.Part.{part}
 
 pub part_length : (start size : ℕ) (xs : List ℕ) → start + size ≤ length xs → length (part start size xs) ≡ size
@@ -19,7 +20,7 @@ sets_next vs xs at i a h v =
     rw (e, add-one i, drop-cons vs i 0 h, v)
 
 -- What is put at a place leaves what is before it, and is read back there.
-part_front : (start size : ℕ) (xs ys : List ℕ) → start + size ≤ length xs → part start size (xs ++ ys) ≡ part start size xs
+pub part_front : (start size : ℕ) (xs ys : List ℕ) → start + size ≤ length xs → part start size (xs ++ ys) ≡ part start size xs
 part_front start size xs ys h =
     ap (take size) (drop-append-le start xs ys (omega arith))
     ∙ take-append-le size (drop start xs) ys (omega (arith, length-drop start xs))
@@ -52,3 +53,14 @@ take-sets i xs vs k =
     ap (take (i + length vs)) (sets-eq vs xs i k)
     ∙ take_at (take i xs ++ vs) (drop (i + length vs) xs) (i + length vs)
     (length-append (take i xs) vs ∙ ap (λ n. n + length vs) l.0)
+
+-- What was put behind is read back there.
+pub part_behind : (start : ℕ) (xs ys : List ℕ) → start ≡ length xs → part start (length xs + length ys - start) (xs ++ ys) ≡ ys
+part_behind start xs ys e =
+    let n : length xs + length ys - start ≡ length ys = omega (arith, e) in
+    ap (λ m. take m (drop start (xs ++ ys))) n ∙ ap (take (length ys)) (drop_at xs ys start (sym e)) ∙ take-length ys
+
+-- Two numbers stored one behind the other.
+pub two_stored : (xs : List ℕ) (p a b : ℕ) → p + 2 ≤ length xs
+    → set (set xs p a) (p + 1) b ≡ take p xs ++ (a ∷ b ∷ []) ++ drop (p + 2) xs
+two_stored xs p a b h = ap (λ n. set (set xs p a) n b) (add-one p) ∙ sets-eq (a ∷ b ∷ []) xs p h

@@ -1,9 +1,9 @@
 pub mod Part
 pub mod Laws
 pub mod Numbers
+pub mod Pieces
+pub mod Classes
 pub mod Shown
-pub mod Fine
-pub mod Left
 pub mod Told
 pub mod Callers
 pub mod Same

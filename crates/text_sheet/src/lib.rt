@@ -1,25 +1,26 @@
-// What the text reader has written down: a struct of numbers, which goes by value, and the arrays that are lent beside it.
+// What the text reader has written down, of the declarations and actions that it has read.
 #![tactic(auto)]
 
-ghost use Rattle.std.specs.Prelude.{◌≡◌, ◌++◌, ◌+◌, ◌≤◌, ◌<◌, ◌*◌, length, get_or, drop};
+ghost use Rattle.std.specs.Prelude.{ℕ, ◌≡◌, ◌++◌, ◌+◌, ◌-◌, ◌≤◌, ◌<◌, ◌||◌, List, [], ◌∷◌, leb, length, get_or, drop, true, false};
 ghost use Rattle.std.proofs.lemmas.List.Edits.{sets};
 ghost use Rattle.semantics.specs.Kinds as K;
 ghost use Rattle.semantics.specs.Numbers as No;
+ghost use Rattle.semantics.specs.Words.{more};
 ghost use Rattle.base_numbers.specs.Byte as Byte;
 ghost use Rattle.text_semantics.specs.Written.{two as two_of};
 ghost use Rattle.text_machine.specs.Entry.{FULL};
-ghost use Rattle.text_machine.specs.Sheet.{headed};
+ghost use Rattle.text_machine.specs.Sheet.{headed, innermost, kept_in};
 ghost use Rattle.text_machine.specs.Sheet as M;
-ghost use Rattle.text_sheet.specs.Fine.{Small, Open, Sized, Fine, Writes, Rising};
-ghost use Rattle.text_sheet.specs.Left.{Pieced, Settled, Braced, Tried, Opened};
-ghost use Rattle.text_sheet.specs.Numbers as Numbers;
-ghost use Rattle.text_sheet.specs.Part.{part as part_of, fitted, noted};
-ghost use Rattle.text_sheet.specs.Shown.{Lent, sheet_of, with_classes, entry, with_blocks, pieces_of};
-ghost use Rattle.text_sheet.specs.Told.{Again, Put, chosen, filed};
+ghost use Rattle.text_sheet.specs.Numbers.{HEAD, ROOM, entry, kept_length, noted};
+ghost use Rattle.text_sheet.specs.Pieces.{pieces_from, Laid};
+ghost use Rattle.text_sheet.specs.Told.{Put};
+ghost use Rattle.std.proofs.Math.Option.{some};
 
-use base_numbers::{byte, group, kind, limit};
+use arrayvec::ArrayVec;
+use base_numbers::{group, kind, limit};
+use std::marker::Model;
 
-// How many bytes there is room for: of declarations; of a kept body, and of all of them.
+// How many bytes there is room for: of declarations, and of a kept body; and how many levels, one more than the checks let pass.
 pub mod room {
     use base_numbers::limit;
 
@@ -27,112 +28,121 @@ pub mod room {
 
     pub const BODY: usize = 256;
 
-    pub const BODIES: usize = BODY * limit::DEPTH;
+    pub const LEVELS: usize = limit::DEPTH + 1;
+}
+
+// A class: where the number of its body block stands in the declarations, and its first line.
+#[derive(Clone, Copy, Default)]
+struct Class {
+    at: usize,
+    line: usize,
+}
+
+// A record that stands in a block: the block, and where it ends among the bytes of all of them.
+#[derive(Clone, Copy, Default)]
+struct Piece {
+    block: u32,
+    end: usize,
+}
+
+// A try whose branches may still go on: its line, and its body so far.
+#[derive(Drop)]
+struct Kept {
+    line: usize,
+    body: ArrayVec<u8, 256>,
+}
+
+impl Model for Kept {
+    ghost use Rattle.text_machine.specs.Sheet.{Kept as KeptValue};
+
+    ghost Value = { KeptValue };
+
+    ghost view = { λ k. record { line = k.line; body = k.body.items } };
+}
+
+// An open block, and the try in it that may go on.
+#[derive(Default, Drop)]
+struct Level {
+    block: u32,
+    kept: Option<Kept>,
+}
+
+impl Model for Level {
+    ghost use Rattle.text_machine.specs.Sheet.{Level as LevelValue};
+    ghost use Rattle.text_sheet.specs.Numbers.{kept_of};
+
+    ghost Value = { LevelValue };
+
+    ghost view = { λ l. record { block = l.block; kept = kept_of l.kept } };
 }
 
 // How many records there are of each group, and their bytes; where the first declaration begins; the last action in the order
-// of the file, by its block and its line; the bytes of the declarations; how many classes there are, and the one that is being
-// read; how many pieces there are, and their bytes; how many blocks are open; and whether there was no room for something.
-#[derive(Clone, Copy)]
+// of the file, by its block and its line; the bytes of the declarations; the classes, and the one that is being read; the
+// records in blocks, in the order of the text, and their bytes one behind the other; the open blocks, the innermost first; and
+// whether there was no room for something.
+#[derive(Drop)]
 pub struct Sheet {
     pub seen: [u32; group::MANY],
     pub total: usize,
     pub first: usize,
-    pub last_block: u32,
+    last_block: u32,
     pub last_line: usize,
-    pub declared: usize,
-    pub classes: usize,
-    pub current: usize,
-    pub pieces: usize,
-    pub staged: usize,
-    pub levels: usize,
+    declared: ArrayVec<u8, 4096>,
+    classes: ArrayVec<Class, 64>,
+    current: usize,
+    pieces: ArrayVec<Piece, 1024>,
+    stage: ArrayVec<u8, 65535>,
+    levels: ArrayVec<Level, 9>,
     pub full: bool,
 }
 
-// ---- bytes put into lent bytes at a place: a number of two bytes, a part of other bytes, a record
+impl Model for Sheet {
+    ghost use Rattle.text_machine.specs.Sheet.{Sheet as SheetValue};
+
+    ghost Value = { SheetValue };
+
+    ghost use Rattle.text_sheet.specs.Shown.{sheet_of, Fine};
+
+    ghost view = { sheet_of };
+
+    ghost invariant = { Fine };
+}
 
 // A record's length and kind.
 const HEAD: usize = 4;
 
-fn two(n: u32, out: &mut [u8], at: usize)
-    requires { (n < Byte.TWO) × (at + 2 ≤ length out.old) }
-    ensures { out.new ≡ sets out.old at (two_of n) }
-{
-    out[at] = (n % byte::ONE) as u8;
-    out[at + 1] = (n / byte::ONE) as u8;
-}
+// A class's record: its length and kind, and the two bytes of its body block.
+const CLASS_BYTES: usize = HEAD + 2;
 
-// The bytes of `from` from `start` on, so many.
-fn part(from: &[u8], start: usize, size: usize, out: &mut [u8], at: usize)
-    requires { (start + size ≤ length from.now) × (at + size ≤ length out.old) }
-    ensures { out.new ≡ sets out.old at (part_of start size from.now) }
-{
-    let mut i = 0;
-    while i < size {
-        out[at + i] = from[start + i];
-        i += 1;
-    }
-}
+const CLASS: usize = kind::CLASS as usize;
 
-// A record's length and kind, for a body of so many bytes.
-fn head(kind: u32, size: usize, out: &mut [u8], at: usize)
-    requires { (kind < Byte.TWO) × (size + Numbers.HEAD ≤ Byte.TWO) × (at + Numbers.HEAD ≤ length out.old) }
-    ensures { out.new ≡ sets out.old at (two_of (2 + size) ++ two_of kind) }
-{
-    two((2 + size) as u32, out, at);
-    two(kind, out, at + 2);
-}
-
-// A record whose body is such a part.
-fn record(kind: u32, from: &[u8], start: usize, size: usize, out: &mut [u8], at: usize)
-    requires kind_bound { (kind < Byte.TWO) × (size + Numbers.HEAD ≤ Byte.TWO) }
-    requires size_in_bounds { (start + size ≤ length from.now) × (at + (Numbers.HEAD + size) ≤ length out.old) }
-    ensures { out.new ≡ sets out.old at (headed kind (part_of start size from.now)) }
-{
-    head(kind, size, out, at);
-    part(from, start, size, out, at + HEAD);
-}
-
-// ---- the numbers, at first and after a record has been written down: the part that writes no bytes
+const ACTION: usize = group::MANY - 1;
 
 // A total is counted up to one that is over the longest file.
 const FULL: usize = limit::FILE + 1;
 
-const ACTION: usize = group::MANY - 1;
-
-// Nothing is written down.
-pub fn blank() -> Sheet
-    ensures m_value { (m : Lent) → Sized m → (sheet_of result m ≡ M.blank) × Fine result m }
-    ensures value { result ≡ Numbers.blank }
+// A record's length and kind, for a body of so many bytes.
+fn head(kind: u32, size: usize) -> [u8; HEAD]
+    requires { (kind < Byte.TWO) × (size + HEAD ≤ Byte.TWO) }
+    ensures { result ≡ two_of (2 + size) ++ two_of kind }
 {
-    Sheet {
-        seen: [0; group::MANY],
-        total: 0,
-        first: 0,
-        last_block: 0,
-        last_line: 0,
-        declared: 0,
-        classes: 0,
-        current: 0,
-        pieces: 0,
-        staged: 0,
-        levels: 0,
-        full: false,
-    }
+    let size = ((2 + size) as u16).to_le_bytes();
+    let kind = (kind as u16).to_le_bytes();
+    [size[0], size[1], kind[0], kind[1]]
 }
 
-// Where the first declaration begins.
-pub fn with_first(s: Sheet, first: usize) -> Sheet
-    ensures writes { (m : Lent) → Writes (λ z. M.with_first z first) s m result m }
-    ensures value { result ≡ Numbers.with_first s first }
+// A record behind others, for which there is room.
+fn append<const N: usize>(out: &mut ArrayVec<u8, N>, kind: u32, body: &[u8])
+    requires kind_bound { (kind < Byte.TWO) × (length body.now + HEAD ≤ Byte.TWO) }
+    requires room { length out.old.items + (HEAD + length body.now) ≤ N }
+    ensures { out.new.items ≡ out.old.items ++ headed kind body.now }
 {
-    let mut r = s;
-    r.first = first;
-    r
+    let _ = out.try_extend_from_slice(&head(kind, body.len()));
+    let _ = out.try_extend_from_slice(body);
 }
 
 fn added(total: usize, n: usize) -> usize
-    requires { (total ≤ FULL) × (n ≤ FULL + Numbers.HEAD) }
+    requires { (total ≤ FULL) × (n ≤ FULL + HEAD) }
     ensures { result ≡ M.added total n }
 {
     if total + n < FULL {
@@ -141,633 +151,408 @@ fn added(total: usize, n: usize) -> usize
     FULL
 }
 
-// n bytes more.
-pub fn longer(s: Sheet, n: usize) -> Sheet
-    requires { (s.total ≤ FULL) × (n ≤ FULL + Numbers.HEAD) }
-    ensures { result ≡ Numbers.longer s n }
+// Bytes put at a place; answers the place behind them.
+fn put(bytes: &[u8], out: &mut [u8], at: usize) -> usize
+    requires { at + length bytes.now ≤ length out.old }
+    ensures { Put bytes.now out.old at out.new result }
 {
-    let mut r = s;
-    r.total = added(r.total, n);
-    r
-}
-
-// One record more of a group, and n bytes.
-pub fn counted(s: Sheet, group: usize, n: usize) -> Sheet
-    requires seen_len { (length s.seen ≡ K.groups) × (group < K.groups) }
-    requires group_bound { get_or s.seen group 0 ≤ FULL }
-    requires total_bound { (s.total ≤ FULL) × (n ≤ FULL + Numbers.HEAD) }
-    ensures { result ≡ Numbers.counted s group n }
-{
-    let mut r = s;
-    r.seen[group] = r.seen[group] + 1;
-    r.total = added(s.total, n);
-    r
-}
-
-// n bytes more of declarations.
-pub fn declaring(s: Sheet, n: usize) -> Sheet
-    requires { (s.declared ≤ M.DECLARED) × (n ≤ FULL + Numbers.HEAD) }
-    ensures { result ≡ Numbers.declaring n s }
-{
-    let mut r = s;
-    let end = s.declared + n;
-    if room::DECLARED < end {
-        r.full = true;
-        return r;
-    }
-    r.declared = end;
-    r
-}
-
-// One class more, which is being read.
-pub fn classing(s: Sheet) -> Sheet
-    ensures { result ≡ Numbers.classing s }
-{
-    let mut r = s;
-    let c = s.classes;
-    if limit::CLASSES <= c {
-        r.full = true;
-        return r;
-    }
-    r.classes = c + 1;
-    r.current = c;
-    r
-}
-
-// One action more, at a line, in a block.
-pub fn counting(s: Sheet, block: u32, line: usize, size: usize) -> Sheet
-    requires { Open s × (size ≤ FULL) }
-    ensures { result ≡ Numbers.counting block line size s }
-{
-    let mut r = counted(s, ACTION, HEAD + size);
-    if s.last_block <= block {
-        r.last_block = block;
-        r.last_line = line;
-        return r;
-    }
-    r
-}
-
-// Whether there is no room for one piece more, of n bytes.
-pub fn crowded(s: Sheet, n: usize) -> bool
-    requires { Small s × (n ≤ FULL + Numbers.HEAD) }
-    ensures { result ≡ Numbers.crowded n s }
-{
-    (limit::ACTIONS <= s.pieces) | (limit::FILE < s.staged + n)
-}
-
-pub fn standing(s: Sheet, n: usize) -> Sheet
-    requires { Small s × (n ≤ FULL + Numbers.HEAD) }
-    ensures { result ≡ Numbers.standing n s }
-{
-    let mut r = s;
-    if crowded(s, n) {
-        r.full = true;
-        return r;
-    }
-    r.pieces = s.pieces + 1;
-    r.staged = s.staged + n;
-    r
-}
-
-// A branch of a try is opened, which is the first one where nothing is kept.
-pub fn branching(s: Sheet, block: u32, kept: usize, line: usize, size: usize) -> Sheet
-    requires { Open s × (size ≤ FULL) }
-    ensures { result ≡ Numbers.branching kept block line size s }
-{
-    if kept == 0 {
-        return counting(s, block, line, size);
-    }
-    if size < kept {
-        return longer(s, 0);
-    }
-    longer(s, size - kept)
-}
-
-// ---- declarations: their records one behind the other, and where each class has its body block
-
-// A class's record: its length and kind, and the two bytes of its body block.
-const CLASS_BYTES: usize = HEAD + 2;
-
-const CLASS: usize = kind::CLASS as usize;
-
-// A record, if there is room for it.
-fn declare(kind: u32, size: usize, body: &[u8], declared: &mut [u8; room::DECLARED], at: usize)
-    requires { (kind < Byte.TWO) × (size ≤ Numbers.ROOM) × (size ≤ length body.now) × (at ≤ M.DECLARED) }
-    ensures { declared.new ≡ fitted M.DECLARED at (Numbers.HEAD + size)
-        (headed kind (part_of 0 size body.now)) declared.old }
-{
-    if room::DECLARED < at + (HEAD + size) {
-        return;
-    }
-    record(kind, body, 0, size, declared, at);
-}
-
-// The record of a class, if there is room for it.
-fn declare_class(block: u32, declared: &mut [u8; room::DECLARED], at: usize)
-    requires { (block < Byte.TWO) × (at ≤ M.DECLARED) }
-    ensures { declared.new ≡ fitted M.DECLARED at M.class_bytes (headed K.CLASS (two_of block))
-        declared.old }
-{
-    if room::DECLARED < at + CLASS_BYTES {
-        return;
-    }
-    head(kind::CLASS, 2, declared, at);
-    two(block, declared, at + HEAD);
-}
-
-// Where the body block of class c stands, and its line, if there is room for it.
-fn note_class(
-    c: usize,
-    at: usize,
-    line: usize,
-    class_at: &mut [usize; limit::CLASSES],
-    class_line: &mut [usize; limit::CLASSES],
-)
-    ensures { (class_at.new ≡ noted No.most_classes c at class_at.old)
-        × (class_line.new ≡ noted No.most_classes c line class_line.old) }
-{
-    if limit::CLASSES <= c {
-        return;
-    }
-    class_at[c] = at;
-    class_line[c] = line;
-}
-
-// A declaration but that of a class.
-pub fn declares(
-    s: Sheet,
-    kind: u32,
-    size: usize,
-    body: &[u8; room::BODY],
-    declared: &mut [u8; room::DECLARED],
-) -> Sheet
-    requires { Open s × (kind < K.ACTION) × (size ≤ Numbers.ROOM) }
-    ensures writes { (m : Lent) → Writes (M.declares (entry 0 kind size (part_of 0 size body.now)))
-        s (with_classes m declared.old m.class_at m.class_line)
-        result (with_classes m declared.new m.class_at m.class_line) }
-    ensures value { (result ≡ Numbers.declaring (Numbers.HEAD + size) (Numbers.counted s kind (Numbers.HEAD + size)))
-        × (declared.new ≡ fitted M.DECLARED s.declared (Numbers.HEAD + size)
-        (headed kind (part_of 0 size body.now)) declared.old) }
-{
-    declare(kind, size, body, declared, s.declared);
-    declaring(counted(s, kind as usize, HEAD + size), HEAD + size)
-}
-
-// A class, at a line, with its body block.
-pub fn classes(
-    s: Sheet,
-    line: usize,
-    block: u32,
-    declared: &mut [u8; room::DECLARED],
-    class_at: &mut [usize; limit::CLASSES],
-    class_line: &mut [usize; limit::CLASSES],
-) -> Sheet
-    requires { Open s × (block < Byte.TWO) }
-    ensures writes { (m : Lent) → Writes (M.classes line block)
-        s (with_classes m declared.old class_at.old class_line.old)
-        result (with_classes m declared.new class_at.new class_line.new) }
-    ensures value { (result ≡ Numbers.declaring M.class_bytes (Numbers.classing (Numbers.counted s K.CLASS M.class_bytes)))
-        × (declared.new ≡ fitted M.DECLARED s.declared M.class_bytes (headed K.CLASS (two_of block))
-        declared.old)
-        × (class_at.new ≡ noted No.most_classes s.classes (s.declared + Numbers.HEAD) class_at.old)
-        × (class_line.new ≡ noted No.most_classes s.classes line class_line.old) }
-{
-    note_class(s.classes, s.declared + HEAD, line, class_at, class_line);
-    declare_class(block, declared, s.declared);
-    declaring(classing(counted(s, CLASS, CLASS_BYTES)), CLASS_BYTES)
-}
-
-// An announced class gets its body block.
-pub fn bodied(
-    s: Sheet,
-    class: usize,
-    block: u32,
-    declared: &mut [u8; room::DECLARED],
-    class_at: &[usize; limit::CLASSES],
-) -> Sheet
-    requires { Small s × (class < s.classes) × (block < Byte.TWO) × (get_or class_at.now class 0 + 2 ≤ s.declared) }
-    ensures writes { (m : Lent) → Writes (M.bodied class block)
-        s (with_classes m declared.old class_at.now m.class_line)
-        result (with_classes m declared.new class_at.now m.class_line) }
-    ensures value { (result ≡ Numbers.with_classes s s.classes class)
-        × (declared.new ≡ sets declared.old (get_or class_at.now class 0) (two_of block)) }
-{
-    let at = class_at[class];
-    two(block, declared, at);
-    let mut r = s;
-    r.current = class;
-    r
-}
-
-// ---- blocks: the records that stand in them, the open ones, and the try that may go on in each
-
-// The block that actions stand in, or 0; and how many bytes of a try are kept in it, or 0.
-pub fn innermost(levels: usize, level_block: &[u32; limit::DEPTH]) -> u32
-    requires { levels ≤ No.deepest }
-    ensures { result ≡ Numbers.last_of levels level_block.now }
-{
-    if levels == 0 {
-        return 0;
-    }
-    level_block[levels - 1]
-}
-
-pub fn kept_in(levels: usize, kept_size: &[usize; limit::DEPTH]) -> usize
-    requires { levels ≤ No.deepest }
-    ensures { result ≡ Numbers.last_of levels kept_size.now }
-{
-    if levels == 0 {
-        return 0;
-    }
-    kept_size[levels - 1]
-}
-
-// A record of a block, behind the pieces that are there, if there is room for it.
-fn stand(
-    s: Sheet,
-    block: u32,
-    kind: u32,
-    from: &[u8],
-    start: usize,
-    size: usize,
-    stage: &mut [u8; limit::FILE],
-    ends: &mut [usize; limit::ACTIONS],
-    blocks: &mut [u32; limit::ACTIONS],
-)
-    requires { Small s × (kind < Byte.TWO) × (size ≤ Numbers.ROOM) × (start + size ≤ length from.now) }
-    ensures { Pieced s block kind (part_of start size from.now) (Numbers.HEAD + size)
-        stage.old stage.new ends.old ends.new blocks.old
-        blocks.new }
-{
-    if crowded(s, HEAD + size) {
-        return;
-    }
-    let piece = s.pieces;
-    record(kind, from, start, size, stage, s.staged);
-    ends[piece] = s.staged + (HEAD + size);
-    blocks[piece] = block;
-}
-
-// An action.
-pub fn acts(
-    s: Sheet,
-    line: usize,
-    kind: u32,
-    size: usize,
-    body: &[u8; room::BODY],
-    stage: &mut [u8; limit::FILE],
-    ends: &mut [usize; limit::ACTIONS],
-    blocks: &mut [u32; limit::ACTIONS],
-    level_block: &[u32; limit::DEPTH],
-) -> Sheet
-    requires { Open s × (kind < Byte.TWO) × (size ≤ Numbers.ROOM) }
-    ensures writes { (m : Lent) → Writes (M.acts (entry line kind size (part_of 0 size body.now)))
-        s (with_blocks m stage.old ends.old blocks.old level_block.now
-        m.kept_line m.kept_size m.kept_body)
-        result (with_blocks m stage.new ends.new blocks.new level_block.now
-        m.kept_line m.kept_size m.kept_body) }
-    ensures value { (result ≡ Numbers.standing (Numbers.HEAD + size)
-        (Numbers.counting (Numbers.last_of s.levels level_block.now) line size s))
-        × Pieced (Numbers.counting (Numbers.last_of s.levels level_block.now) line size s)
-        (Numbers.last_of s.levels level_block.now) kind (part_of 0 size body.now) (Numbers.HEAD + size)
-        stage.old stage.new ends.old ends.new blocks.old
-        blocks.new }
-{
-    let block = innermost(s.levels, level_block);
-    let r = counting(s, block, line, size);
-    stand(r, block, kind, body, 0, size, stage, ends, blocks);
-    standing(r, HEAD + size)
-}
-
-// The try that was kept in the innermost block, if there is one, doesn't go on any more.
-pub fn settle(
-    s: Sheet,
-    stage: &mut [u8; limit::FILE],
-    ends: &mut [usize; limit::ACTIONS],
-    blocks: &mut [u32; limit::ACTIONS],
-    level_block: &[u32; limit::DEPTH],
-    kept_size: &mut [usize; limit::DEPTH],
-    kept_body: &[u8; room::BODIES],
-) -> Sheet
-    requires { Small s × (Numbers.last_of s.levels kept_size.old ≤ Numbers.ROOM) }
-    ensures writes { (m : Lent) → Writes M.settled
-        s (with_blocks m stage.old ends.old blocks.old level_block.now
-        m.kept_line kept_size.old kept_body.now)
-        result (with_blocks m stage.new ends.new blocks.new level_block.now
-        m.kept_line kept_size.new kept_body.now) }
-    ensures total_value { (result.total ≡ s.total) × (result ≡ Numbers.settling (Numbers.last_of s.levels kept_size.old) s)
-        × Settled (Numbers.last_of s.levels kept_size.old) s
-        (Numbers.last_of s.levels level_block.now)
-        (Numbers.kept_body s.levels kept_size.old kept_body.now)
-        stage.old stage.new ends.old ends.new blocks.old blocks.new
-        kept_size.old kept_size.new }
-{
-    let levels = s.levels;
-    let size = kept_in(levels, kept_size);
-    if size == 0 {
-        return s;
-    }
-    let level = levels - 1;
-    let block = level_block[level];
-    stand(
-        s,
-        block,
-        kind::TRY,
-        kept_body,
-        room::BODY * level,
-        size,
-        stage,
-        ends,
-        blocks,
-    );
-    kept_size[level] = 0;
-    standing(s, HEAD + size)
-}
-
-// A brace is closed.
-pub fn close_brace(
-    s: Sheet,
-    stage: &mut [u8; limit::FILE],
-    ends: &mut [usize; limit::ACTIONS],
-    blocks: &mut [u32; limit::ACTIONS],
-    level_block: &[u32; limit::DEPTH],
-    kept_size: &mut [usize; limit::DEPTH],
-    kept_body: &[u8; room::BODIES],
-) -> Sheet
-    requires { Small s × (Numbers.last_of s.levels kept_size.old ≤ Numbers.ROOM) }
-    ensures writes { (m : Lent) → Writes M.closed
-        s (with_blocks m stage.old ends.old blocks.old level_block.now
-        m.kept_line kept_size.old kept_body.now)
-        result (with_blocks m stage.new ends.new blocks.new level_block.now
-        m.kept_line kept_size.new kept_body.now) }
-    ensures total_value { (result.total ≡ s.total)
-        × (result ≡ Numbers.closing (Numbers.settling (Numbers.last_of s.levels kept_size.old) s))
-        × Settled (Numbers.last_of s.levels kept_size.old) s
-        (Numbers.last_of s.levels level_block.now)
-        (Numbers.kept_body s.levels kept_size.old kept_body.now)
-        stage.old stage.new ends.old ends.new blocks.old blocks.new
-        kept_size.old kept_size.new }
-{
-    let mut r = settle(s, stage, ends, blocks, level_block, kept_size, kept_body);
-    let levels = r.levels;
-    if levels == 0 {
-        return r;
-    }
-    r.levels = levels - 1;
-    r
-}
-
-// A brace is opened.
-pub fn braces(
-    s: Sheet,
-    level_block: &mut [u32; limit::DEPTH],
-    kept_size: &mut [usize; limit::DEPTH],
-) -> Sheet
-    requires { Small s × (get_or s.seen K.BLOCK 0 ≤ FULL) × (s.levels < No.deepest) }
-    ensures writes { (m : Lent) → Writes M.braces
-        s (with_blocks m m.stage m.ends m.blocks level_block.old
-        m.kept_line kept_size.old m.kept_body)
-        result (with_blocks m m.stage m.ends m.blocks level_block.new
-        m.kept_line kept_size.new m.kept_body) }
-    ensures braced { Braced s result level_block.old level_block.new
-        kept_size.old kept_size.new }
-{
-    let level = s.levels;
-    level_block[level] = s.seen[group::BLOCK];
-    kept_size[level] = 0;
-    let mut r = counted(s, group::BLOCK, HEAD);
-    r.levels = level + 1;
-    r
-}
-
-// A try is kept in the innermost block, if there is one.
-fn keep(
-    levels: usize,
-    line: usize,
-    size: usize,
-    body: &[u8],
-    kept_line: &mut [usize; limit::DEPTH],
-    kept_size: &mut [usize; limit::DEPTH],
-    kept_body: &mut [u8; room::BODIES],
-)
-    requires { (levels ≤ No.deepest) × (size ≤ Numbers.ROOM) × (size ≤ length body.now) }
-    ensures { (kept_line.new ≡ Numbers.last_set levels line kept_line.old)
-        × (kept_size.new ≡ Numbers.last_set levels size kept_size.old)
-        × (kept_body.new ≡ Numbers.last_sets levels (part_of 0 size body.now) kept_body.old) }
-{
-    if levels == 0 {
-        return;
-    }
-    let level = levels - 1;
-    kept_line[level] = line;
-    kept_size[level] = size;
-    part(body, 0, size, kept_body, room::BODY * level);
-}
-
-// A branch of a try.
-fn tries(
-    s: Sheet,
-    line: usize,
-    size: usize,
-    body: &[u8; room::BODY],
-    level_block: &[u32; limit::DEPTH],
-    kept_line: &mut [usize; limit::DEPTH],
-    kept_size: &mut [usize; limit::DEPTH],
-    kept_body: &mut [u8; room::BODIES],
-) -> Sheet
-    requires { Open s × (0 < size) × (size ≤ Numbers.ROOM) }
-    ensures writes { (m : Lent) → Writes (M.tries (entry line K.TRY size (part_of 0 size body.now)))
-        s (with_blocks m m.stage m.ends m.blocks level_block.now
-        kept_line.old kept_size.old kept_body.old)
-        result (with_blocks m m.stage m.ends m.blocks level_block.now
-        kept_line.new kept_size.new kept_body.new) }
-    ensures value { result ≡ Numbers.branching (Numbers.last_of s.levels kept_size.old)
-        (Numbers.last_of s.levels level_block.now) line size s }
-    ensures tried { Tried s line size (part_of 0 size body.now) kept_line.old kept_line.new
-        kept_size.old kept_size.new kept_body.old kept_body.new }
-{
-    let block = innermost(s.levels, level_block);
-    let kept = kept_in(s.levels, kept_size);
-    keep(s.levels, line, size, body, kept_line, kept_size, kept_body);
-    branching(s, block, kept, line, size)
-}
-
-// A brace is opened by an action: a do, a while or a try.
-pub fn opens(
-    s: Sheet,
-    line: usize,
-    kind: u32,
-    size: usize,
-    body: &[u8; room::BODY],
-    stage: &mut [u8; limit::FILE],
-    ends: &mut [usize; limit::ACTIONS],
-    blocks: &mut [u32; limit::ACTIONS],
-    level_block: &mut [u32; limit::DEPTH],
-    kept_line: &mut [usize; limit::DEPTH],
-    kept_size: &mut [usize; limit::DEPTH],
-    kept_body: &mut [u8; room::BODIES],
-) -> Sheet
-    requires { Open s × (kind < Byte.TWO) × (kind ≡ K.TRY → 0 < size) × (size ≤ Numbers.ROOM) × (s.levels < No.deepest) }
-    ensures writes { (m : Lent) → Writes (M.opens (entry line kind size (part_of 0 size body.now)))
-        s (with_blocks m stage.old ends.old blocks.old level_block.old
-        kept_line.old kept_size.old kept_body.old)
-        result (with_blocks m stage.new ends.new blocks.new level_block.new
-        kept_line.new kept_size.new kept_body.new) }
-    ensures opened { Opened (Numbers.last_of s.levels level_block.old)
-        (Numbers.last_of s.levels kept_size.old) s result line kind size (part_of 0 size body.now)
-        stage.old stage.new ends.old ends.new blocks.old blocks.new
-        level_block.old level_block.new kept_line.old kept_line.new
-        kept_size.old kept_size.new kept_body.old kept_body.new }
-{
-    if kind == kind::TRY {
-        let r = tries(
-            s,
-            line,
-            size,
-            body,
-            level_block,
-            kept_line,
-            kept_size,
-            kept_body,
-        );
-        return braces(r, level_block, kept_size);
-    }
-    let r = acts(s, line, kind, size, body, stage, ends, blocks, level_block);
-    braces(r, level_block, kept_size)
-}
-
-// The draft with which an etry goes on, as numbers.
-#[derive(Clone, Copy)]
-pub struct Kept {
-    pub line: usize,
-    pub kind: u32,
-    pub size: usize,
-}
-
-// .. and its body, at the front of the lent bytes.
-pub fn resumed(
-    levels: usize,
-    kept_line: &[usize; limit::DEPTH],
-    kept_size: &[usize; limit::DEPTH],
-    kept_body: &[u8; room::BODIES],
-    body: &mut [u8; room::BODY],
-) -> Kept
-    requires { (levels ≤ No.deepest) × (Numbers.last_of levels kept_size.now ≤ Numbers.ROOM) }
-    ensures { Again levels kept_line.now kept_size.now kept_body.now
-        result body.old body.new }
-{
-    let size = kept_in(levels, kept_size);
-    if size == 0 {
-        return Kept {
-            line: 0,
-            kind: kind::TRY,
-            size: 0,
-        };
-    }
-    let level = levels - 1;
-    part(kept_body, room::BODY * level, size, body, 0);
-    Kept {
-        line: kept_line[level],
-        kind: kind::TRY,
-        size,
-    }
-}
-
-// ---- the file: the declarations, and then the blocks, each with what stands in it
-
-// A piece, if it stands in the block.
-fn write_piece(
-    block: u32,
-    of: u32,
-    stage: &[u8; limit::FILE],
-    start: usize,
-    end: usize,
-    out: &mut [u8],
-    at: usize,
-) -> usize
-    requires { (start ≤ end) × (end ≤ No.longest_file) ×
-        (at + length (chosen block of start end stage.now) ≤ length out.old) }
-    ensures { Put (chosen block of start end stage.now) out.old at out.new result }
-{
-    if block != of {
-        return at;
-    }
-    let size = end - start;
-    part(stage, start, size, out, at);
-    at + size
+    let end = at + bytes.len();
+    out[at..end].copy_from_slice(bytes);
+    end
 }
 
 // What stands in a block.
-fn write_block(
-    block: u32,
-    pieces: usize,
-    stage: &[u8; limit::FILE],
-    ends: &[usize; limit::ACTIONS],
-    blocks: &[u32; limit::ACTIONS],
-    out: &mut [u8],
-    at: usize,
-) -> usize
-    requires pieces_bound { (pieces ≤ No.most_actions) × Rising ends.now pieces No.longest_file }
-    requires pieces_in_bounds { at + length (M.standing block (pieces_of stage.now ends.now blocks.now pieces)) ≤ length out.old }
-    ensures { Put (M.standing block (pieces_of stage.now ends.now blocks.now pieces))
-        out.old at out.new result }
+fn write_block(block: u32, pieces: &[Piece], stage: &[u8], out: &mut [u8], at: usize) -> usize
+    requires laid { Laid 0 (length stage.now) pieces.now }
+    requires room { at + length (M.standing block (pieces_from stage.now 0 pieces.now)) ≤ length out.old }
+    ensures { Put (M.standing block (pieces_from stage.now 0 pieces.now)) out.old at out.new result }
 {
-    let mut k = 0;
     let mut start = 0;
     let mut place = at;
-    while k < pieces {
-        let end = ends[k];
-        place = write_piece(block, blocks[k], stage, start, end, out, place);
-        start = end;
-        k += 1;
+    for piece in pieces {
+        if piece.block == block {
+            place = put(&stage[start..piece.end], out, place);
+        }
+        start = piece.end;
     }
     place
 }
 
 // So many blocks.
-fn write_blocks(
-    many: u32,
-    pieces: usize,
-    stage: &[u8; limit::FILE],
-    ends: &[usize; limit::ACTIONS],
-    blocks: &[u32; limit::ACTIONS],
-    out: &mut [u8],
-    at: usize,
-) -> usize
-    requires pieces_bound { (pieces ≤ No.most_actions) × Rising ends.now pieces No.longest_file }
-    requires pieces_in_bounds { at + length (M.blocks_from many 0 (pieces_of stage.now ends.now blocks.now pieces)) ≤ length out.old }
-    ensures { Put (M.blocks_from many 0 (pieces_of stage.now ends.now blocks.now pieces))
-        out.old at out.new result }
+fn write_blocks(many: u32, pieces: &[Piece], stage: &[u8], out: &mut [u8], at: usize) -> usize
+    requires laid { Laid 0 (length stage.now) pieces.now }
+    requires room { at + length (M.blocks_from many 0 (pieces_from stage.now 0 pieces.now)) ≤ length out.old }
+    ensures { Put (M.blocks_from many 0 (pieces_from stage.now 0 pieces.now)) out.old at out.new result }
 {
-    let mut block = 0;
     let mut place = at;
-    while block < many {
-        head(kind::BLOCK, 0, out, place);
-        place = write_block(block, pieces, stage, ends, blocks, out, place + HEAD);
-        block += 1;
+    for block in 0..many {
+        place = put(&head(kind::BLOCK, 0), out, place);
+        place = write_block(block, pieces, stage, out, place);
     }
     place
 }
 
-// The file, at the front of the lent bytes; answers how many bytes it has.
-pub fn write(
-    s: Sheet,
-    declared: &[u8; room::DECLARED],
-    stage: &[u8; limit::FILE],
-    ends: &[usize; limit::ACTIONS],
-    blocks: &[u32; limit::ACTIONS],
-    out: &mut [u8],
-) -> usize
-    requires small { Small s × Rising ends.now s.pieces No.longest_file }
-    requires blocks_in_bounds { length (filed s declared.now stage.now ends.now blocks.now) ≤ length out.old }
-    ensures value { result ≡ length (filed s declared.now stage.now ends.now
-        blocks.now) }
-    ensures out_after { out.new ≡ filed s declared.now stage.now ends.now
-        blocks.now
-        ++ drop result out.old }
-{
-    let many = s.seen[group::BLOCK];
-    part(declared, 0, s.declared, out, 0);
-    write_blocks(many, s.pieces, stage, ends, blocks, out, s.declared)
+// The draft with which an etry goes on: its line, and its body so far.
+#[derive(Drop)]
+pub struct Resumed<'a> {
+    pub line: usize,
+    pub body: &'a [u8],
+}
+
+impl Sheet {
+    // Nothing is written down.
+    pub fn blank() -> Sheet
+        ensures { result ≡ M.blank }
+    {
+        Sheet {
+            seen: [0; group::MANY],
+            total: 0,
+            first: 0,
+            last_block: 0,
+            last_line: 0,
+            declared: ArrayVec::new(),
+            classes: ArrayVec::new(),
+            current: 0,
+            pieces: ArrayVec::new(),
+            stage: ArrayVec::new(),
+            levels: ArrayVec::new(),
+            full: false,
+        }
+    }
+
+    // ---- what is asked of it
+
+    // How many blocks are open.
+    pub fn depth(&self) -> usize
+        ensures { result ≡ length self.now.levels }
+    {
+        self.levels.len()
+    }
+
+    // How many classes there are.
+    pub fn class_count(&self) -> usize
+        ensures { result ≡ length self.now.class_at }
+    {
+        self.classes.len()
+    }
+
+    // The line of a class, and of the one that is being read; 0 where there is none.
+    pub fn class_line(&self, class: usize) -> usize
+        ensures { result ≡ get_or self.now.class_line class 0 }
+    {
+        if class < self.classes.len() {
+            return self.classes[class].line;
+        }
+        0
+    }
+
+    pub fn current_line(&self) -> usize
+        ensures { result ≡ get_or self.now.class_line self.now.current 0 }
+    {
+        self.class_line(self.current)
+    }
+
+    // The block that actions stand in, or 0.
+    fn innermost(&self) -> u32
+        ensures { result ≡ innermost self.now.levels }
+    {
+        if self.levels.is_empty() {
+            return 0;
+        }
+        let level = &self.levels[0];
+        level.block
+    }
+
+    // How many bytes of a try are kept in it, if there is one.
+    fn kept_size(&self) -> Option<usize>
+        ensures { result ≡ kept_length (kept_in self.now.levels) }
+    {
+        if self.levels.is_empty() {
+            return None;
+        }
+        let level = &self.levels[0];
+        match &level.kept {
+            None => None,
+            Some(kept) => Some(kept.body.len()),
+        }
+    }
+
+    // The draft with which an etry goes on.
+    pub fn resumed(&self) -> Resumed<'_>
+        ensures draft { M.resumed (kept_in self.now.levels) ≡ entry result.line K.TRY (length result.body.now) result.body.now }
+        ensures bound { length result.body.now ≤ ROOM }
+    {
+        if self.levels.is_empty() {
+            return Resumed { line: 0, body: &[] };
+        }
+        let level = &self.levels[0];
+        match &level.kept {
+            None => Resumed { line: 0, body: &[] },
+            Some(kept) => Resumed {
+                line: kept.line,
+                body: kept.body.as_slice(),
+            },
+        }
+    }
+
+    // ---- the numbers
+
+    // Where the first declaration begins.
+    pub fn with_first(&mut self, first: usize)
+        ensures { self.new ≡ M.with_first self.old first }
+    {
+        self.first = first;
+    }
+
+    // n bytes more.
+    pub fn longer(&mut self, n: usize)
+        requires { n ≤ FULL + HEAD }
+        ensures { self.new ≡ M.with_total self.old self.old.seen n }
+    {
+        self.total = added(self.total, n);
+    }
+
+    // One record more of a group, and n bytes.
+    fn counted(&mut self, group: usize, n: usize)
+        requires group_bound { group < K.groups }
+        requires seen_bound { FULL ≤ self.old.total → get_or self.old.seen group 0 ≤ FULL }
+        requires n_bound { (0 < n) × (n ≤ FULL + HEAD) }
+        ensures { self.new ≡ M.with_total self.old (more self.old.seen group 1) n }
+    {
+        self.seen[group] += 1;
+        self.total = added(self.total, n);
+    }
+
+    // One action more, at a line, in the innermost block.
+    #[tactic(auto, unfolding(text_machine::specs::Sheet::counts))]
+    fn counts(&mut self, line: usize, size: usize)
+        requires { (self.old.total < FULL) × (size ≤ FULL) }
+        ensures { (kind : ℕ) (bs : List ℕ) → self.new ≡ M.counts (entry line kind size bs) self.old }
+    {
+        let block = self.innermost();
+        self.counted(ACTION, HEAD + size);
+        if self.last_block <= block {
+            self.last_block = block;
+            self.last_line = line;
+        }
+    }
+
+    // ---- declarations: their records one behind the other, and where each class has its body block
+
+    // A record, if there is room for it.
+    #[tactic(auto, unfolding(text_machine::specs::Sheet::declaring))]
+    fn declaring(&mut self, kind: u32, body: &[u8])
+        requires { (kind < Byte.TWO) × (length body.now ≤ ROOM) }
+        ensures { self.new ≡ M.declaring (headed kind body.now) self.old }
+    {
+        if room::DECLARED < self.declared.len() + (HEAD + body.len()) {
+            self.full = true;
+            return;
+        }
+        append(&mut self.declared, kind, body);
+    }
+
+    // A declaration but that of a class.
+    #[tactic(auto, unfolding(text_machine::specs::Sheet::declares))]
+    pub fn declares(&mut self, kind: u32, body: &[u8])
+        requires { (self.old.total < FULL) × (kind < K.ACTION) × (length body.now ≤ ROOM) }
+        ensures { self.new ≡ M.declares (entry 0 kind (length body.now) body.now) self.old }
+    {
+        self.counted(kind as usize, HEAD + body.len());
+        self.declaring(kind, body);
+    }
+
+    // A class is noted, whose body block's number stands there, if there is room for it.
+    #[tactic(auto, unfolding(crate::specs::Numbers::noted))]
+    fn noted(&mut self, at: usize, line: usize)
+        requires { self.old.full ≡ false → at + 2 ≤ length self.old.declared }
+        ensures { self.new ≡ noted at line self.old }
+    {
+        let class = self.classes.len();
+        if limit::CLASSES <= class {
+            self.full = true;
+            return;
+        }
+        self.classes.push(Class { at, line });
+        self.current = class;
+    }
+
+    // A class, at a line, with its body block.
+    pub fn classes(&mut self, line: usize, block: u32)
+        requires { (self.old.total < FULL) × (block < Byte.TWO) }
+        ensures { self.new ≡ M.classes line block self.old }
+    {
+        let at = self.declared.len() + HEAD;
+        self.counted(CLASS, CLASS_BYTES);
+        self.declaring(kind::CLASS, &(block as u16).to_le_bytes());
+        self.noted(at, line);
+    }
+
+    // An announced class gets its body block.
+    #[tactic(auto, unfolding(text_machine::specs::Sheet::bodied))]
+    pub fn bodied(&mut self, class: usize, block: u32)
+        requires class_bound { (class < length self.old.class_at) × (block < Byte.TWO) }
+        requires full { self.old.full ≡ true → get_or self.old.class_at class 0 + 2 ≤ length self.old.declared }
+        ensures { self.new ≡ M.bodied class block self.old }
+    {
+        let at = self.classes[class].at;
+        put(
+            &(block as u16).to_le_bytes(),
+            self.declared.as_mut_slice(),
+            at,
+        );
+        self.current = class;
+    }
+
+    // ---- blocks: the records that stand in them, the open ones, and the try that may go on in each
+
+    // A record goes into the innermost block, if there is room for it.
+    #[tactic(auto, unfolding(text_machine::specs::Sheet::stands))]
+    fn stands(&mut self, kind: u32, body: &[u8])
+        requires { (kind < Byte.TWO) × (length body.now ≤ ROOM) }
+        ensures { self.new ≡ M.stands kind body.now self.old }
+    {
+        let end = self.stage.len() + (HEAD + body.len());
+        if (limit::ACTIONS <= self.pieces.len()) | (limit::FILE < end) {
+            self.full = true;
+            return;
+        }
+        let block = self.innermost();
+        append(&mut self.stage, kind, body);
+        self.pieces.push(Piece { block, end });
+    }
+
+    // An action.
+    #[tactic(auto, unfolding(text_machine::specs::Sheet::acts))]
+    pub fn acts(&mut self, line: usize, kind: u32, body: &[u8])
+        requires { (self.old.total < FULL) × (kind < Byte.TWO) × (length body.now ≤ ROOM) }
+        ensures { self.new ≡ M.acts (entry line kind (length body.now) body.now) self.old }
+    {
+        self.counts(line, body.len());
+        self.stands(kind, body);
+    }
+
+    // The try that was kept in the innermost block, if there is one, doesn't go on any more.
+    #[tactic(auto, unfolding(text_machine::specs::Sheet::settled))]
+    pub fn settle(&mut self)
+        ensures { self.new ≡ M.settled self.old }
+    {
+        if self.levels.is_empty() {
+            return;
+        }
+        let level = &mut self.levels[0];
+        let kept = level.kept.take();
+        if let Some(kept) = kept {
+            self.stands(kind::TRY, kept.body.as_slice());
+        }
+    }
+
+    // A brace is closed.
+    #[tactic(auto, unfolding(text_machine::specs::Sheet::closed))]
+    pub fn close_brace(&mut self)
+        ensures { self.new ≡ M.closed self.old }
+    {
+        self.settle();
+        if !self.levels.is_empty() {
+            self.levels.remove(0);
+        }
+    }
+
+    // A brace is opened.
+    #[tactic(auto, unfolding(text_machine::specs::Sheet::braces))]
+    pub fn braces(&mut self)
+        requires { (get_or self.old.seen K.BLOCK 0 ≤ FULL) × (length self.old.levels ≤ No.deepest) }
+        ensures { self.new ≡ M.braces self.old }
+    {
+        let block = self.seen[group::BLOCK];
+        self.counted(group::BLOCK, HEAD);
+        self.levels.insert(0, Level { block, kept: None });
+    }
+
+    // A branch of a try is counted: the first one, or one more of a try that goes on.
+    fn branches(&mut self, line: usize, size: usize)
+        requires { (self.old.total < FULL) × (size ≤ FULL) }
+        ensures { (bs : List ℕ) → self.new ≡ M.branches (entry line K.TRY size bs) (kept_in self.old.levels) self.old }
+    {
+        match self.kept_size() {
+            None => self.counts(line, size),
+            Some(kept) => self.longer(size.saturating_sub(kept)),
+        }
+    }
+
+    // A try is kept in the innermost block, if there is one.
+    fn keep(&mut self, line: usize, body: &[u8])
+        requires { length body.now ≤ ROOM }
+        ensures { self.new ≡ M.with_levels self.old (M.keeping (some (record { line = line; body = body.now })) self.old.levels) }
+    {
+        if self.levels.is_empty() {
+            return;
+        }
+        let mut bytes = ArrayVec::new();
+        let _ = bytes.try_extend_from_slice(body);
+        let level = &mut self.levels[0];
+        level.kept = Some(Kept { line, body: bytes });
+    }
+
+    // A branch of a try.
+    #[tactic(auto, unfolding(text_machine::specs::Sheet::tries))]
+    fn tries(&mut self, line: usize, body: &[u8])
+        requires { (self.old.total < FULL) × (length body.now ≤ ROOM) }
+        ensures { self.new ≡ M.tries (entry line K.TRY (length body.now) body.now) self.old }
+    {
+        self.branches(line, body.len());
+        self.keep(line, body);
+    }
+
+    // A brace is opened by an action: a do, a while or a try.
+    #[tactic(auto, unfolding(text_machine::specs::Sheet::opens))]
+    pub fn opens(&mut self, line: usize, kind: u32, body: &[u8])
+        requires open { (self.old.total < FULL) × (length self.old.levels ≤ No.deepest) }
+        requires kind_bound { (kind < Byte.TWO) × (length body.now ≤ ROOM) }
+        ensures { self.new ≡ M.opens (entry line kind (length body.now) body.now) self.old }
+    {
+        // While bytes are counted, no group has more records than they are.
+        let _ = &self.total;
+        if kind == kind::TRY {
+            self.tries(line, body);
+        } else {
+            self.acts(line, kind, body);
+        }
+        self.braces();
+    }
+
+    // How many bytes there are with an action of so many that opens a brace.
+    #[tactic(auto, unfolding(text_machine::specs::Sheet::opens, text_machine::specs::Sheet::braces, text_machine::specs::Sheet::tries, text_machine::specs::Sheet::acts, text_machine::specs::Sheet::stands, text_machine::specs::Sheet::counts))]
+    pub fn opened_total(&self, kind: u32, size: usize) -> usize
+        requires { size ≤ FULL }
+        ensures { (line : ℕ) (bs : List ℕ) → result ≡ (M.opens (entry line kind size bs) self.now).total }
+    {
+        let mut n = HEAD + size;
+        if kind == kind::TRY {
+            if let Some(kept) = self.kept_size() {
+                n = size.saturating_sub(kept);
+            }
+        }
+        added(added(self.total, n), HEAD)
+    }
+
+    // ---- the file: the declarations, and then the blocks, each with what stands in it
+
+    // Put at the front of these bytes; answers how many it has.
+    #[tactic(auto, unfolding(text_machine::specs::Sheet::file))]
+    pub fn write(&self, out: &mut [u8]) -> usize
+        requires { length (M.file self.now) ≤ length out.old }
+        ensures value { result ≡ length (M.file self.now) }
+        ensures out_after { out.new ≡ M.file self.now ++ drop result out.old }
+    {
+        let many = self.seen[group::BLOCK];
+        let place = put(self.declared.as_slice(), out, 0);
+        write_blocks(
+            many,
+            self.pieces.as_slice(),
+            self.stage.as_slice(),
+            out,
+            place,
+        )
+    }
 }

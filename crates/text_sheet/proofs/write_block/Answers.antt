@@ -1,60 +1,61 @@
 -- `text_sheet::write_block` meets its contract. Assumes nothing.
-use Rattle.text_sheet.proofs.Files.{standing_all, put_as, first, next, room_left}
-use Rattle.text_sheet.proofs.Files.{none_left, standing_from, standing_next, standing_none}
-use native.Mathlib.Numerals.{add-one}
-use Prim.Native.Nat.{◌≤◌, ◌<◌, ◌+◌}
-use mathlib.Core.Path.{refl, ap}
-use native.Mathlib.Omega.{arith}
-use lib.ListN.{length, get_or}
-use Rattle.text_sheet.specs.Told.{chosen}
+use Rattle.std.specs.Prelude.{◌-◌, length, get_or}
+use Rattle.text_sheet.specs.declared.Piece.{Piece}
+use Rattle.text_sheet.specs.Pieces.{laid_within}
+use Rattle.text_sheet.specs.Told.{went, passed, room_left}
+use Rattle.text_sheet.specs.Part.{part}
+use Rattle.text_sheet.proofs.Files.{laid_next, rest, next_in, next_out}
+use Rattle.text_sheet.proofs.write_block.Goals.{then-piece-block, else-piece-block}
 use Rattle.text_sheet.proofs.write_block.Goals as goal
 
-pub loop-k-init : goal.loop-k-init
-loop-k-init c = (first, refl)
+pub slice_bounds-put-count : goal.slice_bounds-put-count
+slice_bounds-put-count c =
+    let a = c.args in
+    let l = c.loop-piece in
+    let d : Piece = record { block = 0; end = 0 } in
+    let lt = c.loop-piece-test.true in
+    let p = get_or a.pieces.now l.piece-index d in
+    let n = laid_next a.stage.now a.pieces.now l.piece-index d lt l.start (length a.stage.now) l.invariant.0 in
+    n.0
 
-pub offset_bounds-ends-k : goal.offset_bounds-ends-k
-offset_bounds-ends-k c = omega (arith, c.requires.pieces_bound, c.requires.pieces_in_bounds)
+pub slice_bounds-put-end : goal.slice_bounds-put-end
+slice_bounds-put-end c =
+    let a = c.args in
+    let l = c.loop-piece in
+    let d : Piece = record { block = 0; end = 0 } in
+    let lt = c.loop-piece-test.true in
+    let p = get_or a.pieces.now l.piece-index d in
+    let n = laid_next a.stage.now a.pieces.now l.piece-index d lt l.start (length a.stage.now) l.invariant.0 in
+    laid_within p.end (length a.stage.now) _ n.1
 
-pub bounds-ends-k : goal.bounds-ends-k
-bounds-ends-k c = omega (arith, c.requires.pieces_bound, c.requires.pieces_in_bounds)
+pub put-place-requires : goal.put-place-requires
+put-place-requires c =
+    let a = c.args in
+    let l = c.loop-piece in
+    let d : Piece = record { block = 0; end = 0 } in
+    let lt = c.loop-piece-test.true in
+    let p = get_or a.pieces.now l.piece-index d in
+    let n = laid_next a.stage.now a.pieces.now l.piece-index d lt l.start (length a.stage.now) l.invariant.0 in
+    room_left l.invariant.1 (part l.start (p.end - l.start) a.stage.now)
+    (rest a.stage.now a.pieces.now l.piece-index d lt l.start a.block)
+    (next_in a.stage.now a.pieces.now l.piece-index d lt l.start a.block c.if-piece-block.true) c.requires.room
 
-pub offset_bounds-blocks-k : goal.offset_bounds-blocks-k
-offset_bounds-blocks-k c = omega (arith, c.requires.pieces_bound, c.requires.pieces_in_bounds)
-
-pub bounds-blocks-k : goal.bounds-blocks-k
-bounds-blocks-k c = omega (arith, c.requires.pieces_bound, c.requires.pieces_in_bounds)
-
-pub write_piece-place-requires : goal.write_piece-place-requires
-write_piece-place-requires c = let a = c.args in
-    let l = c.loop-k in
-    let k : l.k < a.pieces = c.loop-k-test.true in
-    let w = c.requires.pieces_bound.1 in
-    let begins = l.invariant.1 in
-    let t = chosen a.block (get_or a.blocks.now l.k 0) l.start (get_or a.ends.now l.k 0) a.stage.now in
-    let e = standing_next a.stage.now a.ends.now a.blocks.now a.block a.pieces l.k k in
-    let h : a.at + length (standing_from a.stage.now a.ends.now a.blocks.now a.block a.pieces 0) ≤ length
-    a.out.now
-    = omega (
-      arith,
-      c.requires.pieces_in_bounds,
-      ap length
-          (standing_all a.stage.now a.ends.now a.blocks.now a.block a.pieces),
-    ) in
-    (omega (arith, w.rises l.k k), w.within l.k k, room_left t l.invariant.0 (rw begins e) h)
-
-pub loop-k-preserved : goal.loop-k-preserved
-loop-k-preserved c = let a = c.args in
-    let l = c.loop-k in
-    let k : l.k < a.pieces = c.loop-k-test.true in
-    let begins = l.invariant.1 in
-    let e = standing_next a.stage.now a.ends.now a.blocks.now a.block a.pieces l.k k in
-    let p = put_as (ap (λ i. chosen a.block (get_or a.blocks.now l.k 0) i (get_or a.ends.now l.k 0)
-    a.stage.now) begins) c.write_piece-place.ensures in
-    (next l.invariant.0 k e p, rw add-one)
-
-pub returns : goal.returns
-returns c = let a = c.args in
-    let l = c.loop-k in
-    put_as (standing_all a.stage.now a.ends.now a.blocks.now a.block a.pieces)
-    (none_left l.invariant.0 (standing_none a.stage.now a.ends.now a.blocks.now a.block a.pieces l.k
-    (omega arith)))
+pub loop-piece-preserved : goal.loop-piece-preserved
+loop-piece-preserved c =
+    let a = c.args in
+    let l = c.loop-piece in
+    let d : Piece = record { block = 0; end = 0 } in
+    let lt = c.loop-piece-test.true in
+    let p = get_or a.pieces.now l.piece-index d in
+    let n = laid_next a.stage.now a.pieces.now l.piece-index d lt l.start (length a.stage.now) l.invariant.0 in
+    let r = rest a.stage.now a.pieces.now l.piece-index d lt l.start a.block in (
+      n.1,
+      elim c.if-piece-block.branch [
+        | then-piece-block w ↦
+            rw (w.out-is, w.place-is) (went l.invariant.1 (part l.start (p.end - l.start) a.stage.now) r
+            (next_in a.stage.now a.pieces.now l.piece-index d lt l.start a.block w.if-piece-block.true) w.put-place.ensures)
+        | else-piece-block w ↦
+            rw (w.out-is, w.place-is) (passed l.invariant.1 r
+            (next_out a.stage.now a.pieces.now l.piece-index d lt l.start a.block w.if-piece-block.false))
+      ],
+    )

@@ -1,14 +1,12 @@
--- `text_sheet::write_block` meets its contract. Assumes nothing.
-use Rattle.text_sheet.proofs.Files.{Left}
-use Rattle.text_sheet.proofs.Files.{standing_from}
-use Prim.Native.Nat.{◌-◌}
-use mathlib.Core.Path.{◌≡◌}
-use Rattle.text_sheet.specs.Shown.{start_at}
+-- `text_sheet::write_block`: what is written, and what is left to write. Assumes nothing.
+use Rattle.std.specs.Prelude.{drop, length}
+use Rattle.text_machine.specs.Sheet.{standing}
+use Rattle.text_sheet.specs.Pieces.{pieces_from, Laid}
+use Rattle.text_sheet.specs.Told.{Going}
 use Rattle.text_sheet.proofs.write_block.Given as goal
 
-abbrev pub invariant-loop-k : goal.invariant-loop-k
-invariant-loop-k l = Left
-    (standing_from l.stage l.ends l.blocks l.block l.pieces) l.pieces l.initial.out l.at l.out l.k l.place × (l.start ≡ start_at l.ends l.k)
-
-abbrev pub decreases-loop-k : goal.decreases-loop-k
-decreases-loop-k l = l.pieces - l.k
+abbrev pub invariant-loop-piece : goal.invariant-loop-piece
+invariant-loop-piece l =
+    Laid l.start (length l.stage) (drop l.piece-index l.pieces)
+    × Going (standing l.block (pieces_from l.stage 0 l.pieces))
+    (standing l.block (pieces_from l.stage l.start (drop l.piece-index l.pieces))) l.fn.out l.at l.out l.place

@@ -1,13 +1,11 @@
--- `text_sheet::write_blocks` meets its contract. Assumes nothing.
-use Rattle.text_sheet.proofs.Files.{Left}
-use Rattle.text_sheet.proofs.Files.{blocks_left}
-use Prim.Native.Nat.{◌-◌}
-use Rattle.text_sheet.specs.Shown.{pieces_of}
+-- `text_sheet::write_blocks`: what is written, and what is left to write. Assumes nothing.
+use Rattle.std.specs.Prelude.{◌-◌}
+use Rattle.text_machine.specs.Sheet.{blocks_from}
+use Rattle.text_sheet.specs.Pieces.{pieces_from}
+use Rattle.text_sheet.specs.Told.{Going}
 use Rattle.text_sheet.proofs.write_blocks.Given as goal
 
 abbrev pub invariant-loop-block : goal.invariant-loop-block
-invariant-loop-block l = Left
-    (blocks_left (pieces_of l.stage l.ends l.blocks l.pieces) l.many) l.many l.initial.out l.at l.out l.block l.place
-
-abbrev pub decreases-loop-block : goal.decreases-loop-block
-decreases-loop-block l = l.many - l.block
+invariant-loop-block l =
+    Going (blocks_from l.many 0 (pieces_from l.stage 0 l.pieces))
+    (blocks_from (l.many - l.block) l.block (pieces_from l.stage 0 l.pieces)) l.fn.out l.at l.out l.place

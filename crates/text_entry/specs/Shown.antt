@@ -1,0 +1,27 @@
+-- The machine's draft that the fields show, and what is true of them.
+-- Assumes nothing.
+use Rattle.std.specs.Prelude.{◌≡◌, ◌≤◌, true, false, [], length}
+use Rattle.text_machine.specs.Entry as M
+use Rattle.text_machine.specs.Entry.{FULL}
+use Rattle.text_entry.specs.declared.Draft.TheInside.{Inside}
+
+abbrev pub draft_of : Inside → M.Draft
+draft_of d =
+    record {
+      line = d.line;
+      kind = d.kind;
+      role = d.role;
+      body = d.body.items;
+      over = d.over;
+      size = d.size;
+      count = d.count;
+      at = d.at;
+      aside = d.aside;
+      starts = d.starts.items;
+    }
+
+-- A length is counted so far and no farther; it is that of the body, unless the body is more than is kept: then none of it is.
+pub record Fine (d : Inside) : Type 0 where
+  pub counted : d.size ≤ FULL
+  pub kept : d.over ≡ false → length d.body.items ≡ d.size
+  pub dropped : d.over ≡ true → d.body.items ≡ []
