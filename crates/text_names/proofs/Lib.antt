@@ -1,6 +1,2 @@
-pub mod Rows
-pub mod Finds
-pub mod Bodies
-pub mod Lacks
-pub mod Down
-pub mod Moves
+pub mod Searches
+pub mod Known

@@ -7,8 +7,8 @@ use Rattle.semantics.specs.Words.{any, keep, first_at}
 use Rattle.semantics.specs.Kinds as K
 use Rattle.text_semantics.specs.Names.{Known}
 use Rattle.text_machine.specs.Machine.{most_names, lacking}
-use Rattle.text_names.specs.Table.{known_at, known_of, lacking_in, lacking_of}
-use Rattle.text_names.specs.Span.{span-map}
+use Rattle.text_names.specs.declared.Row.{Row}
+use Rattle.text_names.specs.Table.{known_by, known_of, lacking_in, lacking_of}
 
 module _ (p q : Known → Bool) where
   no_more : (ks : List Known) → first_at q (keep p ks) ≤ length ks
@@ -53,12 +53,17 @@ first_bare (k ∷ ks) = by (is_class k) (first_bare ks)
     by true e = ap (λ m. if k.lacks then 0 else suc m) e
     by false e = e
 
-pub lacking_known : (bs : List ℕ) (n : ℕ) (at len what number : List ℕ) (lacks : List Bool)
-    → lacking_of n what lacks ≡ lacking_in (known_of bs n at len what number lacks)
-lacking_known bs n at len what number lacks =
-    let ks : List Known = known_of bs n at len what number lacks in
-    let e : known_of [] n [] [] what [] lacks ≡ map bare ks = sym (span-map (known_at bs at len what number lacks) bare 0 n) in
-    ap lacking_in e ∙ rw (any-bare ks, first_bare ks)
+-- What is known by rows, without name and number, is so whatever the text is.
+nameless : (bs : List ℕ) (rows : List Row) → map bare (known_of [] rows) ≡ map bare (known_of bs rows)
+nameless bs [] = refl
+nameless bs (r ∷ rows) = ap (λ ks. bare (known_by bs r) ∷ ks) (nameless bs rows)
+
+lacking_bare : (ks : List Known) → lacking_in (map bare ks) ≡ lacking_in ks
+lacking_bare ks = rw (any-bare ks, first_bare ks)
+
+pub lacking_known : (bs : List ℕ) (rows : List Row) → lacking_of rows ≡ lacking_in (known_of bs rows)
+lacking_known bs rows =
+    sym (lacking_bare (known_of [] rows)) ∙ ap lacking_in (nameless bs rows) ∙ lacking_bare (known_of bs rows)
 
 pub lacks_any : (ks : List Known) → length ks ≤ most_names → ltb (lacking_in ks) most_names ≡ any lacking ks
 lacks_any ks h = by (any lacking ks) refl

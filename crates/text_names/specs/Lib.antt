@@ -1,6 +1,6 @@
 pub mod Table
 pub mod Span
-pub mod Row
+pub mod Rows
 pub mod Part
 pub mod Once
 pub mod Trouble

@@ -1,5 +1,5 @@
--- Laws of a span: one more at its end, what it has at its front, and a search and a count that go along it; and of a search and
--- a count by one field.
+-- The n values of a function from i on, a span, and its laws: one more at its end, what it has at its front, and a search and a
+-- count that go along it; and laws of a search and a count by one field.
 -- Assumes nothing.
 use Prim.Native.Nat.{ℕ, zero, suc, ◌+◌, ◌-◌, ◌≤◌, ◌<◌}
 use Rattle.std.proofs.Common.{zero-add, ◌∙◌}
@@ -8,7 +8,11 @@ use native.Mathlib.Omega.{arith}
 use Rattle.std.specs.Prelude.{◌≡◌, List, [], ◌∷◌, ◌++◌, map, Bool, true, false, length, if◌then◌else◌}
 use Rattle.std.proofs.Math.Path.{refl, ap}
 use Rattle.semantics.specs.Words.{keep, first_at}
-use Rattle.text_names.specs.Table.{span}
+
+-- The n of f from i on.
+unfoldable pub span : {A : Type 0} → (ℕ → A) → ℕ → ℕ → List A
+span f i zero = []
+span f i (suc n) = f i ∷ span f (suc i) n
 
 module _ {A : Type 0} (f : ℕ → A) where
   pub span-length : (i n : ℕ) → length (span f i n) ≡ n

@@ -1,31 +1,33 @@
--- The names that are known as rows of numbers, each lent by itself, and how many names there are: where each stands in the
--- text, its length, its key, what it is, its number, and whether it lacks its body. What stands past them is never read.
+-- The table of names: the text and a row for each name, with where the name stands, its length, its key, what it is, its number,
+-- and whether it lacks its body. What is known by it, and what a search finds.
 -- Assumes nothing.
-use Rattle.std.specs.Prelude.{ℕ, zero, suc, ◌+◌, ◌*◌, ◌-◌, ◌%◌, ◌≤◌, ◌<◌, ◌≡◌, List, [], ◌∷◌, Bool, false, eqb, leb, length, get_or, take, drop, if◌then◌else◌}
-use Rattle.std.proofs.Math.Option.{Option, none, some}
+use Rattle.std.specs.Prelude.{ℕ, ◌+◌, ◌*◌, ◌-◌, ◌%◌, ◌≤◌, ◌≡◌, List, [], ◌∷◌, map, Bool, false, eqb, leb, length, take, drop, if◌then◌else◌}
+use Rattle.std.specs.Prelude.{Option, Some, None, All}
 use Rattle.semantics.specs.Words.{any, keep, first_at}
 use Rattle.semantics.specs.Kinds as K
 use Rattle.text_semantics.specs.Grammar.{Name}
 use Rattle.text_semantics.specs.Names.{Known, named, one_more, LOCAL}
 use Rattle.text_semantics.specs.Meaning.{kind_of, number_of}
 use Rattle.text_machine.specs.Machine.{most_names, lacking}
+use Rattle.text_names.specs.declared.Row.{Row}
 use Rattle.text_names.specs.declared.Found.{Found}
 
--- The n of f from i on.
-unfoldable pub span : {A : Type 0} → (ℕ → A) → ℕ → ℕ → List A
-span f i zero = []
-span f i (suc n) = f i ∷ span f (suc i) n
-
 -- THE TABLE.
-abbrev pub name_at : List ℕ → List ℕ → List ℕ → ℕ → Name
-name_at bs at len i = take (get_or len i 0) (drop (get_or at i 0) bs)
+pub record Table : Type 0 where
+  pub text : List ℕ
+  pub rows : List Row
 
-abbrev pub known_at : List ℕ → List ℕ → List ℕ → List ℕ → List ℕ → List Bool → ℕ → Known
-known_at bs at len what number lacks i =
-    record { name = name_at bs at len i; what = get_or what i 0; number = get_or number i 0; lacks = get_or lacks i false }
+abbrev pub name_of : List ℕ → Row → Name
+name_of bs r = take r.len (drop r.at bs)
 
-abbrev pub known_of : List ℕ → ℕ → List ℕ → List ℕ → List ℕ → List ℕ → List Bool → List Known
-known_of bs n at len what number lacks = span (known_at bs at len what number lacks) 0 n
+abbrev pub known_by : List ℕ → Row → Known
+known_by bs r = record { name = name_of bs r; what = r.kind; number = r.number; lacks = r.lacks }
+
+abbrev pub known_of : List ℕ → List Row → List Known
+known_of bs rows = map (known_by bs) rows
+
+abbrev pub known_in : Table → List Known
+known_in t = known_of t.text t.rows
 
 -- The name that stands from byte p up to byte e.
 abbrev pub part_of : List ℕ → ℕ → ℕ → Name
@@ -43,19 +45,13 @@ key_of k [] = k
 key_of k (b ∷ bs) = key_of ((k * key_base + b) % keys) bs
 
 -- What a table is: there is room, each name stands in the text, and has its key.
-pub record Fine (bs : List ℕ) (n : ℕ) (at len key : List ℕ) : Type 0 where
-  pub few : n ≤ most_names
-  pub inside : (i : ℕ) → i < n → get_or at i 0 + get_or len i 0 ≤ length bs
-  pub keyed : (i : ℕ) → i < n → get_or key i 0 ≡ key_of 0 (name_at bs at len i)
+pub record Right (bs : List ℕ) (r : Row) : Type 0 where
+  pub inside : r.at + r.len ≤ length bs
+  pub keyed : r.key ≡ key_of 0 (name_of bs r)
 
--- Each row has room for as many as are kept.
-pub record Room (at len key what number : List ℕ) (lacks : List Bool) : Type 0 where
-  pub of_at : length at ≡ most_names
-  pub of_len : length len ≡ most_names
-  pub of_key : length key ≡ most_names
-  pub of_what : length what ≡ most_names
-  pub of_number : length number ≡ most_names
-  pub of_lacks : length lacks ≡ most_names
+pub record Fine (bs : List ℕ) (rows : List Row) : Type 0 where
+  pub few : length rows ≤ most_names
+  pub right : All (Right bs) rows
 
 -- Each name is known once.
 abbrev pub Distinct : List Known → Type 0
@@ -70,20 +66,19 @@ unfoldable pub the_one : List Known → Name → Known
 the_one [] x = nobody
 the_one (k ∷ ks) x = if named x k then k else the_one ks x
 
-abbrev pub found_of : List Known → Name → Found
+abbrev pub place_in : List Known → Name → Option ℕ
+place_in ks x = if any (named x) ks then Some (first_at (named x) ks) else None
+
+abbrev pub found_of : List Known → Name → Option Found
 found_of ks x =
-    record {
+    if any (named x) ks
+    then Some (record {
       place = first_at (named x) ks;
-      known = any (named x) ks;
       kind = kind_of ks x;
       number = number_of ks x;
       lacks = (the_one ks x).lacks;
-    }
-
--- A trouble as a number: 0 is none.
-abbrev pub told : Option ℕ → ℕ
-told none = 0
-told (some n) = n
+    })
+    else None
 
 -- One more, while there is room.
 abbrev pub one_kept : List Known → ℕ → Name → Bool → List Known
@@ -94,5 +89,9 @@ abbrev pub lacking_in : List Known → ℕ
 lacking_in ks = if any lacking ks then first_at lacking (keep (λ k. eqb k.what K.CLASS) ks) else most_names
 
 -- It doesn't depend on the names and numbers: it is the same where there are none.
-abbrev pub lacking_of : ℕ → List ℕ → List Bool → ℕ
-lacking_of n what lacks = lacking_in (known_of [] n [] [] what [] lacks)
+abbrev pub lacking_of : List Row → ℕ
+lacking_of rows = lacking_in (known_of [] rows)
+
+-- As it is told: there is one, or no name lacks its body.
+abbrev pub lacking_class : List Known → Option ℕ
+lacking_class ks = if any lacking ks then Some (first_at lacking (keep (λ k. eqb k.what K.CLASS) ks)) else None

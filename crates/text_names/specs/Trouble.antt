@@ -1,28 +1,62 @@
 -- Trouble with a name, by what a search found of it; and lists of kinds that ask for the same.
 -- Assumes nothing.
-use Rattle.std.specs.Prelude.{ℕ, ◌≡◌, List, [], ◌∷◌, Bool, ◌&&◌, ◌||◌, eqb, if◌then◌else◌}
+use Rattle.std.specs.Prelude.{ℕ, ◌≡◌, List, [], ◌∷◌, Bool, ◌&&◌, ◌||◌, eqb, Some, None, Result, Ok, Err, if◌then◌else◌}
+use Rattle.std.specs.Prelude as Code
+use Rattle.std.proofs.Math.Option.{Option, none, some}
 use Rattle.std.proofs.Math.Path.{refl, ap}
 use Rattle.std.proofs.Common.{sym, ◌∙◌}
-use Rattle.std.proofs.Math.Bool.{true, false, not, or-false}
-use Rattle.semantics.specs.Words.{any}
+use Rattle.std.proofs.Math.Bool.{true, false, not}
+use Rattle.semantics.specs.Words.{any, first_at}
 use Rattle.text_semantics.specs.Numbers as No
 use Rattle.text_semantics.specs.Grammar.{Name}
 use Rattle.text_semantics.specs.Names.{Known, named, fits, awaited, wanting, trouble, asks, declares, announces, embodies}
 use Rattle.text_semantics.specs.Meaning.{kind_of}
+use Rattle.text_semantics.specs.Meaning as Meaning
 use Rattle.text_names.specs.declared.Found.{Found}
-use Rattle.text_names.specs.Table.{Distinct, the_one, found_of, told}
+use Rattle.text_names.specs.declared.Trouble.{Trouble}
+use Rattle.text_names.specs.declared.Trouble.TheVariants.{Unknown, Again}
+use Rattle.text_names.specs.Table.{Distinct, the_one, found_of}
 use Rattle.text_names.specs.Once.{kind_of_one, once_fits, once_awaited}
 
+-- A trouble by its number, as the definitions have it; none where there is none.
+abbrev pub number_of : Trouble → ℕ
+number_of Unknown = No.UNKNOWN
+number_of Again = No.AGAIN
+
+abbrev pub told : {A : Type 0} → Result A Trouble → Option ℕ
+told (Ok x) = none
+told (Err t) = some (number_of t)
+
 -- BY WHAT WAS FOUND.
-abbrev pub is_of : ℕ → ℕ → ℕ → Found → Bool
-is_of a b c f = f.known && (eqb f.kind a || (eqb f.kind b || eqb f.kind c))
+abbrev pub is_of : List ℕ → Code.Option Found → Bool
+is_of ws None = false
+is_of ws (Some f) = any (eqb f.kind) ws
+
+abbrev pub asked_of : Code.Option Found → List ℕ → Result (Unit {0}) Trouble
+asked_of f ws = if is_of ws f then Ok tt else Err Unknown
+
+abbrev pub declared_of : Code.Option Found → Result (Unit {0}) Trouble
+declared_of None = Ok tt
+declared_of (Some f) = Err Again
+
+abbrev pub embodied_of : Code.Option Found → Result (Unit {0}) Trouble
+embodied_of None = Ok tt
+embodied_of (Some f) = if f.lacks then Ok tt else Err Again
 
 module _ (ks : List Known) (x : Name) (d : Distinct ks) where
-  fits_found : (a b c : ℕ) → any (fits (a ∷ b ∷ c ∷ []) x) ks ≡ is_of a b c (found_of ks x)
-  fits_found a b c =
-      once_fits (a ∷ b ∷ c ∷ []) x ks d
-      ∙ ap (λ w. any (named x) ks && any (eqb w) (a ∷ b ∷ c ∷ [])) (sym (kind_of_one ks x))
-      ∙ ap (λ t. any (named x) ks && (eqb (kind_of ks x) a || (eqb (kind_of ks x) b || t))) (or-false (eqb (kind_of ks x) c))
+  fits_found : (ws : List ℕ) → any (fits ws x) ks ≡ is_of ws (found_of ks x)
+  fits_found ws =
+      once_fits ws x ks d ∙ ap (λ w. any (named x) ks && any (eqb w) ws) (sym (kind_of_one ks x)) ∙ by (any (named x) ks)
+    where
+      by : (t : Bool) → (t && any (eqb (kind_of ks x)) ws)
+          ≡ is_of ws (if t then Some (record {
+            place = first_at (named x) ks;
+            kind = kind_of ks x;
+            number = Meaning.number_of ks x;
+            lacks = (the_one ks x).lacks;
+          }) else None)
+      by true = refl
+      by false = refl
 
   awaited_found : (if any (awaited x) ks then true else not (any (named x) ks))
       ≡ not (any (named x) ks && not (the_one ks x).lacks)
@@ -35,44 +69,47 @@ module _ (ks : List Known) (x : Name) (d : Distinct ks) where
       by false false = refl
 
 -- The trouble that is told.
-abbrev pub asked_of : Found → ℕ → ℕ → ℕ → ℕ
-asked_of f a b c = if is_of a b c f then 0 else No.UNKNOWN
-
-abbrev pub declared_of : Found → ℕ
-declared_of f = if f.known then No.AGAIN else 0
-
-abbrev pub embodied_of : Found → ℕ
-embodied_of f = if f.known && not f.lacks then No.AGAIN else 0
-
-told-wanting : (n : ℕ) (t : Bool) → (if t then 0 else n) ≡ told (wanting n t)
-told-wanting n true = refl
-told-wanting n false = refl
-
-told-not : (n : ℕ) (t : Bool) → (if t then n else 0) ≡ told (wanting n (not t))
-told-not n true = refl
-told-not n false = refl
+told-wanting : (t : Bool) → told {A = Unit {0}} (if t then Ok tt else Err Unknown) ≡ wanting No.UNKNOWN t
+told-wanting true = refl
+told-wanting false = refl
 
 module _ (ks : List Known) (x : Name) where
-  pub declared_trouble : (w : ℕ) → declared_of (found_of ks x) ≡ told (trouble ks (declares w x))
-  unfolding trouble
-  declared_trouble w = told-not No.AGAIN (any (named x) ks)
+  abbrev one : Found
+  one = record {
+    place = first_at (named x) ks;
+    kind = kind_of ks x;
+    number = Meaning.number_of ks x;
+    lacks = (the_one ks x).lacks;
+  }
 
-  pub announced_trouble : declared_of (found_of ks x) ≡ told (trouble ks (announces x))
+  told-known : (t : Bool) → told (declared_of (if t then Some one else None)) ≡ wanting No.AGAIN (not t)
+  told-known true = refl
+  told-known false = refl
+
+  told-bodied : (t l : Bool) → (the_one ks x).lacks ≡ l
+      → told (embodied_of (if t then Some one else None)) ≡ wanting No.AGAIN (not (t && not l))
+  told-bodied true true e = rw e
+  told-bodied true false e = rw e
+  told-bodied false l e = refl
+
+  pub declared_trouble : (w : ℕ) → told (declared_of (found_of ks x)) ≡ trouble ks (declares w x)
   unfolding trouble
-  announced_trouble = told-not No.AGAIN (any (named x) ks)
+  declared_trouble w = told-known (any (named x) ks)
+
+  pub announced_trouble : told (declared_of (found_of ks x)) ≡ trouble ks (announces x)
+  unfolding trouble
+  announced_trouble = told-known (any (named x) ks)
 
   module _ (d : Distinct ks) where
-    pub asked_trouble : (a b c : ℕ) → asked_of (found_of ks x) a b c ≡ told (trouble ks (asks (a ∷ b ∷ c ∷ []) x))
+    pub asked_trouble : (ws : List ℕ) → told (asked_of (found_of ks x) ws) ≡ trouble ks (asks ws x)
     unfolding trouble
-    asked_trouble a b c =
-        told-wanting No.UNKNOWN (is_of a b c (found_of ks x))
-        ∙ ap (λ t. told (wanting No.UNKNOWN t)) (sym (fits_found ks x d a b c))
+    asked_trouble ws =
+        told-wanting (is_of ws (found_of ks x)) ∙ ap (wanting No.UNKNOWN) (sym (fits_found ks x d ws))
 
-    pub embodied_trouble : embodied_of (found_of ks x) ≡ told (trouble ks (embodies x))
+    pub embodied_trouble : told (embodied_of (found_of ks x)) ≡ trouble ks (embodies x)
     unfolding trouble
     embodied_trouble =
-        told-not No.AGAIN (any (named x) ks && not (the_one ks x).lacks)
-        ∙ ap (λ t. told (wanting No.AGAIN t)) (sym (awaited_found ks x d))
+        told-bodied (any (named x) ks) (the_one ks x).lacks refl ∙ ap (wanting No.AGAIN) (sym (awaited_found ks x d))
 
 -- LISTS THAT ASK FOR THE SAME: a kind may stand there more than once.
 fits_alike : (ws vs : List ℕ) → ((w : ℕ) → any (eqb w) ws ≡ any (eqb w) vs) → (x : Name) (ks : List Known)

@@ -1,17 +1,21 @@
--- What is still to come, as the code has it: a row of numbers, the top last; and what a token makes of it.
+-- What is still to come, as the code has it: a list of numbers, the top last; and what a token makes of it.
 -- Assumes nothing.
-use Rattle.std.specs.Prelude.{ℕ, zero, suc, ◌≤◌, ◌<◌, ◌≡◌, List, [], ◌∷◌, ◌++◌, false, ltb, length, get_or, if◌then◌else◌}
+use Rattle.std.specs.Prelude.{ℕ, zero, suc, ◌≤◌, ◌<◌, ◌≡◌, List, [], ◌∷◌, ◌++◌, ltb, length, get_or, if◌then◌else◌, Result, Ok, Err, OnErr}
 use Rattle.std.proofs.Math.Option.{Option, none, some}
 use Rattle.text_semantics.specs.Token.{Token}
 use Rattle.text_semantics.specs.Table.{Rule}
 use Rattle.text_semantics.specs.Reading.{Symbol, Of, say, step}
 use Rattle.text_machine.specs.Codes.{symbol_of, token_of}
 use Rattle.text_machine.specs.Machine.{highest_pile}
-use Rattle.text_pile.specs.declared.Turned.{Turned}
+use Rattle.text_pile.specs.declared.Misfit.{Misfit}
 
 unfoldable pub pile_of : List ℕ → ℕ → List Symbol
 pile_of p zero = []
 pile_of p (suc h) = symbol_of (get_or p h 0) ∷ pile_of p h
+
+-- All of it.
+abbrev pub stack_of : List ℕ → List Symbol
+stack_of p = pile_of p (length p)
 
 -- The numbers of symbols, with as many brackets as may be open; and a pile of them.
 abbrev pub SYMBOLS : ℕ
@@ -20,10 +24,9 @@ SYMBOLS = 157
 abbrev pub Known : List ℕ → ℕ → Type 0
 Known p h = (i : ℕ) → i < h → get_or p i 0 < SYMBOLS
 
-pub record Piled (p : List ℕ) (height : ℕ) : Type 0 where
-  pub places : length p ≡ highest_pile
-  pub low : height ≤ highest_pile
-  pub known : Known p height
+pub record Piled (p : List ℕ) : Type 0 where
+  pub low : length p ≤ highest_pile
+  pub known : Known p (length p)
 
 -- What comes by a rule; and what is still to come then, where there is room for it.
 abbrev pub next_of : {s : Symbol} {t : Token} → Option (Rule Of say s t) → Option (List Symbol)
@@ -39,14 +42,13 @@ unfoldable pub turned_of : List Symbol → Token → Option (List Symbol)
 turned_of [] t = none
 turned_of (s ∷ ss) t = roomed ss (next_of (step s t))
 
--- What the code answers: q is the row that it leaves.
-abbrev pub answered_of : Turned → List ℕ → Option (List Symbol)
-answered_of r q = if r.fits then some (pile_of q r.height) else none
+-- What the code answers: q is the pile that it leaves.
+abbrev pub answered_of : {A : Type 0} → Result A Misfit → List ℕ → Option (List Symbol)
+answered_of (Ok x) q = some (stack_of q)
+answered_of (Err e) q = none
 
--- The code leaves the pile that the token leaves, and what is behind it stays; where the token doesn't fit, all of the row does.
--- A name's bytes don't matter.
-pub record Turns (p : List ℕ) (height kind value : ℕ) (r : Turned) (q : List ℕ) : Type 0 where
-  pub answer : (x : List ℕ) → answered_of r q ≡ turned_of (pile_of p height) (token_of kind value x)
-  pub kept : r.fits ≡ false → (q ≡ p) × (r.height ≡ height)
-  pub piled : Piled q r.height
-  pub beyond : (i : ℕ) → r.height ≤ i → get_or q i 0 ≡ get_or p i 0
+-- The code leaves the pile that the token leaves; where the token doesn't fit, the one that was there. A name's bytes don't matter.
+pub record Turns (p : List ℕ) (kind value : ℕ) (r : Result (Unit {0}) Misfit) (q : List ℕ) : Type 0 where
+  pub answer : (x : List ℕ) → answered_of r q ≡ turned_of (stack_of p) (token_of kind value x)
+  pub kept : OnErr r (q ≡ p)
+  pub piled : Piled q

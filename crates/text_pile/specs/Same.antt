@@ -1,7 +1,7 @@
 -- One answer: two answers of `turn` that meet its contract, each with the pile that it leaves, are the same.
 -- Assumes nothing.
-use Rattle.std.specs.Prelude.{ℕ, zero, suc, ◌+◌, ◌*◌, ◌≤◌, ◌<◌, ◌≡◌, refl, List, [], Bool, true, false, ◌&&◌, eqb, ltb, length, get_or, if◌then◌else◌}
-use Rattle.std.proofs.Common.{arith, sym, ◌∙◌, ap, ext_get_or, eqb-true, ltb-true, ltb-false}
+use Rattle.std.specs.Prelude.{ℕ, zero, suc, ◌+◌, ◌*◌, ◌<◌, ◌≡◌, refl, List, [], Bool, true, false, ◌&&◌, eqb, length, get_or, if◌then◌else◌, Result, Ok, Err}
+use Rattle.std.proofs.Common.{arith, sym, ◌∙◌, ap, ext_get_or, eqb-true}
 use Rattle.std.proofs.Math.Option.{none, some}
 use Rattle.std.proofs.lemmas.Bool.{eqb-false}
 use Rattle.text_semantics.specs.Numbers as No
@@ -10,8 +10,8 @@ use Rattle.text_semantics.specs.Reading.{signed_s, relation_s, item_s, claim_s, 
 use Rattle.text_semantics.specs.Reading.{body_s, text_s}
 use Rattle.text_machine.specs.Codes as C
 use Rattle.text_machine.specs.Codes.{symbol_of}
-use Rattle.text_pile.specs.declared.Turned.{Turned}
-use Rattle.text_pile.specs.Pile.{SYMBOLS, Known, Turns, pile_of}
+use Rattle.text_pile.specs.declared.Misfit.{Misfit}
+use Rattle.text_pile.specs.Pile.{SYMBOLS, Known, Turns, pile_of, stack_of}
 
 -- The number of a symbol.
 abbrev closing : Closer → ℕ
@@ -89,47 +89,28 @@ pile_numbers p q (suc h) a b e i l =
         rw (eqb-true i h f) (one_number (get_or p h 0) (get_or q h 0) (a h (omega arith)) (b h (omega arith)) top)
     go false f r = r (below i h l (eqb-false i h f))
 
--- The same symbols, and the same behind them.
-module _ {p : List ℕ} {height kind value : ℕ} where
-  both_fit : {r s : Turned} {q z : List ℕ} → Turns p height kind value r q → Turns p height kind value s z →
-      pile_of q r.height ≡ pile_of z s.height → (r.height ≡ s.height) × (q ≡ z)
+-- The same symbols.
+module _ {p : List ℕ} {kind value : ℕ} where
+  both_fit : {r s : Result (Unit {0}) Misfit} {q z : List ℕ} → Turns p kind value r q → Turns p kind value s z →
+      stack_of q ≡ stack_of z → q ≡ z
   both_fit {r} {s} {q} {z} a b e =
-      let high : r.height ≡ s.height = sym (pile_height q r.height) ∙ ap length e ∙ pile_height z s.height in
-      let same : pile_of q r.height ≡ pile_of z r.height = e ∙ ap (λ (h : ℕ). pile_of z h) (sym high) in
-      let there : Known z r.height = λ i l. b.piled.known i (omega arith) in
-      let long : length q ≡ length z = a.piled.places ∙ sym b.piled.places in (
-        high,
-        ext_get_or 0 q z long λ i l. go i (ltb i r.height) refl
-            (λ m. pile_numbers q z r.height a.piled.known there same i m)
-            (λ m. a.beyond i m ∙ sym (b.beyond i (omega arith))),
-      )
-    where
-      go : (i : ℕ) (x : Bool) → ltb i r.height ≡ x → (i < r.height → get_or q i 0 ≡ get_or z i 0) →
-          (r.height ≤ i → get_or q i 0 ≡ get_or z i 0) → get_or q i 0 ≡ get_or z i 0
-      go i true f g h = g (ltb-true i r.height f)
-      go i false f g h = h (ltb-false i r.height f)
+      let long : length q ≡ length z = sym (pile_height q (length q)) ∙ ap length e ∙ pile_height z (length z) in
+      let same : pile_of q (length q) ≡ pile_of z (length q) = e ∙ ap (λ (h : ℕ). pile_of z h) (sym long) in
+      let there : Known z (length q) = λ i l. b.piled.known i (omega arith) in
+      ext_get_or 0 q z long (λ i l. pile_numbers q z (length q) a.piled.known there same i l)
 
-  pub same_turn : {r s : Turned} {q z : List ℕ} → Turns p height kind value r q → Turns p height kind value s z →
+  pub same_turn : {r s : Result (Unit {0}) Misfit} {q z : List ℕ} → Turns p kind value r q → Turns p kind value s z →
       (r ≡ s) × (q ≡ z)
-  same_turn {r} {s} {q} {z} a b = go r.fits s.fits refl refl (a.answer [] ∙ sym (b.answer []))
+  same_turn {r} {s} {q} {z} a b = go r s a b
     where
-      turned : r.fits ≡ s.fits → r.height ≡ s.height → r ≡ s
-      turned f h =
-          let made : Bool → ℕ → Turned = λ x n. record { fits = x; height = n } in
-          ap (λ (x : Bool). made x r.height) f ∙ ap (λ (n : ℕ). made s.fits n) h
-
-      go : (x y : Bool) → r.fits ≡ x → s.fits ≡ y →
-          (if r.fits then some (pile_of q r.height) else none) ≡ (if s.fits then some (pile_of z s.height) else none) →
-          (r ≡ s) × (q ≡ z)
-      go true true f g e =
-          let fit : some (pile_of q r.height) ≡ some (pile_of z s.height) = rw (f, g) at e in
-          let both = both_fit a b (cc) in (turned (f ∙ sym g) both.0, both.1)
-      go true false f g e =
-          let fit : some (pile_of q r.height) ≡ none = rw (f, g) at e in
+      go : (r s : Result (Unit {0}) Misfit) → Turns p kind value r q → Turns p kind value s z → (r ≡ s) × (q ≡ z)
+      go (Ok x) (Ok y) a b =
+          let fit : some (stack_of q) ≡ some (stack_of z) = a.answer [] ∙ sym (b.answer []) in
+          (refl, both_fit a b (cc))
+      go (Ok x) (Err f) a b =
+          let fit : some (stack_of q) ≡ none = a.answer [] ∙ sym (b.answer []) in
           let never : ◌≡◌ {A = ℕ} 0 1 = cc in absurd (omega arith)
-      go false true f g e =
-          let fit : none ≡ some (pile_of z s.height) = rw (f, g) at e in
+      go (Err e) (Ok y) a b =
+          let fit : none ≡ some (stack_of z) = a.answer [] ∙ sym (b.answer []) in
           let never : ◌≡◌ {A = ℕ} 0 1 = cc in absurd (omega arith)
-      go false false f g e =
-          let i = a.kept f in
-          let j = b.kept g in (turned (f ∙ sym g) (i.1 ∙ sym j.1), i.0 ∙ sym j.0)
+      go (Err e) (Err f) a b = (refl, a.kept ∙ sym b.kept)

@@ -1,6 +1,6 @@
 -- The grammar as the code has it: symbols as classes, tokens as columns, and for both the place of what comes then.
 -- Assumes nothing.
-use Rattle.std.specs.Prelude.{ℕ, zero, suc, ◌+◌, ◌*◌, ◌-◌, ◌%◌, List, [], ◌∷◌, eqb, leb, ltb, get_or, if◌then◌else◌}
+use Rattle.std.specs.Prelude.{ℕ, zero, suc, ◌+◌, ◌*◌, ◌-◌, ◌%◌, List, [], ◌∷◌, eqb, leb, ltb, get_or, if◌then◌else◌, Option, Some, None}
 use Rattle.text_semantics.specs.Numbers as No
 use Rattle.text_machine.specs.Codes.{NUMBER, BAD, EXPRESSION, PARTS}
 
@@ -39,6 +39,10 @@ MARKS = 48
 unfoldable pub place_of : List ℕ → ℕ → ℕ → ℕ
 place_of table k j =
     if ltb k MARKS then (if eqb k j then 1 else 0) else get_or table ((k - MARKS) * COLUMNS + j) 0
+
+-- .. as it is told: a place, unless the token doesn't fit.
+abbrev pub entry_of : List ℕ → ℕ → ℕ → Option ℕ
+entry_of table k j = if eqb (place_of table k j) 0 then None else Some (place_of table k j)
 
 -- WHAT COMES: at a place stands how many symbols, then those, the first to come last. Parts of expressions are as much deeper as
 -- the symbol is than its class.

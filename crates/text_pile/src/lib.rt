@@ -1,22 +1,23 @@
 // The grammar as a table, and the pile of what is still to come: what one token makes of it.
 #![tactic(auto)]
 
-ghost use Rattle.std.specs.Prelude.{◌≡◌, ◌+◌, ◌≤◌, ◌<◌};
-ghost use Rattle.std.proofs.lemmas.List.Edits.{sets};
+ghost use Rattle.std.specs.Prelude.{◌≡◌, ◌+◌, ◌≤◌, ◌<◌, ◌++◌, length, map, get_or, take, drop, IfSome, All};
 ghost use Rattle.text_machine.specs.Codes.{BAD};
-ghost use Rattle.text_machine.specs.Machine.{highest_pile};
-ghost use Rattle.text_pile.specs.Pile.{SYMBOLS, Known, Piled, Turns};
-ghost use Rattle.text_pile.specs.Table.{CLASSES, COLUMNS, NEXTS, SHIFTS, place_of, class_of, column_of, deeper_by, run_of};
+ghost use Rattle.text_pile.specs.Pile.{SYMBOLS};
+ghost use Rattle.text_pile.specs.Table.{CLASSES, COLUMNS, SHIFTS, entry_of, class_of, column_of, deeper_by};
+
+use arrayvec::ArrayVec;
+use std::marker::Model;
 
 // How high the pile may become.
 pub const HIGHEST: usize = 64;
 
-// Whether the token fits, and how high the pile is then.
-#[derive(Clone, Copy)]
-pub struct Turned {
-    pub fits: bool,
-    pub height: usize,
-}
+// What a pile begins with: the text itself is still to come.
+const TEXT: u8 = 63;
+
+// A token that doesn't fit.
+#[derive(Clone, Copy, Debug, PartialEq, Eq)]
+pub struct Misfit;
 
 // ---- tokens as columns of the table
 
@@ -175,13 +176,6 @@ const NEXT: [u8; NEXTS] = [
     2, 81, 77, // 200 factor ..;
 ];
 
-// As an index.
-fn wide(byte: u8) -> usize
-    ensures { result ≡ byte }
-{
-    byte as usize
-}
-
 fn column_of(kind: u8, value: u32) -> usize
     requires { kind ≤ BAD }
     ensures { (result ≡ column_of kind value) × (result < COLUMNS) }
@@ -211,18 +205,32 @@ fn class_of(symbol: u8) -> u8
     DEEP + (symbol - DEEP) % PARTS
 }
 
-// The place of what comes then, 0 where the token doesn't fit.
-fn place_of(table: &[u8; ENTRIES], class: usize, column: usize) -> usize
+// The place of what comes then, unless the token doesn't fit.
+fn place_of(table: &[u8; ENTRIES], class: u8, column: usize) -> Option<usize>
     requires { (class < CLASSES) × (column < COLUMNS) }
-    ensures { result ≡ place_of table.now class column }
+    ensures { result ≡ entry_of table.now class column }
 {
-    if MARKS <= class {
-        return wide(table[(class - MARKS) * COLUMNS + column]);
+    let class = usize::from(class);
+    if class < MARKS {
+        if class == column {
+            return Some(1);
+        }
+        return None;
     }
-    if class == column {
-        return 1;
+    let place = usize::from(table[(class - MARKS) * COLUMNS + column]);
+    if place == 0 {
+        return None;
     }
-    0
+    Some(place)
+}
+
+// The symbols of NEXT that stand at a place.
+fn next_at(next: &[u8; NEXTS], place: usize) -> &[u8]
+    requires { (place < NEXTS) × (place + 1 + get_or next.now place 0 ≤ NEXTS) }
+    ensures { result.now ≡ take (get_or next.now place 0) (drop (place + 1) next.now) }
+{
+    let many = usize::from(next[place]);
+    &next[place + 1..place + 1 + many]
 }
 
 // A symbol of NEXT, for one that is so much deeper than its class.
@@ -236,56 +244,75 @@ fn deeper(symbol: u8, by: u8) -> u8
     symbol + by
 }
 
-// Puts so many symbols onto the pile, from a place on.
-fn put(
-    pile: &mut [u8; HIGHEST],
-    height: usize,
-    next: &[u8; NEXTS],
-    place: usize,
-    many: usize,
-    by: u8,
-)
-    requires { (height + many ≤ highest_pile) × (place + many ≤ NEXTS) × (by < SHIFTS) × Known next.now NEXTS }
-    ensures { pile.new ≡ sets pile.old height (run_of next.now place many by) }
+// Puts symbols of NEXT on, the first below.
+fn put(symbols: &mut ArrayVec<u8, HIGHEST>, next: &[u8], by: u8)
+    requires room { length symbols.old.items + length next.now ≤ HIGHEST }
+    requires known { All (λ s. s < SYMBOLS) next.now }
+    requires by_bound { by < SHIFTS }
+    ensures { symbols.new.items ≡ symbols.old.items ++ map (deeper_by by) next.now }
 {
-    let mut i = 0;
-    while i < many {
-        pile[height + i] = deeper(next[place + i], by);
-        i += 1;
+    for symbol in next {
+        symbols.push(deeper(*symbol, by));
     }
 }
 
-// One token: the top goes, and what comes by its rule is put on. What stands behind the pile is never read, and stays.
-pub fn turn(pile: &mut [u8; HIGHEST], height: usize, kind: u8, value: u32) -> Turned
-    requires { Piled pile.old height × (kind ≤ BAD) }
-    ensures { Turns pile.old height kind value result pile.new }
-{
-    if height == 0 {
-        return Turned {
-            fits: false,
-            height,
-        };
+// The pile: the numbers of the symbols that are still to come, the next one last.
+#[derive(Drop)]
+pub struct Pile {
+    symbols: ArrayVec<u8, HIGHEST>,
+}
+
+impl Model for Pile {
+    ghost use Rattle.std.specs.Prelude.{List, ℕ};
+    ghost use Rattle.text_pile.specs.Pile.{Piled};
+
+    ghost Value = { List ℕ };
+
+    ghost view = { λ p. p.symbols.items };
+
+    ghost invariant = { λ p. Piled p.symbols.items };
+}
+
+impl Pile {
+    ghost use Rattle.std.specs.Prelude.{◌∷◌, [], ◌-◌, slice_get};
+    ghost use Rattle.text_pile.specs.Pile.{Turns};
+
+    // The text itself is still to come.
+    pub fn new() -> Self
+        ensures { result ≡ TEXT ∷ [] }
+    {
+        let mut symbols = ArrayVec::new();
+        symbols.push(TEXT);
+        Pile { symbols }
     }
-    let rest = height - 1;
-    let top = pile[rest];
-    let class = class_of(top);
-    let place = place_of(&TABLE, wide(class), column_of(kind, value));
-    if place == 0 {
-        return Turned {
-            fits: false,
-            height,
-        };
+
+    // What is next to come, unless all of the text is there.
+    pub fn top(&self) -> Option<u8>
+        ensures value { result ≡ slice_get self.now (length self.now - 1) }
+        ensures known { IfSome result (λ s. s < SYMBOLS) }
+    {
+        self.symbols.last().copied()
     }
-    let many = wide(NEXT[place]);
-    if HIGHEST < rest + many {
-        return Turned {
-            fits: false,
-            height,
+
+    // One token: the top goes, and what comes by its rule is put on. Where the token doesn't fit, the pile stays as it was.
+    pub fn turn(&mut self, kind: u8, value: u32) -> Result<(), Misfit>
+        requires { kind ≤ BAD }
+        ensures { Turns self.old kind value result self.new }
+    {
+        let Some(top) = self.top() else {
+            return Err(Misfit);
         };
-    }
-    put(pile, rest, &NEXT, place + 1, many, top - class);
-    Turned {
-        fits: true,
-        height: rest + many,
+        let class = class_of(top);
+        let Some(place) = place_of(&TABLE, class, column_of(kind, value)) else {
+            return Err(Misfit);
+        };
+        let next = next_at(&NEXT, place);
+        let rest = self.symbols.len() - 1;
+        if HIGHEST < rest + next.len() {
+            return Err(Misfit);
+        }
+        self.symbols.truncate(rest);
+        put(&mut self.symbols, next, top - class);
+        Ok(())
     }
 }

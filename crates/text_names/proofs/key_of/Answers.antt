@@ -1,25 +1,19 @@
--- `text_names::key_of` meets its contract. The loop's invariant: the key goes on from byte i to the key of the whole name.
--- Assumes nothing.
-use native.Mathlib.Omega.{arith}
-use mathlib.Core.Path.{sym, ◌∙◌, ap}
+-- `key_of` goes on with the next byte, and ends behind the last.
+use Rattle.std.proofs.Common.{arith, drop-cons, drop_of_length-le}
+use Rattle.std.proofs.Math.Numerals.{add-one}
 use Rattle.text_names.specs.Table.{key_of}
-use Rattle.text_names.specs.Part.{part_all, key_on, key_end}
 use Rattle.text_names.proofs.key_of.Goals as goal
 
-pub loop-i-init : goal.loop-i-init
-loop-i-init c = let a = c.args in
-    (omega arith, omega arith, ap (key_of 0) (part_all a.text.now a.p a.l c.requires))
-
-pub loop-i-preserved : goal.loop-i-preserved
-loop-i-preserved c = let a = c.args in
-    let l = c.loop-i in
-    let t = c.loop-i-test.true in (
+pub loop-byte-preserved : goal.loop-byte-preserved
+unfolding key_of
+loop-byte-preserved c =
+    let l = c.loop-byte in (
       omega arith,
-      omega arith,
-      rw c.wide.ensures.0 (key_on a.text.now a.p a.l c.requires l.i l.k t ∙ l.invariant.2),
+      rw (add-one l.byte-index) (rw c.from.ensures (rw (drop-cons c.args.name.now l.byte-index 0 c.loop-byte-test.true) at l.invariant.1)),
     )
 
 pub returns : goal.returns
-returns c = let a = c.args in
-    let l = c.loop-i in
-    sym (key_end a.text.now a.p a.l c.requires l.i l.k (omega arith)) ∙ l.invariant.2
+unfolding key_of
+returns c =
+    let l = c.loop-byte in
+    rw (drop_of_length-le c.args.name.now c.loop-byte-test.false) at l.invariant.1
