@@ -31,9 +31,9 @@ proof of each function whose code was edited, at a fact; or, of an edited contra
 function has two or more. `python3 -B tests/edits.py write` writes this page from `crates/*/must-fail`; the head of that script
 says how the edits of one file are kept apart.
 '''
-ITEM = re.compile(r'^(pub )?(?:extern "C" )?(fn|const) (\w+)', re.M)
+ITEM = re.compile(r'^(?:    )?(pub )?(?:extern "C" )?(fn|const) (\w+)|^impl(?:<.*?>)? (?:[\w<>]+ for )?(\w+)', re.M)
 # A function of a cycle of calls, whose proofs have one folder.
-CYCLE = re.compile(r'^#\[cycle\((\w+)\)\]\n(?:pub )?fn (\w+)', re.M)
+CYCLE = re.compile(r'#\[cycle\((\w+)\)\]\n *(?:pub )?fn ')
 # A name of a step or a goal.
 DASHED = r'\w+(?:-\w+)+'
 # What the check says of a fact or a term, and where; and what it says where only something else was refused, or a name is
@@ -85,7 +85,10 @@ def crates():
 
 
 def uses(body, name):
-    """Whether a body calls a function of its crate, or names a constant of it."""
+    """Whether a body calls a function of its crate, or names a constant of it; a method is `Type::name`."""
+    kind, _, method = name.rpartition('::')
+    if kind:
+        return re.search(r'(?:\.|\b(?:%s|Self)::)%s\(' % (kind, method), body)
     return re.search(r'(?<![:.\w])%s%s' % (name, r'\b' if name.isupper() else r'\('), body)
 
 
@@ -96,13 +99,18 @@ class Source:
         folder = ROOT / 'crates' / crate
         self.file = PROGRAM if (folder / PROGRAM).exists() else SOURCE
         self.text = (folder / self.file).read_text() if (folder / self.file).exists() else ''
-        found = list(ITEM.finditer(self.text))
-        self.items = [(m.start(), m[3]) for m in found]
-        self.public = {m[3] for m in found if m[1]}
-        self.constants = {m[3] for m in found if m[2] == 'const'}
+        self.items, self.public, self.constants, kind = [], set(), set(), ''
+        for m in ITEM.finditer(self.text):
+            if m[4]:
+                kind = m[4]
+                continue
+            name = f'{kind}::{m[3]}' if m[0][0] == ' ' else m[3]
+            self.items.append((m.start(), name))
+            self.public |= {name} if m[1] else set()
+            self.constants |= {name} if m[2] == 'const' else set()
         self.cycles = {}
-        for cycle, name in CYCLE.findall(self.text):
-            self.cycles.setdefault(cycle, set()).add(name)
+        for m in CYCLE.finditer(self.text):
+            self.cycles.setdefault(m[1], set()).add(self.item_at(m.end()))
         ends = [start for start, _ in self.items[1:]] + [len(self.text)]
         self.bodies = {name: self.text[start:end] for (start, name), end in zip(self.items, ends)}
         self.names = {name: {other for other in self.bodies if other != name and uses(re.sub(r'//.*', '', body), other)}
@@ -129,8 +137,9 @@ class Source:
 
     def proved_in(self, file):
         """The functions whose proof a file is part of."""
-        found = re.fullmatch(r'proofs/\+?(\w+)/\w+\.antt', file)
-        return self.cycles.get(found[1], {found[1]}) if found else set()
+        found = re.fullmatch(r'proofs/\+?([\w/]+)/\w+\.antt', file)
+        name = found[1].replace('/', '::') if found else ''
+        return self.cycles.get(name, {name}) if name else set()
 
     def come_to(self, name):
         met, rest = set(), {name}

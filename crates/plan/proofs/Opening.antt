@@ -2,7 +2,7 @@
 use Rattle.std.specs.Prelude.{if◌then◌else◌}
 use Prim.Native.Nat.{ℕ, ◌+◌, ◌-◌, ◌<◌, min}
 use native.Mathlib.Omega.{arith}
-use mathlib.Core.Path.{◌≡◌, refl}
+use mathlib.Core.Path.{◌≡◌, refl, sym, ap}
 use mathlib.Core.List.{List}
 use mathlib.Core.Bool.{Bool, true, false, ◌&&◌}
 use borrow.Author.Tests.{eqb-true, ltb-true}
@@ -13,10 +13,11 @@ use lib.ListN.{get_or, replicate}
 use Rattle.semantics.specs.Numbers as No
 use Rattle.semantics.specs.Bytes.{records_from}
 use Rattle.semantics.specs.State.{fresh}
-use Rattle.semantics.specs.Decode.{decode}
-use Rattle.file_check.specs.Check.{refusal_of}
-use Rattle.file_check.specs.declared.Refusal.{Refusal}
-use Rattle.file_check.proofs.Answer.{accepts}
+use Rattle.semantics.specs.Model.{Model}
+use Rattle.semantics.specs.Decode.{Checked, refused, accepted, if_accepted, decode}
+use Rattle.semantics.specs.Bound as definition
+use Rattle.semantics.specs.Bound.{bound_is}
+use Rattle.semantics.specs.Desk.{bound_file}
 use Rattle.promises.specs.Laws.{and-true}
 use Rattle.base_numbers.specs.Row as Row
 use Rattle.file_index.specs.Index.{Readable}
@@ -32,9 +33,31 @@ use Rattle.run_file.proofs.Says.{all_bytes}
 use Rattle.plan.specs.Given.{Accepted}
 use Rattle.plan.specs.Room.{TURN}
 
--- A file that the check doesn't refuse is accepted.
-pub accepted_as : {bs : List ℕ} (r : Refusal) → r ≡ refusal_of (decode bs) → r.number ≡ 0 → Accepted bs
-accepted_as {bs} r e z = let a = accepts bs r e z in record { model = a.0; passes = a.1 }
+-- A file that has a bound is accepted, and one that is refused was refused by the check.
+abbrev refused_in : Checked definition.Bounded → Checked Model
+refused_in (refused n p) = refused n p
+refused_in (accepted b) = refused 0 0
+
+abbrev accepts_in : Checked definition.Bounded → ℕ
+accepts_in (refused n p) = 0
+accepts_in (accepted b) = 1
+
+module _ (bs : List ℕ) where
+  pub accepted_as : {b : definition.Bounded} → accepted b ≡ bound_file bs → Accepted bs
+  unfolding bound_file
+  accepted_as {b} e = go (decode bs) refl e
+    where
+      go : (q : Checked Model) → decode bs ≡ q → accepted b ≡ (if_accepted q λ m. accepted (bound_is m)) → Accepted bs
+      go (refused n p) d e = let z : ◌≡◌ {A = ℕ} 1 0 = ap accepts_in e in absurd (omega arith)
+      go (accepted m) d e = record { model = m; passes = d }
+
+  pub refused_as : {n p : ℕ} → refused n p ≡ bound_file bs → decode bs ≡ refused n p
+  unfolding bound_file
+  refused_as {n} {p} e = go (decode bs) e
+    where
+      go : (q : Checked Model) → refused n p ≡ (if_accepted q λ m. accepted (bound_is m)) → q ≡ refused n p
+      go (refused a b) e = sym (ap refused_in e)
+      go (accepted m) e = let z : ◌≡◌ {A = ℕ} 0 1 = ap accepts_in e in absurd (omega arith)
 
 module _ {bs : List ℕ} (a : Accepted bs) where
   pub reads : Readable bs

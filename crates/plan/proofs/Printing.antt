@@ -31,8 +31,7 @@ use Rattle.plan_text.specs.Put.{Front}
 use Rattle.plan_turn.specs.declared.Answered.{Answered}
 use Rattle.plan_turn.specs.Turn.{AnsweredAs}
 use Rattle.plan_turn.proofs.Turned.{still_open, all_steps}
-use Rattle.file_bound.specs.Answer.{bounded_of}
-use Rattle.plan.specs.Given.{bound_word}
+use Rattle.plan.specs.Given.{bound_told}
 use Rattle.plan.specs.Printed.{plan_text, Next}
 use Rattle.plan.specs.Room.{JOURNAL, TEXT, TURN}
 use Rattle.plan.proofs.Turns.{left_over, turn_at, turned}
@@ -261,17 +260,17 @@ module _ (bs : List ℕ) {n p : ℕ} (e : decode bs ≡ refused n p) {out out' :
   refusal_printed = ap length (sym refusal_is)
 
 -- THE BOUND of an accepted file, in one word.
-word_is : (m : Model) → bound_of (bound_word (bounded_of (accepted (bound_is m)))) ≡ bound_is m
+word_is : (m : Model) → bound_of (bound_told (accepted (bound_is m))) ≡ bound_is m
 unfolding bound_is bound_of
 word_is m = by (loops m) (leb (bound m) 4_294_967_295) refl
   where
     by : (l b : Bool) → leb (bound m) 4_294_967_295 ≡ b
-        → bound_of (bound_word (bounded_of (accepted (if l then NONE else if b then AT (bound m) else OVER))))
+        → bound_of (bound_told (accepted (if l then NONE else if b then AT (bound m) else OVER)))
         ≡ (if l then NONE else if b then AT (bound m) else OVER)
     by true b e = refl
     by false true e = let h = leb-true (bound m) 4_294_967_295 e in a_number (bound m) (omega arith)
     by false false e = refl
 
-pub bound_is_lem : (bs : List ℕ) (m : Model) → decode bs ≡ accepted m → bound_of (bound_word (bounded_of (bound_file bs))) ≡ bound_is m
+pub bound_is_lem : (bs : List ℕ) (m : Model) → decode bs ≡ accepted m → bound_of (bound_told (bound_file bs)) ≡ bound_is m
 unfolding bound_file
 bound_is_lem bs m e = rw e (word_is m)

@@ -15,8 +15,7 @@ ghost use Rattle.std.specs.Io.KnownBytes.{Appends};
 ghost use Rattle.semantics.specs.Numbers as No;
 ghost use Rattle.semantics.specs.Desk.{bound_file};
 ghost use Rattle.base_numbers.specs.Byte as Byte;
-ghost use Rattle.file_bound.specs.Answer.{bounded_of};
-ghost use Rattle.plan.specs.Given.{Accepted, bound_word};
+ghost use Rattle.plan.specs.Given.{Accepted, bound_word, bound_told};
 ghost use Rattle.plan.specs.Printed.{plan_text, Next};
 ghost use Rattle.plan.specs.Room.{TEXT, TURN};
 
@@ -51,7 +50,6 @@ fn bound_word(bounded: Bounded) -> u64
         Bounded::At(n) => n as u64,
         Bounded::None => bound::NONE,
         Bounded::Over => bound::OVER,
-        Bounded::Refused(_, _) => bound::OVER,
     }
 }
 
@@ -83,7 +81,7 @@ fn print_run<W: Write>(
     writer: &mut W,
 ) -> io::Result<()>
     requires accepted { Accepted s.now }
-    requires bound_value { bound ≡ bound_word (bounded_of (bound_file s.now)) }
+    requires bound_value { bound ≡ bound_told (bound_file s.now) }
     requires out_len { length out.old ≡ TEXT }
     requires at_value { at.old ≡ 0 }
     ensures at_after { at.new ≡ length (plan_text s.now) }
@@ -115,15 +113,18 @@ fn plan<W: Write>(s: &[u8], out: &mut [u8], writer: &mut W) -> Written
     ensures written { OnOk result.went (Appends (W.contents writer.old) (W.contents writer.new) (plan_text s.now)) }
 {
     let mut at = 0;
-    let refusal = file_check::check(s);
-    if refusal.number != 0 {
-        let bytes = plan_text::refusal(refusal.number, refusal.place, out);
-        let went = print(s, &out[..bytes], &mut at, writer);
-        return Written { bytes: at, went };
+    match file_bound::bound(s) {
+        Ok(bounded) => {
+            let bound = bound_word(bounded);
+            let went = print_run(s, bound, out, &mut at, writer);
+            Written { bytes: at, went }
+        }
+        Err(refused) => {
+            let bytes = plan_text::refusal(refused.refusal.number(), refused.place, out);
+            let went = print(s, &out[..bytes], &mut at, writer);
+            Written { bytes: at, went }
+        }
     }
-    let bound = bound_word(file_bound::bound(s));
-    let went = print_run(s, bound, out, &mut at, writer);
-    Written { bytes: at, went }
 }
 
 // Reads into `room` until that is full or the input ends, and answers how many bytes that was.

@@ -8,7 +8,7 @@
 ghost use Rattle.std.specs.Prelude.{◌≤◌, length, IfOk};
 
 use file_bound::Bounded;
-use file_check::Refusal;
+use file_check::Refused;
 use std::fs::File;
 use std::io;
 use std::io::{Read, Write};
@@ -136,27 +136,20 @@ fn expand(file: &[u8], next: usize, model: &mut [u8]) -> Place
 
 // ---- the answer's words
 
-fn agree(refusal: Refusal, bounded: Bounded) -> bool {
-    match bounded {
-        Bounded::Refused(number, place) => (number == refusal.number) & (place == refusal.place),
-        _ => (refusal.number == 0) & (refusal.place == 0),
-    }
-}
-
-fn put_bounded(bounded: Bounded, out: &mut [u8], filled: usize) -> usize
+fn put_bounded(bounded: Result<Bounded, Refused>, out: &mut [u8], filled: usize) -> usize
     requires { filled ≤ length out.old }
     ensures { result ≤ length out.new }
 {
     match bounded {
-        Bounded::Refused(number, place) => {
+        Err(refused) => {
             let end = put(b" refused ", out, filled);
-            let end = put_number(number as u64, out, end);
+            let end = put_number(refused.refusal.number() as u64, out, end);
             let end = put(b" at ", out, end);
-            put_number(place as u64, out, end)
+            put_number(refused.place as u64, out, end)
         }
-        Bounded::None => put(b" bound none", out, filled),
-        Bounded::Over => put(b" bound over", out, filled),
-        Bounded::At(n) => {
+        Ok(Bounded::None) => put(b" bound none", out, filled),
+        Ok(Bounded::Over) => put(b" bound over", out, filled),
+        Ok(Bounded::At(n)) => {
             let end = put(b" bound ", out, filled);
             put_number(n as u64, out, end)
         }
@@ -169,9 +162,9 @@ fn put_line(n: u32, model: &[u8], out: &mut [u8], filled: usize) -> usize
     ensures { result ≤ length out.new }
 {
     let end = put_number(n as u64, out, filled);
-    let refusal = file_check::check(model);
+    let checked = file_check::check(model);
     let bounded = file_bound::bound(model);
-    if agree(refusal, bounded) {
+    if checked.err() == bounded.err() {
         let end = put_bounded(bounded, out, end);
         return put(b"\n", out, end);
     }

@@ -36,7 +36,7 @@ fn bound_word(bounded: Bounded) -> u64 {
     match bounded {
         Bounded::At(n) => n as u64,
         Bounded::None => bound::NONE,
-        _ => bound::OVER,
+        Bounded::Over => bound::OVER,
     }
 }
 
@@ -124,7 +124,8 @@ fn plan<W: Write>(s: &[u8], out: &mut [u8], writer: &mut W) -> io::Result<()>
         let bytes = plan_text::refusal(opened.number, opened.place, out);
         return writer.write_all(&out[..bytes]);
     }
-    let bound = bound_word(file_bound::bound(s));
+    // One that was opened is not refused.
+    let bound = file_bound::bound(s).map_or(bound::OVER, bound_word);
     let run = opened.state;
     print_run(s, run, bound, out, writer)
 }
