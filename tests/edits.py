@@ -142,9 +142,10 @@ class Source:
 
     def proved_in(self, file):
         """The functions whose proof a file is part of."""
-        found = re.fullmatch(r'proofs/\+?([\w/]+)/\w+\.antt', file)
+        found = re.fullmatch(r'proofs/([\w/+]+)/\w+\.antt', file)
         name = found[1].replace('/', '::') if found else ''
-        return self.cycles.get(name, {name}) if found else set()
+        cycle = name.rpartition('+')[2]
+        return self.cycles.get(cycle, {name.replace('+', '')}) if name else set()
 
     def come_to(self, name):
         met, rest = set(), {name}

@@ -10,26 +10,17 @@ use native.Mathlib.Omega.{arith}
 use borrow.Author.Tests.{eq-eqb, ne_eqb}
 use Rattle.semantics.specs.Model.{Model}
 use Rattle.semantics.specs.Decode.{Checked, refused, accepted, if_accepted, decode}
-use Rattle.semantics.specs.Words.{passed}
 use Rattle.semantics.specs.Numbers as No
-use Rattle.semantics.specs.Bound as definition
-use Rattle.semantics.specs.Bound.{NONE, OVER, AT, bound_is}
-use Rattle.semantics.specs.Run.{Answer, CLOSED, IDLE, LIMIT, FAULT}
+use Rattle.semantics.specs.Run.{FAULT}
 use Rattle.semantics.specs.Journal.{written}
-use Rattle.semantics.specs.Desk.{Told, check_file, bound_file, run_file}
+use Rattle.semantics.specs.Desk.{check_file, bound_file, run_file}
 use Rattle.promises.specs.Laws.{AllOf}
 use Rattle.base_numbers.specs.Row as Row
-use Rattle.base_numbers.specs.Bound as Bound
-use Rattle.file_check.specs.Check.{refusal_of}
-use Rattle.file_check.specs.declared.Refusal.{Refusal}
+use Rattle.file_check.proofs.Answer.{refuses}
 use Rattle.file_check.proofs.Pass.{Number}
 use Rattle.file_check.proofs.Stated.{Stated, decode_stated}
-use Rattle.file_bound.specs.declared.Bounded.{Bounded}
-use Rattle.file_bound.specs.Answer.{bounded_of}
 use Rattle.run_limit.specs.declared.Ran.{Ran}
 use Rattle.run_limit.specs.Ran.{answer_of}
-use Rattle.run_file.specs.declared.Whole.{Whole}
-use Rattle.run_file.specs.Whole.{told_as, whole_of}
 use Rattle.row_work.specs.Sized.{IsByte}
 use Rattle.row_struct.specs.declared.State.{State}
 use Rattle.row_struct.specs.State.{row_of}
@@ -42,7 +33,7 @@ use Rattle.run_by_value.specs.declared.Moved.{Moved}
 use Rattle.run_by_value.specs.Moved.{ran_of, TellsMoved}
 use Rattle.run_lent.specs.declared.Opened.{Opened}
 use Rattle.run_lent.specs.Opened.{TellsOpened}
-use Rattle.desk_c.specs.Word.{refusal, REFUSED, check_word, bound_word, told_word, run_word, open_word, move_word}
+use Rattle.desk_c.specs.Word.{refusal, told_word, open_word, move_word}
 
 -- The number and the place of a refusal fit into its word, and so does 20.
 abbrev pub Fit : ℕ → ℕ → Type 0
@@ -51,98 +42,44 @@ Fit n p = (n ≤ No.STATE) × (p ≤ No.longest_file)
 stated_fit : (n p : ℕ) → Number n × (p ≤ No.longest_file) → Fit n p
 stated_fit n p h = (omega (arith, h.0.1), h.1)
 
--- CHECK, r.
-module _ (bs : List ℕ) (r : Refusal) (e : r ≡ refusal_of (decode bs)) where
-  pub check_small : Fit r.number r.place
-  check_small = go (decode bs) (decode_stated bs) e
-    where
-      go : (p : Checked Model) → Stated No.longest_file p → r ≡ refusal_of p → Fit r.number r.place
-      go (refused n p) q e = rw e (stated_fit n p q)
-      go (accepted m) q e = rw e (omega arith, omega arith)
+-- What is refused was refused by the check, whatever is told of an accepted model.
+abbrev refused_in : {A : Type 0} → Checked A → Checked Model → Checked Model
+refused_in (refused n p) q = refused n p
+refused_in (accepted a) q = q
 
-  pub check_says : refusal r.number r.place ≡ check_word (check_file bs)
-  unfolding check_file
-  check_says = go (decode bs) e
-    where
-      go : (p : Checked Model) → r ≡ refusal_of p → refusal r.number r.place ≡ check_word (if_accepted p λ m. accepted passed)
-      go (refused n p) e = rw e
-      go (accepted m) e = rw e
+abbrev accepts_in : {A : Type 0} → Checked A → ℕ
+accepts_in (refused n p) = 0
+accepts_in (accepted a) = 1
 
--- A REFUSAL is as decode states it, whatever is told of an accepted model.
-told_stated : {A : Type 0} (p : Checked Model) (f : Model → A) → Stated No.longest_file p
-    → Stated No.longest_file (if_accepted p λ m. accepted (f m))
-told_stated (refused n p) f h = h
-told_stated (accepted m) f h = tt
+refused_by : {A : Type 0} (f : Model → A) {n p : ℕ} (d : Checked Model)
+    → refused n p ≡ (if_accepted d λ m. accepted (f m)) → d ≡ refused n p
+refused_by f (refused a b) e = sym (ap (λ x. refused_in x (refused 0 0)) e)
+refused_by f (accepted m) e = let z : ◌≡◌ {A = ℕ} 0 1 = ap accepts_in e in absurd (omega arith)
 
--- BOUND, b.
-abbrev pub word : Bounded → ℕ
-word (Bounded.At n) = n
-word Bounded.None = Bound.NONE
-word Bounded.Over = Bound.OVER
-word (Bounded.Refused n p) = REFUSED + refusal n p
+-- A REFUSAL is as decode states it.
+module _ (bs : List ℕ) (n p : ℕ) where
+  fit_by : decode bs ≡ refused n p → Fit n p
+  fit_by d = stated_fit n p (subst (Stated No.longest_file) d (decode_stated bs))
 
-abbrev pub Small : Bounded → Type 0
-Small (Bounded.At n) = Unit {0}
-Small Bounded.None = Unit {0}
-Small Bounded.Over = Unit {0}
-Small (Bounded.Refused n p) = Fit n p
+  pub check_small : refused n p ≡ check_file bs → Fit n p
+  check_small e = fit_by (refuses bs n p e)
 
-answer_word : (p : Checked definition.Bounded) → word (bounded_of p) ≡ bound_word p
-answer_word (refused n p) = refl
-answer_word (accepted NONE) = refl
-answer_word (accepted OVER) = refl
-answer_word (accepted (AT n)) = refl
-
-answer_small : (p : Checked definition.Bounded) → Stated No.longest_file p → Small (bounded_of p)
-answer_small (refused n p) h = stated_fit n p h
-answer_small (accepted NONE) h = tt
-answer_small (accepted OVER) h = tt
-answer_small (accepted (AT n)) h = tt
-
-module _ (bs : List ℕ) (b : Bounded) (e : b ≡ bounded_of (bound_file bs)) where
-  pub bound_says : word b ≡ bound_word (bound_file bs)
-  bound_says = ap word e ∙ answer_word (bound_file bs)
-
-  pub bound_small : Small b
+  pub bound_small : refused n p ≡ bound_file bs → Fit n p
   unfolding bound_file
-  bound_small = rw e (answer_small (bound_file bs) (told_stated (decode bs) bound_is (decode_stated bs)))
+  bound_small e = fit_by (refused_by _ (decode bs) e)
 
--- RUN, w.
-abbrev pub ran_word : Whole → ℕ
-ran_word (Whole.Ran a steps) = told_word (answer_of a) steps
-ran_word (Whole.Refused n p) = REFUSED + refusal n p
-
-abbrev pub RanSmall : Whole → Type 0
-RanSmall (Whole.Ran a steps) = Unit {0}
-RanSmall (Whole.Refused n p) = Fit n p
-
--- An answer comes back from the code's enum as it was.
-told_same : (a : Answer) → answer_of (told_as a) ≡ a
-told_same CLOSED = refl
-told_same IDLE = refl
-told_same LIMIT = refl
-told_same (FAULT k) = refl
-
-whole_word : (p : Checked Told) → ran_word (whole_of p) ≡ run_word p
-whole_word (refused n p) = refl
-whole_word (accepted t) = ap (λ a. told_word a t.steps) (told_same t.answer)
-
-whole_small : (p : Checked Told) → Stated No.longest_file p → RanSmall (whole_of p)
-whole_small (refused n p) h = stated_fit n p h
-whole_small (accepted t) h = tt
-
-module _ (bs : List ℕ) (limit : ℕ) (j : List ℕ) (w : Whole) (e : w ≡ whole_of (run_file bs limit j)) where
-  pub run_says : ran_word w ≡ run_word (run_file bs limit j)
-  run_says = ap ran_word e ∙ whole_word (run_file bs limit j)
-
-  pub run_small : RanSmall w
+  pub run_small : (limit : ℕ) (j : List ℕ) → refused n p ≡ run_file bs limit j → Fit n p
   unfolding run_file
-  run_small = rw e (whole_small (run_file bs limit j) (told_stated (decode bs) _ (decode_stated bs)))
+  run_small limit j e = fit_by (refused_by _ (decode bs) e)
 
 -- OPENING: r is what is told of the file, and w the row lent.
 module _ (bs : List ℕ) (r : Opened) (t : TellsOpened (decode bs) r) where
   pub open_small : Fit r.number r.place
-  open_small = rw (t.number_is, t.place_is) (check_small bs (refusal_of (decode bs)) refl)
+  open_small = go (decode bs) (decode_stated bs) t
+    where
+      go : (d : Checked Model) → Stated No.longest_file d → TellsOpened d r → Fit r.number r.place
+      go (refused n p) h u = rw (u.number_is, u.place_is) (stated_fit n p h)
+      go (accepted m) h u = rw (u.number_is, u.place_is) (omega arith, omega arith)
 
   module _ (w : List ℕ) where
     abbrev Opens : ℕ → List ℕ → Type 0

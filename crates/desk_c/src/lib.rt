@@ -6,6 +6,7 @@ ghost use Rattle.semantics.specs.Numbers as No;
 ghost use Rattle.semantics.specs.Desk.{check_file, bound_file, run_file};
 ghost use Rattle.text_semantics.specs.Answer.{answer as answer_to};
 ghost use Rattle.text_reader.specs.Answer.{answered_of, left};
+ghost use Rattle.file_check_record.specs.Refused.{number_of};
 ghost use Rattle.run_limit.specs.Ran.{answer_of};
 ghost use Rattle.semantics.specs.Journal.{written};
 ghost use Rattle.run_file.specs.Whole.{journal_after};
@@ -16,7 +17,7 @@ ghost use Rattle.desk_c.specs.Word.{open_word, move_word};
 
 use base_numbers::{fault, row};
 use file_bound::Bounded;
-use run_file::Whole;
+use file_check::Refused;
 use run_limit::Answer;
 
 // A place is below this: it has the low 16 bits of a refusal.
@@ -39,12 +40,23 @@ fn refusal(number: u32, place: usize) -> u32
     number * PLACES + (place as u32)
 }
 
+// That of a file.
+fn refused(r: Refused) -> u32
+    requires number_bound { number_of r.refusal ≤ No.STATE }
+    requires place_bound { r.place ≤ No.longest_file }
+    ensures { result ≡ refusal_word (number_of r.refusal) r.place }
+{
+    refusal(r.refusal.number(), r.place)
+}
+
 #[unsafe(no_mangle)]
 pub extern "C" fn desk_check(file: &[u8]) -> u32
     ensures { result ≡ check_word (check_file file.now) }
 {
-    let r = file_check::check(file);
-    refusal(r.number, r.place)
+    match file_check::check(file) {
+        Ok(()) => 0,
+        Err(r) => refused(r),
+    }
 }
 
 #[unsafe(no_mangle)]
@@ -64,10 +76,10 @@ pub extern "C" fn desk_bound(file: &[u8]) -> u64
     ensures { result ≡ bound_word (bound_file file.now) }
 {
     match file_bound::bound(file) {
-        Bounded::At(n) => n as u64,
-        Bounded::None => NONE,
-        Bounded::Over => OVER,
-        Bounded::Refused(number, place) => REFUSED + (refusal(number, place) as u64),
+        Ok(Bounded::At(n)) => n as u64,
+        Ok(Bounded::None) => NONE,
+        Ok(Bounded::Over) => OVER,
+        Err(r) => REFUSED + (refused(r) as u64),
     }
 }
 
@@ -85,8 +97,11 @@ pub extern "C" fn desk_run<'a>(file: &'a [u8], limit: u32, journal: &'a mut [u8]
         ≡ journal_after (run_file file.now limit journal.old) journal.old }
 {
     match run_file::run_whole(file, limit, journal) {
-        Whole::Ran(answer, steps) => told(answer, steps),
-        Whole::Refused(number, place) => REFUSED + (refusal(number, place) as u64),
+        Ok(whole) => {
+            let answer = whole.answer;
+            told(answer, whole.steps)
+        }
+        Err(r) => REFUSED + (refused(r) as u64),
     }
 }
 

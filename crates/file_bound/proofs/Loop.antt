@@ -7,7 +7,7 @@ use mathlib.Core.Bool.{Bool, true, false}
 use native.Mathlib.Omega.{arith}
 use borrow.Author.Tests.{eq-eqb, eqb-true}
 use lib.Dec.{eqb}
-use lib.ListN.{length, get_or, replicate}
+use lib.ListN.{length, get_or}
 use Rattle.semantics.specs.Model.{body}
 use Rattle.semantics.specs.Bytes.{Raw, u16, records_from}
 use Rattle.semantics.specs.Decode.{gather}
@@ -21,38 +21,34 @@ use Rattle.file_reader.specs.Walk.{onward, onward_ends, Step}
 use Rattle.file_reader.specs.declared.Record.{Record}
 use Rattle.file_index.specs.Index.{Judged}
 use Rattle.file_index.proofs.Records.{Fine, fine_first, step_there, judged_there, fine_there}
-use Rattle.file_depth.specs.Deep.{Known}
-use Rattle.file_depth.proofs.Laws.{known_none}
 use Rattle.file_weight.specs.Weigh.{Acts, acts_in, cap, told}
 use Rattle.file_bound.specs.Endable.{Endable, Bodied}
 use Rattle.file_bound.proofs.Arrays.{Arrays, model_of, readable, fit}
 use Rattle.file_bound.proofs.Entities.{entity_if, entity_in, entities_of, entity_head, due, due_all, due_none, due_more}
 
 -- At byte place `at` of the file s, w and what the ENTITY records to come weigh are the bound, under the cap; these name classes
--- that there are; and the memo is right.
-pub record Going (s bodies first from goes own times : List ℕ) (n : ℕ) (memo : List ℕ) (w at : ℕ) : Type 0 where
+-- that there are.
+pub record Going (s bodies first from goes own times : List ℕ) (n w at : ℕ) : Type 0 where
   pub on : Fine (onward s at)
   pub made_for : Arrays (model_of s) bodies first from goes own times n
-  pub known : Known (told (acts_in first from goes own times) n) n memo
   pub named : AllOf (EntityFit (model_of s)) (gather (onward s at)).model.entities
   pub small : w ≤ Limit.OVER
   pub found : cap (w + due (model_of s) (onward s at)) ≡ cap (bound (model_of s))
 
 pub going_begun : (s : List ℕ) → Endable s → {bodies first from goes own times : List ℕ} {n : ℕ} →
     Arrays (model_of s) bodies first from goes own times n →
-    Going s bodies first from goes own times n (replicate Limit.BLOCKS 0) 0 0
+    Going s bodies first from goes own times n 0 0
 going_begun s e {bodies} {first} {from} {goes} {own} {times} {n} a =
     record {
       on = fine_first s (readable s e);
       made_for = a;
-      known = known_none (told (acts_in first from goes own times) n) n a.graph.laid.few;
       named = (fit s e).entities_fit;
       small = omega arith;
       found = rw (due_all (records_from 0 s)) (omega arith);
     }
 
-module _ {s bodies first from goes own times : List ℕ} {n : ℕ} {memo : List ℕ} {w at : ℕ}
-    (t : Going s bodies first from goes own times n memo w at) where
+module _ {s bodies first from goes own times : List ℕ} {n : ℕ} {w at : ℕ}
+    (t : Going s bodies first from goes own times n w at) where
   abbrev acting : Acts
   acting = acts_in first from goes own times
 
@@ -131,13 +127,11 @@ module _ {s bodies first from goes own times : List ℕ} {n : ℕ} {memo : List 
       turned true q g d = omega (arith, told_here (eqb-true k 7 q), class_is, t.found)
       turned false q g d = omega (arith, t.found)
 
-      pub going_on : {after : List ℕ} → Known (told acting n) n after →
-          Going s bodies first from goes own times n after (cap (w + v)) e
-      going_on q =
+      pub going_on : Going s bodies first from goes own times n (cap (w + v)) e
+      going_on =
           record {
             on = fine_there s at h t.on r i;
             made_for = t.made_for;
-            known = q;
             named = named_here.1;
             small = omega arith;
             found = turned (eqb k 7) refl f due_here;

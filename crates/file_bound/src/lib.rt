@@ -7,17 +7,19 @@ ghost use Rattle.semantics.specs.Decode.{gather};
 ghost use Rattle.semantics.specs.Bound.{bound as bound_of};
 ghost use Rattle.semantics.specs.Desk.{bound_file};
 ghost use Rattle.base_numbers.specs.Limit as Limit;
-ghost use Rattle.file_depth.specs.Deep.{Graph, Known};
-ghost use Rattle.file_weight.specs.Weigh.{acts_in, cap, told, weighed};
+ghost use Rattle.file_weight.specs.Weigh.{cap, told, weighed};
+ghost use Rattle.file_weight.specs.Named.{acts};
 ghost use Rattle.file_bound.specs.Endable.{Endable, Bodied};
 ghost use Rattle.file_bound.specs.Answer.{bounded_of};
 
 use base_numbers::{kind, limit};
+use file_check::Refused;
+use file_depth::Blocks;
+use file_weight::{Actions, Weights};
 
-// The number and the place of a refusal, NONE, OVER, or the number.
-#[derive(Clone, Copy)]
+/// The bound of a model: NONE, OVER, or the number.
+#[derive(Clone, Copy, PartialEq, Eq)]
 pub enum Bounded {
-    Refused(u32, usize),
     None,
     Over,
     At(u32),
@@ -32,47 +34,18 @@ fn body_of(body: [u16; limit::CLASSES], class: u32) -> usize
     body[c] as usize
 }
 
-// w and v, up to the least number that is OVER.
-fn added(w: u64, v: u64) -> u64
-    requires w_bound { w ≤ Limit.OVER }
-    requires v_bound { v ≤ Limit.OVER + 1 }
-    ensures { result ≡ cap (w + v) }
-{
-    let x = w + v;
-    if x < limit::OVER { x } else { limit::OVER }
-}
-
-// The weight of an ENTITY record's class; 0 of every other record. The memo has what is found already, and gets what is found
-// here; `plain` is `from` without the STARTs.
-fn entity_weight<'a>(
-    kind: u32,
-    bs: &'a [u8],
-    body: [u16; limit::CLASSES],
-    first: &'a [u16; limit::BLOCKS + 1],
-    from: &'a [u16; limit::ACTIONS + 1],
-    goes: &'a [u16; limit::BRANCHES],
-    own: &'a [u16; limit::ACTIONS],
-    times: &'a [u16; limit::ACTIONS],
-    plain: &'a [u16; limit::ACTIONS + 1],
-    blocks: usize,
-    memo: &mut [u64; limit::BLOCKS],
-) -> u64
-    requires graph { Graph first.now from.now goes.now blocks }
-    requires bodied { kind ≡ 7 → Bodied bs.now body blocks }
-    requires known { Known (told (acts_in first.now from.now goes.now own.now times.now) blocks) blocks memo.old }
-    ensures known_2 { Known (told
-        (acts_in first.now from.now goes.now own.now times.now)
-        blocks) blocks memo.new }
-    ensures memo_after { memo.new ≡ (if eqb kind 7 then weighed
-        (acts_in first.now from.now goes.now own.now times.now)
-        blocks (get_or body (u16 bs.now 0) 0) memo.old else memo.old) }
-    ensures value { result ≡ (if eqb kind 7 then told
-        (acts_in first.now from.now goes.now own.now times.now)
-        blocks (get_or body (u16 bs.now 0) 0) else 0) }
+// The weight of an ENTITY record's class; 0 of every other record.
+fn entity_weight(kind: u32, bs: &[u8], body: [u16; limit::CLASSES], weights: &mut Weights) -> u64
+    requires { kind ≡ 7 → Bodied bs.now body weights.old.actions.blocks.count }
+    ensures actions { weights.new.actions ≡ weights.old.actions }
+    ensures memo { weights.new.memo ≡ (if eqb kind 7 then weighed (acts weights.old.actions) weights.old.actions.blocks.count
+        (get_or body (u16 bs.now 0) 0) weights.old.memo else weights.old.memo) }
+    ensures value { result ≡ (if eqb kind 7 then told (acts weights.old.actions) weights.old.actions.blocks.count
+        (get_or body (u16 bs.now 0) 0) else 0) }
 {
     if kind == kind::ENTITY {
         let b = body_of(body, file_fields::u16_at(bs, 0));
-        return file_weight::class_weight(first, from, goes, own, times, plain, blocks, memo, b);
+        return weights.class(b);
     }
     0
 }
@@ -92,47 +65,44 @@ fn total(s: &[u8]) -> u64
     let times = g.times;
     let p = file_index::graph_of(s, false, body);
     let plain = p.from;
-    let blocks = i.blocks;
-    let mut memo = [0u64; limit::BLOCKS];
+    let blocks = Blocks {
+        first: &first,
+        from: &from,
+        goes: &goes,
+        count: i.blocks,
+    };
+    let actions = Actions {
+        blocks,
+        own: &own,
+        times: &times,
+        plain: &plain,
+    };
+    let mut weights = Weights::new(actions);
     let mut w: u64 = 0;
     let mut at = file_reader::first(s);
     while at < s.len() {
         let x = file_reader::read(s, at);
         let end = file_reader::next(s, at);
-        let v = entity_weight(
-            x.kind,
-            &s[at + 4..end],
-            body,
-            &first,
-            &from,
-            &goes,
-            &own,
-            &times,
-            &plain,
-            blocks,
-            &mut memo,
-        );
-        w = added(w, v);
+        let v = entity_weight(x.kind, &s[at + 4..end], body, &mut weights);
+        w = (w + v).min(limit::OVER);
         at = end;
     }
     w
 }
 
-pub fn bound(s: &[u8]) -> Bounded
-    ensures { result ≡ bounded_of (bound_file s.now) }
+/// The bound of an accepted file; else its refusal.
+pub fn bound(s: &[u8]) -> Result<Bounded, Refused>
+    ensures { bounded_of result ≡ bound_file s.now }
 {
-    let refusal = file_check::check(s);
-    if refusal.number != 0 {
-        return Bounded::Refused(refusal.number, refusal.place);
-    }
+    file_check::check(s)?;
     let x = file_index::index_of(s);
     let body = x.body;
     if file_index::loops(s, body) {
-        return Bounded::None;
+        return Ok(Bounded::None);
     }
     let w = total(s);
     if w < limit::OVER {
-        return Bounded::At(w as u32);
+        return Ok(Bounded::At(w as u32));
     }
-    Bounded::Over
+    Ok(Bounded::Over)
 }

@@ -6,7 +6,7 @@ use mathlib.Core.Bool.{Bool, true, false, ◌&&◌}
 use Prim.Native.Nat.{ℕ, ◌≤◌, ◌<◌}
 use borrow.Author.Tests.{ltb-true, eqb-true}
 use lib.Dec.{eqb, ltb}
-use lib.ListN.{length, get_or, replicate}
+use lib.ListN.{length, get_or}
 use Rattle.semantics.specs.Words.{passed, collect}
 use Rattle.semantics.specs.Numbers as No
 use Rattle.semantics.specs.Model.{Action, Model, block}
@@ -29,8 +29,6 @@ use Rattle.file_index.proofs.Standing.{Accepted}
 use Rattle.file_index.proofs.Ties.{goes_inner, index_ties, graph_ties}
 use Rattle.file_depth.specs.Deep.{Graph, names_in, depth_of}
 use Rattle.file_depth.proofs.Model.{depth_is, all_collect}
-use Rattle.file_depth.specs.Deep.{Known}
-use Rattle.file_depth.proofs.Laws.{known_none}
 use Rattle.file_reader.specs.Reads.{record_at}
 use Rattle.file_reader.specs.Records.{body_at}
 use Rattle.file_reader.specs.Walk.{onward, onward_ends, Step}
@@ -124,28 +122,30 @@ module _ (s : List ℕ) where
   abbrev whole_file : List Raw
   whole_file = records_from 0 s
 
-  pub record Turn (first from goes : List ℕ) (blocks : ℕ) (memo : List ℕ) (at : ℕ) : Type 0 where
+  pub record Turn (first from goes : List ℕ) (blocks : ℕ) (at : ℕ) : Type 0 where
     pub on : Fine (onward s at)
-    pub graph : Graph first from goes blocks
     pub right : (b : ℕ) → b < blocks → depth_of (names_in first from goes) blocks b ≡ depth (gather whole_file).model b
     pub classes : Classes blocks (onward s at)
-    pub known : Known (depth_of (names_in first from goes) blocks) blocks memo
     pub goes_on : third_pass (gather whole_file).model (onward s at) ≡ third_pass (gather whole_file).model whole_file
 
   pub begun : Named s → (i : I.Index) → i ≡ index_of whole_file → (g : G.Graph) → g ≡ graph_of false i.body whole_file
-      → Turn i.first g.from g.goes i.blocks (replicate Limit.BLOCKS 0) 0
+      → Turn i.first g.from g.goes i.blocks 0
   begun n i e g f =
       let q : g ≡ graph_of false (index_of whole_file).body whole_file = f ∙ rw e in
       rw (q, e) (record {
         on = fine_first s (readable s n);
-        graph = graph_right s n;
         right = λ b h. depths s n b (rw (blocks_are s n) at h);
         classes = rw (blocks_are s n) (classes_all s n);
-        known = known_none _ _ (graph_right s n).laid.few;
         goes_on = refl;
       })
 
-  module _ {first from goes : List ℕ} {blocks : ℕ} {memo : List ℕ} {at : ℕ} (w : Turn first from goes blocks memo at)
+  -- The graph that is found.
+  pub wired : Named s → {i : I.Index} → i ≡ index_of whole_file → {g : G.Graph} → g ≡ graph_of false i.body whole_file
+      → Graph i.first g.from g.goes i.blocks
+  wired n e f =
+      let q = f ∙ ap (λ (i : I.Index). graph_of false i.body whole_file) e in rw (q, e) (graph_right s n)
+
+  module _ {first from goes : List ℕ} {blocks : ℕ} {at : ℕ} (w : Turn first from goes blocks at)
       (h : at < length s) {x : Record} (f : x ≡ record_at s at) {n : ℕ} (i : n ≡ (record_at s at).next) where
     abbrev k : ℕ
     k = x.kind
@@ -180,19 +180,16 @@ module _ (s : List ℕ) where
       pub third_refused : t ≡ true → third_pass (gather whole_file).model whole_file ≡ refused No.DEEP at
       third_refused g = third_step true g
 
-      pub turned : t ≡ false → {after : List ℕ} → Known (depth_of (names_in first from goes) blocks) blocks after
-          → Turn first from goes blocks after n
-      turned g q =
+      pub turned : t ≡ false → Turn first from goes blocks n
+      turned g =
           record {
             on = fine_there s at h w.on f i;
-            graph = w.graph;
             right = w.right;
             classes = classes_here.1;
-            known = q;
             goes_on = sym (third_step false g);
           }
 
-  pub third_ends : {first from goes : List ℕ} {blocks : ℕ} {memo : List ℕ} {at : ℕ} → Turn first from goes blocks memo at
+  pub third_ends : {first from goes : List ℕ} {blocks : ℕ} {at : ℕ} → Turn first from goes blocks at
       → length s ≤ at → third_pass (gather whole_file).model whole_file ≡ accepted passed
   unfolding third_pass
   third_ends {at = at} w h = sym w.goes_on ∙ rw (onward_ends s at h)

@@ -9,7 +9,7 @@ use borrow.Author.Tests.{eqb-true, leb-true, le-leb, lt-leb}
 use lib.Dec.{leb, ltb, eqb}
 use lib.ListN.{length, get_or, take, drop}
 use lib.Signed.{le_z}
-use Rattle.semantics.specs.Words.{need, ◌>>◌, all, within}
+use Rattle.semantics.specs.Words.{Outcome, ok, fails, Passed, passed, need, ◌>>◌, all, within}
 use Rattle.semantics.specs.Numbers as No
 use Rattle.semantics.specs.Kinds as K
 use Rattle.semantics.specs.Bytes.{u16, u32, i32}
@@ -24,7 +24,7 @@ use Rattle.base_i32.specs.Laws.{code_order, code_above, signed_fits}
 use Rattle.file_check_parts.proofs.Laws.{rest_of}
 use Rattle.file_check_tails.specs.Tails.{tail_of}
 use Rattle.file_check_tails.proofs.Branches.{and_left, and_right}
-use Rattle.file_check_record.specs.Rows.{number_of, SAMPLER_BYTES, field_size, field_at, field_low, field_high, number_at}
+use Rattle.file_check_record.specs.Rows.{SAMPLER_BYTES, field_size, field_at, field_low, field_high, number_at}
 use Rattle.file_check_record.specs.Rows.{naming_of, naming_at, tail_number}
 use Rattle.file_check_record.proofs.Table.{holds, tail_back}
 
@@ -63,17 +63,17 @@ module _ (bs : List ℕ) {x y n : ℕ} (d : x ≡ code (i32 bs 0)) (e : y ≡ co
       rw (in_order, le-leb x y h, a, d, e, f)
 
 -- THE NUMBERS of checks 5 to 7, 2 to 4, and 8 and 9.
-abbrev third_of : ℕ → ℕ → ℕ → Bool → Bool → Bool → ℕ
-third_of i j k a b c = if a then (if b then (if c then 0 else k) else j) else i
+abbrev third_of : ℕ → ℕ → ℕ → Bool → Bool → Bool → Outcome Passed
+third_of i j k a b c = if a then (if b then (if c then ok passed else fails k) else fails j) else fails i
 
-three : (i j k : ℕ) (a b c : Bool) → number_of (need i a >> (need j b >> need k c)) ≡ third_of i j k a b c
+three : (i j k : ℕ) (a b c : Bool) → need i a >> (need j b >> need k c) ≡ third_of i j k a b c
 unfolding need ◌>>◌
 three i j k true true true = refl
 three i j k true true false = refl
 three i j k true false c = refl
 three i j k false b c = refl
 
-pub body_is : (r : Row) (bs : List ℕ) → number_of (body_judged r bs) ≡ third_of 5 6 7 (leb r.head (length bs) && sized
+pub body_is : (r : Row) (bs : List ℕ) → body_judged r bs ≡ third_of 5 6 7 (leb r.head (length bs) && sized
     r.tail (drop r.head bs)) (in_set r.field bs && valid r.tail (drop r.head bs)) (not (twice r.tail
     (drop r.head bs)))
 unfolding body_judged
@@ -82,16 +82,16 @@ body_is r bs =
     (in_set r.field bs && valid r.tail (drop r.head bs)) (not (twice r.tail (drop r.head bs)))
 
 module _ (seen : List ℕ) (k : ℕ) (bs : List ℕ) where
-  pub judged_2 : (row_of k).group ≡ 0 → 2 ≡ number_of (judged seen k bs)
+  pub judged_2 : (row_of k).group ≡ 0 → fails 2 ≡ judged seen k bs
   unfolding judged need ◌>>◌
   judged_2 e = rw e
 
-  pub judged_3 : 0 < (row_of k).group → placed (row_of k).group (get_or seen 6 0) ≡ false → 3 ≡ number_of (judged seen k bs)
+  pub judged_3 : 0 < (row_of k).group → placed (row_of k).group (get_or seen 6 0) ≡ false → fails 3 ≡ judged seen k bs
   unfolding judged need ◌>>◌
   judged_3 h e = rw (le-leb 1 (row_of k).group h, e)
 
   pub judged_4 : 0 < (row_of k).group → placed (row_of k).group (get_or seen 6 0) ≡ true → (row_of k).most ≤ get_or seen
-      (row_of k).group 0 → 4 ≡ number_of (judged seen k bs)
+      (row_of k).group 0 → fails 4 ≡ judged seen k bs
   unfolding judged need ◌>>◌
   judged_4 h e i = rw (
     le-leb 1 (row_of k).group h,
@@ -101,19 +101,19 @@ module _ (seen : List ℕ) (k : ℕ) (bs : List ℕ) where
   )
 
   pub judged_on : 0 < (row_of k).group → placed (row_of k).group (get_or seen 6 0) ≡ true → get_or seen
-      (row_of k).group 0 < (row_of k).most → number_of (body_judged (row_of k) bs) ≡ number_of (judged seen k bs)
+      (row_of k).group 0 < (row_of k).most → body_judged (row_of k) bs ≡ judged seen k bs
   unfolding judged need ◌>>◌
   judged_on h e i = rw (le-leb 1 (row_of k).group h, e, le-leb (suc (get_or seen (row_of k).group 0)) (row_of k).most i)
 
-pub named_is : (n : List ℕ) (own k : ℕ) (bs : List ℕ) → number_of (named n own k bs) ≡ (if field_known n
+pub named_is : (n : List ℕ) (own k : ℕ) (bs : List ℕ) → named n own k bs ≡ (if field_known n
     (row_of k).naming bs && tail_known n (row_of k).tail (drop (row_of k).head bs) then (if all (leb own) (inner_of
-    ((row_of k).says bs)) then 0 else 9) else 8)
+    ((row_of k).says bs)) then ok passed else fails 9) else fails 8)
 unfolding named need ◌>>◌
 named_is n own k bs =
     two (field_known n (row_of k).naming bs && tail_known n (row_of k).tail (drop (row_of k).head bs))
     (all (leb own) (inner_of ((row_of k).says bs)))
   where
-    two : (a b : Bool) → number_of (need 8 a >> need 9 b) ≡ (if a then (if b then 0 else 9) else 8)
+    two : (a b : Bool) → need 8 a >> need 9 b ≡ (if a then (if b then ok passed else fails 9) else fails 8)
     two true true = refl
     two true false = refl
     two false b = refl

@@ -7,10 +7,46 @@ ghost use Rattle.semantics.specs.Kinds as K;
 ghost use Rattle.semantics.specs.Record.{sampler_of, sampler_valid, in_set, body_judged, row_of};
 ghost use Rattle.semantics.specs.Decode.{placed, judged, field_known, inner_of, named};
 ghost use Rattle.base_numbers.specs.Column as Column;
-ghost use Rattle.file_check_record.specs.Rows.{number_of, SAMPLER_BYTES, column_of, number_at, Judged};
+ghost use Rattle.file_check_record.specs.Rows.{SAMPLER_BYTES, column_of, number_at, Judged};
+ghost use Rattle.file_check_record.specs.Refused.{number_of as refusal_number, outcome_of};
 
 use base_numbers::{column, group, kind, limit, refusal};
 use file_check_tails::Tail;
+
+/// Why a model file is refused, in the order of the checks.
+#[derive(Clone, Copy, PartialEq, Eq)]
+pub enum Refusal {
+    Short,
+    Kind,
+    Place,
+    Many,
+    Size,
+    Value,
+    Twice,
+    Name,
+    Order,
+    Deep,
+}
+
+impl Refusal {
+    /// Document 01's number of it, 1 to 10.
+    pub fn number(self) -> u32
+        ensures { result ≡ refusal_number self }
+    {
+        match self {
+            Refusal::Short => refusal::SHORT,
+            Refusal::Kind => refusal::KIND,
+            Refusal::Place => refusal::PLACE,
+            Refusal::Many => refusal::MANY,
+            Refusal::Size => refusal::SIZE,
+            Refusal::Value => refusal::VALUE,
+            Refusal::Twice => refusal::TWICE,
+            Refusal::Name => refusal::NAME,
+            Refusal::Order => refusal::ORDER,
+            Refusal::Deep => refusal::DEEP,
+        }
+    }
+}
 
 // A row for each kind from 0 to 30, in the columns of base_numbers::column: GROUP (0: no kind), MOST, HEAD, FIELD_SIZE (0:
 // none, 12: a sampler's three together), FIELD_AT, LOWEST, HIGHEST, TAIL, NAMING (0: nothing, 17: a local), NAMING_AT.
@@ -107,25 +143,25 @@ fn in_set(kind: u32, bs: &[u8]) -> bool
     (low <= v) & (v <= high)
 }
 
-fn body_number(kind: u32, bs: &[u8]) -> u32
-    ensures { result ≡ number_of (body_judged (row_of kind) bs.now) }
+fn judge_body(kind: u32, bs: &[u8]) -> Result<(), Refusal>
+    ensures { outcome_of result ≡ body_judged (row_of kind) bs.now }
 {
     let head = entry(kind, column::HEAD) as usize;
     if bs.len() < head {
-        return refusal::SIZE;
+        return Err(Refusal::Size);
     }
     let tail = Tail::of(entry(kind, column::TAIL));
     let rest = &bs[head..];
     if !file_check_tails::tail_sized(tail, rest) {
-        return refusal::SIZE;
+        return Err(Refusal::Size);
     }
     if !(in_set(kind, bs) & file_check_tails::tail_valid(tail, rest)) {
-        return refusal::VALUE;
+        return Err(Refusal::Value);
     }
     if file_check_tails::tail_twice(tail, rest) {
-        return refusal::TWICE;
+        return Err(Refusal::Twice);
     }
-    0
+    Ok(())
 }
 
 // ---- checks 2, 3 and 4, and then the body
@@ -142,25 +178,25 @@ fn in_place(group: u32, blocks: u32) -> bool
     blocks == 0
 }
 
-// The number, 2 to 7, or 0; `seen` has how many records of each group stand before.
-pub fn judge(seen: [u32; group::MANY], kind: u32, bs: &[u8]) -> u32
-    ensures { result ≡ number_of (judged seen kind bs.now) }
+// Checks 2 to 7: Kind to Twice; `seen` has how many records of each group stand before.
+pub fn judge(seen: [u32; group::MANY], kind: u32, bs: &[u8]) -> Result<(), Refusal>
+    ensures { outcome_of result ≡ judged seen kind bs.now }
 {
     let group = entry(kind, column::GROUP);
     if group == group::NONE {
-        return refusal::KIND;
+        return Err(Refusal::Kind);
     }
     let g = group as usize;
     let blocks = seen[group::BLOCK];
     if !in_place(group, blocks) {
-        return refusal::PLACE;
+        return Err(Refusal::Place);
     }
     let most = entry(kind, column::MOST);
     let before = seen[g];
     if most <= before {
-        return refusal::MANY;
+        return Err(Refusal::Many);
     }
-    body_number(kind, bs)
+    judge_body(kind, bs)
 }
 
 // ---- checks 8 and 9 on a record that has passed 2 to 7
@@ -193,18 +229,18 @@ fn later(own: u32, kind: u32, bs: &[u8]) -> bool
     }
 }
 
-// The number, 8 or 9, or 0; `n` has how many records of each group the file has, and `own` how many BLOCKs stand before.
-pub fn name(n: [u32; group::MANY], own: u32, kind: u32, bs: &[u8]) -> u32
+// Checks 8 and 9: Name or Order; `n` has how many records of each group the file has, and `own` how many BLOCKs stand before.
+pub fn name(n: [u32; group::MANY], own: u32, kind: u32, bs: &[u8]) -> Result<(), Refusal>
     requires { Judged (row_of kind) bs.now }
-    ensures { result ≡ number_of (named n own kind bs.now) }
+    ensures { outcome_of result ≡ named n own kind bs.now }
 {
     let head = entry(kind, column::HEAD) as usize;
     let tail = Tail::of(entry(kind, column::TAIL));
     if !(field_known(n, kind, bs) & file_check_tails::tail_known(tail, n, &bs[head..])) {
-        return refusal::NAME;
+        return Err(Refusal::Name);
     }
     if !later(own, kind, bs) {
-        return refusal::ORDER;
+        return Err(Refusal::Order);
     }
-    0
+    Ok(())
 }

@@ -10,6 +10,7 @@ use lib.ListN.{length, get_or, set}
 use lib.Seq.{slice, slice-cons, slice_empty}
 use Rattle.semantics.specs.Words.{largest}
 use Rattle.base_numbers.specs.Limit as Limit
+use Rattle.file_depth.specs.declared.Blocks.{Blocks}
 use Rattle.file_depth.specs.Deep.{depth_of, start_of, names_in, Graph, Known, measured_all, measured}
 use Rattle.file_depth.proofs.Laws.{starts_rise, starts_stop, named_later, depth_step, depth_small, measured_step}
 
@@ -74,6 +75,11 @@ measures first from goes n = measured (names_in first from goes) (depths first f
 abbrev pub DepthTurn : List ℕ → List ℕ → List ℕ → ℕ → ℕ → ℕ → List ℕ → List ℕ → ℕ → ℕ → Type 0
 DepthTurn first from goes n b =
     Turn (measures first from goes n) (depths first from goes n) n goes (start_of first from b) (start_of first from (b + 1))
+
+-- In the loop of a method: the blocks are still those, s.
+pub record Looped (s : Blocks) (b end : ℕ) (old : List ℕ) (t : Blocks) (memo : List ℕ) (d k : ℕ) : Type 0 where
+  pub same : t ≡ s
+  pub turn : DepthTurn s.first.now s.from.now s.goes.now s.count b end old memo d k
 
 module _ {first from goes : List ℕ} {n b : ℕ} (g : Graph first from goes n) (l : b < n) where
   pub names_rise : start_of first from b ≤ start_of first from (b + 1)

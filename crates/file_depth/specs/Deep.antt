@@ -3,6 +3,7 @@
 use Rattle.std.specs.Prelude.{ℕ, zero, suc, ◌+◌, ◌-◌, ◌≤◌, ◌<◌, ◌≡◌, List, [], ◌∷◌, map, eqb, length, get_or, set, if◌then◌else◌}
 use Rattle.std.proofs.Math.Seq.{slice}
 use Rattle.semantics.specs.Words.{largest}
+use Rattle.std.specs.Coded.{×_prop, Unit-prop, le_prop}
 use Rattle.promises.specs.Laws.{AllOf}
 use Rattle.base_numbers.specs.Limit as Limit
 
@@ -36,6 +37,10 @@ pub record Laid (first from goes : List ℕ) (n : ℕ) : Type 0 where
 -- Each block that is named is a later one, which there is.
 abbrev pub Later : (ℕ → List ℕ) → ℕ → Type 0
 Later names n = (b : ℕ) → b < n → AllOf (λ x. (b < x) × (x < n)) (names b)
+
+pub later_prop : (b n : ℕ) (xs : List ℕ) → IsProp (AllOf (λ x. (b < x) × (x < n)) xs)
+later_prop b n [] = Unit-prop
+later_prop b n (x ∷ xs) = ×_prop (×_prop le_prop le_prop) (later_prop b n xs)
 
 pub record Graph (first from goes : List ℕ) (n : ℕ) : Type 0 where
   pub laid : Laid first from goes n

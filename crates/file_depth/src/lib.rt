@@ -1,63 +1,77 @@
 // How deep blocks nest: by recursion over the blocks that a block names, each block measured once.
 #![tactic(auto)]
 
-ghost use Rattle.std.specs.Prelude.{◌≡◌, ◌+◌, ◌≤◌, ◌<◌, max, get_or};
+ghost use Rattle.std.specs.Prelude.{◌≡◌, ◌+◌, ◌≤◌, ◌<◌, replicate};
 ghost use Rattle.base_numbers.specs.Limit as Limit;
-ghost use Rattle.file_depth.specs.Deep.{depth_of, start_of, names_in, Graph, Known, measured};
+ghost use Rattle.file_depth.specs.Deep.{depth_of, start_of, names_in, Graph, Known, measured, later_prop};
+ghost use Rattle.std.proofs.Props.{props};
 
 use base_numbers::limit;
 
-fn greater(x: u16, y: u16) -> u16
-    ensures { result ≡ max x y }
-{
-    if x < y { y } else { x }
+/// Which blocks each block names: block b has the actions from first[b] to first[b + 1], and action a goes to the blocks
+/// goes[from[a]..from[a + 1]]. Each of them is a later one.
+#[derive(Clone, Copy)]
+pub struct Blocks<'a> {
+    pub first: &'a [u16; limit::BLOCKS + 1],
+    pub from: &'a [u16; limit::ACTIONS + 1],
+    pub goes: &'a [u16; limit::BRANCHES],
+    pub count: usize,
+    ghost graph: { Graph first.now from.now goes.now count } by { Prim.hlevel (props, later_prop) },
 }
 
-// where the blocks that block b names begin in `goes`
-fn start<'a>(
-    first: &'a [u16; limit::BLOCKS + 1],
-    from: &'a [u16; limit::ACTIONS + 1],
-    b: usize,
-) -> usize
-    requires b_bound { b ≤ Limit.BLOCKS }
-    requires b_bound_2 { get_or first.now b 0 ≤ Limit.ACTIONS }
-    ensures { result ≡ start_of first.now from.now b }
-{
-    let a = base_wide::short_index(first[b]);
-    base_wide::short_index(from[a])
+impl<'a> Blocks<'a> {
+    // where the blocks that block b names begin in `goes`
+    fn start(&self, b: usize) -> usize
+        requires { b ≤ self.now.count }
+        ensures { result ≡ start_of self.now.first.now self.now.from.now b }
+    {
+        let a = base_wide::short_index(self.first[b]);
+        base_wide::short_index(self.from[a])
+    }
 }
 
-// How many blocks nest at block b, itself included. The memo has what is found already, and gets what is found here.
-pub fn depth<'a>(
-    first: &'a [u16; limit::BLOCKS + 1],
-    from: &'a [u16; limit::ACTIONS + 1],
-    goes: &'a [u16; limit::BRANCHES],
-    blocks: usize,
-    memo: &mut [u16; limit::BLOCKS],
-    b: usize,
-) -> u16
-    requires graph { Graph first.now from.now goes.now blocks }
-    requires b_lt_blocks { b < blocks }
-    requires known { Known (depth_of (names_in first.now from.now goes.now) blocks) blocks memo.old }
-    ensures known_2 { Known (depth_of (names_in first.now from.now goes.now) blocks) blocks
-        memo.new }
-    ensures memo_after { memo.new ≡ measured (names_in first.now from.now goes.now)
-        (depth_of (names_in first.now from.now goes.now) blocks) blocks b memo.old }
-    ensures value { result ≡ depth_of (names_in first.now from.now goes.now) blocks b }
-{
-    let known = memo[b];
-    if known != 0 {
-        return known;
+/// How deep blocks nest, each measured once.
+#[derive(Drop)]
+pub struct Depths<'a> {
+    pub blocks: Blocks<'a>,
+    // 0: not measured yet
+    pub memo: [u16; limit::BLOCKS],
+    ghost known: { Known (depth_of (names_in blocks.first.now blocks.from.now blocks.goes.now) blocks.count) blocks.count memo },
+}
+
+impl<'a> Depths<'a> {
+    ghost use Rattle.file_depth.specs.Named.{names, depths, depth_measured};
+
+    pub fn new(blocks: Blocks<'a>) -> Self
+        ensures blocks { result.blocks ≡ blocks.entry }
+        ensures memo { result.memo ≡ replicate Limit.BLOCKS 0 }
+    {
+        Depths {
+            blocks,
+            memo: [0; limit::BLOCKS],
+        }
     }
-    let mut d = 0;
-    let mut k = start(first, from, b);
-    let end = start(first, from, b + 1);
-    while k < end {
-        let x = base_wide::short_index(goes[k]);
-        let v = depth(first, from, goes, blocks, memo, x);
-        d = greater(d, v);
-        k = k + 1;
+
+    /// How many blocks nest at block b, itself included.
+    pub fn depth(&mut self, b: usize) -> u16
+        requires { b < self.old.blocks.count }
+        ensures blocks { self.new.blocks ≡ self.old.blocks }
+        ensures memo { self.new.memo ≡ depth_measured self.old.blocks b self.old.memo }
+        ensures value { result ≡ depths self.old.blocks b }
+    {
+        let known = self.memo[b];
+        if known != 0 {
+            return known;
+        }
+        let mut d: u16 = 0;
+        let begin = self.blocks.start(b);
+        let end = self.blocks.start(b + 1);
+        for k in begin..end {
+            let x = base_wide::short_index(self.blocks.goes[k]);
+            let v = self.depth(x);
+            d = d.max(v);
+        }
+        self.memo[b] = d + 1;
+        d + 1
     }
-    memo[b] = d + 1;
-    d + 1
 }

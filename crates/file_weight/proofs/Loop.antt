@@ -12,6 +12,8 @@ use Rattle.file_depth.proofs.Laws.{measured_step}
 use Rattle.file_depth.proofs.Loop.{Turn, ended}
 use Rattle.file_weight.specs.Weigh.{Acts, run, actions, action_weight_of, cap, told, names_of, weighed, action_weighed}
 use Rattle.file_weight.specs.Weigh.{acts_in, Stands}
+use Rattle.file_weight.specs.declared.Actions.{Actions}
+use Rattle.file_weight.specs.Named.{acts}
 use Rattle.file_weight.proofs.Laws.{measured_append, run-cons, run_none, Ahead, weight_step, names_later, action_later}
 use Rattle.file_weight.proofs.Laws.{told_small, told_action}
 
@@ -70,6 +72,15 @@ module _ {s : Acts} {n b end : ℕ} {old : List ℕ} where
 -- The loop of `action_weight`, over what action a goes to.
 abbrev pub ActionTurn : Acts → List ℕ → List ℕ → ℕ → ℕ → ℕ → List ℕ → List ℕ → ℕ → ℕ → Type 0
 ActionTurn s from goes n a = Turn (weighed s n) (told s n) n goes (get_or from a 0) (get_or from (a + 1) 0)
+
+-- In the loops of methods: the actions are still those, s.
+pub record Summed (s : Actions) (b end : ℕ) (old : List ℕ) (t : Actions) (memo : List ℕ) (w a : ℕ) : Type 0 where
+  pub same : t ≡ s
+  pub sum : Sum (acts s) s.blocks.count b end old memo w a
+
+pub record Went (s : Actions) (a end : ℕ) (old : List ℕ) (t : Actions) (memo : List ℕ) (top k : ℕ) : Type 0 where
+  pub same : t ≡ s
+  pub turn : ActionTurn (acts s) s.blocks.from.now s.blocks.goes.now s.blocks.count a end old memo top k
 
 module _ {first from goes : List ℕ} {n b a : ℕ} (g : Graph first from goes n) (s : Stands first n b a) where
   pub numbered : a < get_or first n 0

@@ -1,2 +1,3 @@
 pub mod Weigh
 pub mod Agrees
+pub mod Named

@@ -17,14 +17,13 @@ ghost use Rattle.semantics.specs.Decode.{accepted};
 ghost use Rattle.semantics.specs.Desk.{bound_file};
 ghost use Rattle.base_numbers.specs.Byte as Byte;
 ghost use Rattle.run_limit.specs.Ran.{answer_of};
-ghost use Rattle.plan_text.specs.Told.{bound_as};
-ghost use Rattle.plan.specs.Given.{told_as, is_limit};
+ghost use Rattle.file_bound.specs.Answer.{bound_as};
+ghost use Rattle.plan.specs.Given.{is_limit};
 ghost use Rattle.plan.specs.Printed.{plan_text, Next};
 
 use arrayvec::ArrayString;
 use base_numbers::{limit, line, row};
-use file_check::Refusal;
-use plan_text::Bounded;
+use file_bound::Bounded;
 use run_limit::Answer;
 use std::io;
 use std::io::{Read, Write};
@@ -46,18 +45,6 @@ const TURN: u32 = 62;
 struct Written {
     bytes: usize,
     went: io::Result<()>,
-}
-
-// The bound of the model file s, or its refusal.
-fn bound_of(s: &[u8]) -> Result<Bounded, Refusal>
-    ensures { told_as result ≡ bound_file s.now }
-{
-    match file_bound::bound(s) {
-        file_bound::Bounded::Refused(number, place) => Err(Refusal { number, place }),
-        file_bound::Bounded::None => Ok(Bounded::None),
-        file_bound::Bounded::Over => Ok(Bounded::Over),
-        file_bound::Bounded::At(number) => Ok(Bounded::At(number)),
-    }
 }
 
 // Prints the next piece of the plan of the file s, of which `at` bytes were printed before.
@@ -114,13 +101,13 @@ fn plan<W: Write>(s: &[u8], writer: &mut W) -> Written
     ensures written { OnOk result.went (Appends (W.contents writer.old) (W.contents writer.new) (plan_text s.now)) }
 {
     let mut at = 0;
-    match bound_of(s) {
+    match file_bound::bound(s) {
         Ok(bound) => {
             let went = print_run(s, bound, &mut at, writer);
             Written { bytes: at, went }
         }
         Err(refused) => {
-            let text = plan_text::refusal(refused.number, refused.place);
+            let text = plan_text::refusal(refused.refusal.number(), refused.place);
             let went = print(s, text.as_str(), &mut at, writer);
             Written { bytes: at, went }
         }

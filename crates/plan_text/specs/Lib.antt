@@ -7,4 +7,3 @@ pub mod Codes
 pub mod Put
 pub mod Laws
 pub mod Same
-pub mod Told

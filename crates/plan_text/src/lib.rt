@@ -8,11 +8,12 @@ ghost use Rattle.run_limit.specs.Ran.{answer_of};
 ghost use Rattle.plan_text.specs.Text.{ascii, line_text, lines_text};
 ghost use Rattle.plan_text.specs.Text.{answer_text, bound_text, end_text, refused_text};
 ghost use Rattle.plan_text.specs.Tells.{tell_in, tells_in};
-ghost use Rattle.plan_text.specs.Told.{bound_as};
+ghost use Rattle.file_bound.specs.Answer.{bound_as};
 ghost use Rattle.plan_text.specs.Width as Width;
 
 use arrayvec::ArrayString;
 use base_numbers::line;
+use file_bound::Bounded;
 use itoa::Integer;
 use run_limit::Answer;
 
@@ -20,14 +21,6 @@ use run_limit::Answer;
 pub const ENDING: usize = 45;
 
 pub const REFUSAL: usize = 43;
-
-// The bound of a model that is not refused.
-#[derive(Clone, Copy)]
-pub enum Bounded {
-    None,
-    Over,
-    At(u32),
-}
 
 // Puts the decimals of n behind the text, and a mark behind them.
 fn push_number<I: Integer, const N: usize>(text: &mut ArrayString<N>, n: I, mark: &str)

@@ -5,19 +5,18 @@ use mathlib.Core.List.{List, [], ◌∷◌}
 use mir.Syntax.{w8}
 use mir.Val.{Fits}
 use lib.ListN.{get_or, replicate}
+use Rattle.semantics.specs.Words.{passed}
 use Rattle.semantics.specs.Model.{Model}
 use Rattle.semantics.specs.Bytes.{records_from}
-use Rattle.semantics.specs.Decode.{accepted, decode}
+use Rattle.semantics.specs.Decode.{Checked, refused, accepted, decode}
 use Rattle.semantics.specs.State.{fresh}
 use Rattle.semantics.specs.Run.{run}
 use Rattle.semantics.specs.Journal.{room_in}
-use Rattle.semantics.specs.Desk.{run_file}
+use Rattle.semantics.specs.Desk.{Told, check_file, run_file}
 use Rattle.promises.specs.Laws.{AllOf}
 use Rattle.base_numbers.specs.Row as Row
 use Rattle.file_index.specs.Index.{Readable}
 use Rattle.file_index.proofs.Standing.{accepted_by}
-use Rattle.file_check.specs.Check.{refusal_of}
-use Rattle.file_check.specs.declared.Refusal.{Refusal}
 use Rattle.file_check.proofs.Answer.{refuses, accepts}
 use Rattle.row_work.specs.Work.{work_of}
 use Rattle.row_work.specs.Sized.{IsByte}
@@ -27,42 +26,31 @@ use Rattle.file_map.specs.MapOf.{map_of}
 use Rattle.run_fresh.specs.Fresh.{Loaded}
 use Rattle.act_floor.specs.Acting.{Open}
 use Rattle.act_floor.proofs.Fresh.{fresh_open}
-use Rattle.run_limit.specs.declared.Answer.{Answer}
-use Rattle.run_limit.specs.declared.Answer.TheVariants.{Closed, Idle, Limit, Fault}
 use Rattle.run_limit.specs.declared.Ran.{Ran}
-use Rattle.run_file.specs.declared.Whole.{Whole}
 use Rattle.run_limit.specs.Ran.{answer_of, RanAs}
-use Rattle.run_file.specs.Whole.{told_as, whole_of, journal_after}
+use Rattle.run_file.specs.Whole.{journal_after}
 
 -- BYTES are below 256, by what is known of a slice of u8.
 pub all_bytes : (bs : List ℕ) → ((i : ℕ) → Fits w8 (get_or bs i 0)) → AllOf IsByte bs
 all_bytes [] h = tt
 all_bytes (b ∷ bs) h = ((h 0).fits, all_bytes bs (λ i. h (suc i)))
 
--- AN ANSWER is told as it is.
-told_back : (a : Answer) → a ≡ told_as (answer_of a)
-told_back Closed = refl
-told_back Idle = refl
-told_back Limit = refl
-told_back (Fault k) = refl
-
 -- What is answered of the file bs and left of the journal, which was j, is as defined.
-abbrev pub Says : (bs : List ℕ) (limit : ℕ) (j : List ℕ) → Whole → List ℕ → Type 0
-Says bs limit j r j' = (r ≡ whole_of (run_file bs limit j)) × (j' ≡ journal_after (run_file bs limit j) j)
+abbrev pub Says : (bs : List ℕ) (limit : ℕ) (j : List ℕ) → Checked Told → List ℕ → Type 0
+Says bs limit j r j' = (r ≡ run_file bs limit j) × (j' ≡ journal_after (run_file bs limit j) j)
 
--- THE CHECK, r.
-module _ (bs : List ℕ) (r : Refusal) (e : r ≡ refusal_of (decode bs)) where
-  pub refused_says : (limit : ℕ) (j : List ℕ) → (r.number ≡ 0 → ⊥)
-      → Says bs limit j (Whole.Refused r.number r.place) j
+-- THE CHECK.
+module _ (bs : List ℕ) where
+  pub refused_says : (n p : ℕ) → refused n p ≡ check_file bs → (limit : ℕ) (j : List ℕ) → Says bs limit j (refused n p) j
   unfolding run_file
-  refused_says limit j k = let d = refuses bs r e k in (rw d, rw d)
+  refused_says n p e limit j = let d = refuses bs n p e in (rw d refl, rw d refl)
 
-  module _ (z : r.number ≡ 0) where
+  module _ (z : accepted passed ≡ check_file bs) where
     abbrev pub m : Model
-    m = (accepts bs r e z).0
+    m = (accepts bs z).0
 
     pub passes : decode bs ≡ accepted m
-    passes = (accepts bs r e z).1
+    passes = (accepts bs z).1
 
     pub reads : Readable bs
     reads = (accepted_by bs m passes).readable
@@ -86,13 +74,9 @@ module _ (bs : List ℕ) (r : Refusal) (e : r ≡ refusal_of (decode bs)) where
 
         pub ran_says : (limit : ℕ) (j : List ℕ) (x : Ran) (w' j' : List ℕ)
             → ((v : Open bs map w) → RanAs (run v.run.model limit (room_in j) v.run.is) x w' j j')
-            → Says bs limit j (Whole.Ran x.answer x.steps) j'
+            → Says bs limit j (accepted (record { answer = answer_of x.answer; steps = x.steps; journal = j' })) j'
         unfolding run_file
         ran_says limit j x w' j' h =
             let t = h opened in
-            let d = passes in (
-              rw d
-                  (ap (λ a. Whole.Ran a x.steps) (told_back x.answer ∙ ap told_as t.answer_is)
-                  ∙ ap (Whole.Ran (told_as (run m limit (room_in j) (fresh m)).answer)) t.steps_are),
-              rw d t.journal_is,
-            )
+            let d = passes in
+            (rw (d, t.answer_is, t.steps_are, ← t.journal_is) refl, rw d t.journal_is)

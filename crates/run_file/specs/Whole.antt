@@ -1,21 +1,16 @@
--- A whole run of a file as an enum of the code, and what it leaves of the journal. Assumes nothing.
-use Rattle.std.specs.Prelude.{ℕ, List}
+-- A whole run of a file as the code tells it, and what it leaves of the journal. Assumes nothing.
+use Rattle.std.specs.Prelude.{ℕ, List, Result, Ok, Err}
 use Rattle.semantics.specs.Decode.{Checked, refused, accepted}
-use Rattle.semantics.specs.Run as definition
-use Rattle.semantics.specs.Run.{CLOSED, IDLE, LIMIT, FAULT}
 use Rattle.semantics.specs.Desk.{Told}
-use Rattle.run_limit.specs.declared.Answer.{Answer}
+use Rattle.file_check_record.specs.Refused.{number_of}
+use Rattle.file_check.specs.declared.Refused.{Refused}
+use Rattle.run_limit.specs.Ran.{answer_of}
 use Rattle.run_file.specs.declared.Whole.{Whole}
 
-abbrev pub told_as : definition.Answer → Answer
-told_as CLOSED = Answer.Closed
-told_as IDLE = Answer.Idle
-told_as LIMIT = Answer.Limit
-told_as (FAULT k) = Answer.Fault k
-
-abbrev pub whole_of : Checked Told → Whole
-whole_of (refused n p) = Whole.Refused n p
-whole_of (accepted t) = Whole.Ran (told_as t.answer) t.steps
+-- The journal holds j afterwards.
+abbrev pub told_of : Result Whole Refused → List ℕ → Checked Told
+told_of (Ok w) j = accepted (record { answer = answer_of w.answer; steps = w.steps; journal = j })
+told_of (Err r) j = refused (number_of r.refusal) r.place
 
 -- The journal was j; a file that is refused leaves it so.
 abbrev pub journal_after : Checked Told → List ℕ → List ℕ

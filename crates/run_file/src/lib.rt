@@ -3,32 +3,33 @@
 
 ghost use Rattle.std.specs.Prelude.{◌≡◌};
 ghost use Rattle.semantics.specs.Desk.{run_file};
-ghost use Rattle.run_file.specs.Whole.{whole_of, journal_after};
+ghost use Rattle.run_file.specs.Whole.{told_of, journal_after};
 
 use base_numbers::row;
+use file_check::Refused;
 use run_limit::Answer;
 
-// The number and the place of a refusal; or the answer and how many steps were done.
+/// The answer, and how many steps were done.
 #[derive(Clone, Copy)]
-pub enum Whole {
-    Refused(u32, usize),
-    Ran(Answer, u32),
+pub struct Whole {
+    pub answer: Answer,
+    pub steps: u32,
 }
 
-// From fresh, at most `limit` steps. A file that is refused leaves the journal as it was.
-pub fn run_whole<'a>(s: &'a [u8], limit: u32, journal: &'a mut [u8]) -> Whole
-    ensures value { result ≡ whole_of (run_file s.now limit journal.old) }
+/// From fresh, at most `limit` steps. A file that is refused leaves the journal as it was.
+pub fn run_whole<'a>(s: &'a [u8], limit: u32, journal: &'a mut [u8]) -> Result<Whole, Refused>
+    ensures value { told_of result journal.new ≡ run_file s.now limit journal.old }
     ensures journal_after { journal.new
         ≡ journal_after (run_file s.now limit journal.old) journal.old }
 {
-    let refusal = file_check::check(s);
-    if refusal.number != 0 {
-        return Whole::Refused(refusal.number, refusal.place);
-    }
+    file_check::check(s)?;
     let map = file_map::map_of(s);
     let mut w = [0u64; row::WORDS];
     run_fresh::fresh(s, &map.words, &mut w);
     let ran = run_limit::run(s, &map.words, &mut w, limit, journal);
     let answer = ran.answer;
-    Whole::Ran(answer, ran.steps)
+    Ok(Whole {
+        answer,
+        steps: ran.steps,
+    })
 }

@@ -1,5 +1,5 @@
 -- What is told of a run that is opened, by what opening it in a row of zeros and the packing say. Assumes nothing.
-use Rattle.std.specs.Prelude.{if◌then◌else◌}
+use Rattle.std.specs.Prelude.{if◌then◌else◌, Result}
 use Prim.Native.Nat.{ℕ}
 use mathlib.Core.Path.{◌≡◌, ◌∙◌, ap, subst}
 use mathlib.Core.List.{List}
@@ -11,12 +11,12 @@ use Rattle.semantics.specs.Model.{Model}
 use Rattle.semantics.specs.Decode.{Checked, refused, accepted, decode}
 use Rattle.semantics.specs.State.{fresh}
 use Rattle.base_numbers.specs.Row as Row
-use Rattle.file_check.specs.declared.Refusal.{Refusal}
 use Rattle.row_work.specs.Work.{work_of}
 use Rattle.row_struct.specs.declared.State.{State}
 use Rattle.row_struct.specs.State.{row_of, Full}
 use Rattle.run_row.specs.Open as handed
-use Rattle.run_row.specs.Open.{opens_as, open_row}
+use Rattle.run_row.specs.declared.Unopened.{Unopened}
+use Rattle.run_row.specs.Open.{opens_as, open_row, number_told, place_told}
 use Rattle.run_lent.specs.declared.Opened.{Opened}
 use Rattle.run_lent.specs.Opened.{TellsOpened}
 
@@ -26,9 +26,9 @@ zeros = replicate Row.WORDS 0
 abbrev opened_as : ℕ → ℕ → State → Opened
 opened_as n p s = record { number = n; place = p; state = s }
 
-module _ (r : Refusal) (w : List ℕ) (s : State) (e : row_of s ≡ w) (f : Full s) where
+module _ (r : Result (Unit {0}) Unopened) (w : List ℕ) (s : State) (e : row_of s ≡ w) (f : Full s) where
   told_by : (d : Checked Model) → handed.TellsOpened (opens_as zeros d) r w
-      → TellsOpened d (opened_as r.number r.place s)
+      → TellsOpened d (opened_as (number_told r) (place_told r) s)
   told_by (refused n p) t =
       record { number_is = t.number_is; place_is = t.place_is; row_is = e ∙ t.row_is; full = f }
   told_by (accepted m) t =
@@ -39,6 +39,6 @@ module _ (r : Refusal) (w : List ℕ) (s : State) (e : row_of s ≡ w) (f : Full
       record { number_is = u.number_is; place_is = u.place_is; row_is = e ∙ u.row_is; full = f }
 
   pub opened_told : (bs : List ℕ) → handed.TellsOpened (open_row bs zeros) r w
-      → TellsOpened (decode bs) (opened_as r.number r.place s)
+      → TellsOpened (decode bs) (opened_as (number_told r) (place_told r) s)
   unfolding open_row
   opened_told bs t = told_by (decode bs) t

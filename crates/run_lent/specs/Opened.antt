@@ -5,7 +5,6 @@ use Rattle.semantics.specs.Model.{Model}
 use Rattle.semantics.specs.Decode.{Checked, refused, accepted, decode}
 use Rattle.semantics.specs.State.{fresh}
 use Rattle.base_numbers.specs.Row as Row
-use Rattle.file_check.specs.Check.{refusal_of}
 use Rattle.row_work.specs.Work.{work_of}
 use Rattle.row_struct.specs.declared.State.{State}
 use Rattle.row_struct.specs.State.{row_of, Full}
@@ -17,10 +16,19 @@ abbrev pub opened_row : Checked Model → List ℕ
 opened_row (refused n p) = replicate Row.WORDS 0
 opened_row (accepted m) = work_of (fresh m)
 
+-- The refusal's number and its place; 0 where there is none.
+abbrev pub number_in : Checked Model → ℕ
+number_in (refused n p) = n
+number_in (accepted m) = 0
+
+abbrev pub place_in : Checked Model → ℕ
+place_in (refused n p) = p
+place_in (accepted m) = 0
+
 -- The code's r tells what the check says of the file.
 pub record TellsOpened (d : Checked Model) (r : Opened) : Type 0 where
-  pub number_is : r.number ≡ (refusal_of d).number
-  pub place_is : r.place ≡ (refusal_of d).place
+  pub number_is : r.number ≡ number_in d
+  pub place_is : r.place ≡ place_in d
   pub row_is : row_of r.state ≡ opened_row d
   pub full : Full r.state
 

@@ -14,6 +14,7 @@ use run_by_value::Moved;
 use run_limit::Ran;
 
 // The number and the place of a refusal and a state that is all 0; or 0, 0 and the state of a fresh run.
+// It is no Result, since with a refusal too it hands out a state (`opened_row`).
 #[derive(Clone, Copy)]
 pub struct Opened {
     pub number: u32,
@@ -26,12 +27,19 @@ pub fn open_run(s: &[u8]) -> Opened
     ensures { TellsOpened (decode s.now) result }
 {
     let mut w = [0u64; row::WORDS];
-    let refusal = run_row::open_row(s, &mut w);
+    let opened = run_row::open_row(s, &mut w);
     let state = row_struct::pack(&w);
-    Opened {
-        number: refusal.number,
-        place: refusal.place,
-        state,
+    match opened {
+        Ok(()) => Opened {
+            number: 0,
+            place: 0,
+            state,
+        },
+        Err(unopened) => Opened {
+            number: unopened.number(),
+            place: unopened.place(),
+            state,
+        },
     }
 }
 

@@ -8,11 +8,14 @@ use mir.Val.{Fits}
 use lib.ListN.{get_or, replicate}
 use Rattle.semantics.specs.Model.{Model}
 use Rattle.semantics.specs.Bytes.{records_from}
-use Rattle.semantics.specs.Decode.{decode, gather}
+use Rattle.semantics.specs.Decode.{accepted, gather}
 use Rattle.semantics.specs.State.{fresh}
+use Rattle.semantics.specs.Words.{passed}
+use Rattle.semantics.specs.Desk.{check_file}
 use Rattle.semantics.specs.Sound.{sound_in}
 use Rattle.promises.specs.Fit.{Fit, Nested}
 use Rattle.promises.specs.Says.{Says}
+use Rattle.promises.specs.Laws.{no_way}
 use Rattle.promises.specs.Accepted.{accepted_fit, accepted_nested}
 use Rattle.base_numbers.specs.Row as Row
 use Rattle.base_numbers.specs.Limit as Limit
@@ -22,8 +25,9 @@ use Rattle.file_index.specs.declared.Counts.{Counts}
 use Rattle.file_index.proofs.Standing.{accepted_by}
 use Rattle.file_index.proofs.Counting.{counts_accepted}
 use Rattle.file_index.proofs.Ties.{index_ties}
-use Rattle.file_check.specs.Check.{refusal_of}
-use Rattle.file_check.specs.declared.Refusal.{Refusal}
+use Rattle.std.specs.Prelude.{Result, Ok, Err, is_err}
+use Rattle.file_check.specs.Check.{passed_of}
+use Rattle.file_check.specs.declared.Refused.{Refused}
 use Rattle.file_check.proofs.Answer.{refuses, accepts}
 use Rattle.row_work.specs.Work.{work_of}
 use Rattle.row_work.specs.Sized.{Rounds, accepted_rounds}
@@ -40,15 +44,28 @@ use Rattle.run_row.specs.Handed.{Passing}
 use Rattle.run_row.proofs.Shape.{shown_shaped}
 use Rattle.run_row.proofs.Totals.{fresh_things}
 
--- THE CHECK, r.
-module _ (bs : List ℕ) (r : Refusal) (e : r ≡ refusal_of (decode bs)) where
-  pub refused_row : (w : List ℕ) → (r.number ≡ 0 → ⊥) → false ≡ sound_row bs w
-  unfolding sound_row
-  refused_row w k = let d = refuses bs r e k in rw (d, sound_row) refl
-
-  abbrev pub passing : r.number ≡ 0 → ((i : ℕ) → Fits w8 (get_or bs i 0)) → Passing bs
+-- THE CHECK.
+module _ (bs : List ℕ) where
+  pub passing : accepted passed ≡ check_file bs → ((i : ℕ) → Fits w8 (get_or bs i 0)) → Passing bs
   passing z b =
-      let a = accepts bs r e z in record { model = a.0; passes = a.1; bytes_are = all_bytes bs b }
+      let a = accepts bs z in record { model = a.0; passes = a.1; bytes_are = all_bytes bs b }
+
+  -- Whether it refuses.
+  module _ (r : Result (Unit {0}) Refused) (e : passed_of r ≡ check_file bs) where
+    pub refused_row : (w : List ℕ) → is_err r ≡ true → false ≡ sound_row bs w
+    unfolding sound_row
+    refused_row w k = go r e k
+      where
+        go : (r : Result (Unit {0}) Refused) → passed_of r ≡ check_file bs → is_err r ≡ true → false ≡ sound_row bs w
+        go (Ok a) e k = no_way k
+        go (Err x) e k = let d = refuses bs _ _ e in rw (d, sound_row) refl
+
+    pub passing_by : is_err r ≡ false → ((i : ℕ) → Fits w8 (get_or bs i 0)) → Passing bs
+    passing_by k = passing (go r e k)
+      where
+        go : (r : Result (Unit {0}) Refused) → passed_of r ≡ check_file bs → is_err r ≡ false → accepted passed ≡ check_file bs
+        go (Ok a) e k = e
+        go (Err x) e k = no_way (sym k)
 
 -- Where P holds, a test that says P and a says a.
 agree : {P : Type 0} (a b : Bool) → P → Says b (P × (a ≡ true)) → a ≡ b

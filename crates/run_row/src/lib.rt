@@ -6,33 +6,64 @@ ghost use Rattle.semantics.specs.Bytes.{records_from};
 ghost use Rattle.file_map.specs.MapOf.{map_of};
 ghost use Rattle.row_view.specs.View.{sound_row};
 ghost use Rattle.run_row.specs.Handed.{Passing};
-ghost use Rattle.run_row.specs.Open.{open_row, TellsOpened};
+ghost use Rattle.run_row.specs.Open.{open_row, TellsOpened, unopened_number, unopened_place};
 ghost use Rattle.run_row.specs.Call.{away, asked, call_row, TellsCall};
+ghost use Rattle.run_row.specs.declared.Unopened.TheVariants.{File};
 
 use base_numbers::{fault, row};
-use file_check::Refusal;
+use file_check::Refused;
 use run_limit::{Answer, Ran};
 
-// Opens a run of the model file s in the row w. A file that the check refuses, or a row that is too long or too short for a
-// run (20), leaves the row as it was.
-pub fn open_row<'a>(s: &'a [u8], w: &'a mut [u64]) -> Refusal
+/// Why no run is opened: the file is refused, or the row hasn't the length of a run.
+#[derive(Clone, Copy, PartialEq, Eq)]
+pub enum Unopened {
+    File(Refused),
+    Length,
+}
+
+impl Unopened {
+    /// The refusal's number, or 20.
+    pub fn number(self) -> u32
+        ensures { result ≡ unopened_number self }
+    {
+        match self {
+            Unopened::File(refused) => refused.refusal.number(),
+            Unopened::Length => fault::STATE,
+        }
+    }
+
+    /// The refusal's place, or 0.
+    pub fn place(self) -> usize
+        ensures { result ≡ unopened_place self }
+    {
+        match self {
+            Unopened::File(refused) => refused.place,
+            Unopened::Length => 0,
+        }
+    }
+}
+
+impl From<Refused> for Unopened {
+    ghost from_gives = { λ r e. e ≡ File r };
+
+    fn from(r: Refused) -> Unopened {
+        Unopened::File(r)
+    }
+}
+
+/// Opens a run of the model file s in the row w, which stays as it was where none is opened.
+pub fn open_row<'a>(s: &'a [u8], w: &'a mut [u64]) -> Result<(), Unopened>
     ensures { TellsOpened (open_row s.now w.old) result w.new }
 {
-    let answer = file_check::check(s);
-    if answer.number != 0 {
-        return answer;
-    }
+    file_check::check(s)?;
     if w.len() != row::WORDS {
-        return Refusal {
-            number: fault::STATE,
-            place: 0,
-        };
+        return Err(Unopened::Length);
     }
     let map = file_map::map_of(s);
     let mut begun = [0u64; row::WORDS];
     run_fresh::fresh(s, &map.words, &mut begun);
     row_work::copy_words(&begun, w);
-    answer
+    Ok(())
 }
 
 // Whether the row w shows a sound state of the model of s, a file that the check accepts and whose map is `map`. The totals of
@@ -81,8 +112,7 @@ pub fn run_row<'a>(s: &'a [u8], w: &'a mut [u64], limit: u32, journal: &'a mut [
     ensures { TellsCall (call_row s.now (asked limit journal.old) w.old) result
         w.new journal.old journal.new }
 {
-    let checked = file_check::check(s);
-    if checked.number != 0 {
+    if file_check::check(s).is_err() {
         return turned_away();
     }
     let map = file_map::map_of(s);

@@ -398,7 +398,7 @@ fn wrong(counts: [u32; group::MANY], kind: u32, bytes: &[u8], size: usize) -> bo
     requires { size ≤ length bytes.now }
     ensures { result ≡ not (eqb (number_of (judged counts kind (take size bytes.now))) 0) }
 {
-    file_check_record::judge(counts, kind, &bytes[..size]) != 0
+    file_check_record::judge(counts, kind, &bytes[..size]).is_err()
 }
 
 // Whether the record isn't right that a draft makes.

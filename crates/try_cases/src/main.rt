@@ -7,7 +7,6 @@
 
 use arrayvec::ArrayVec;
 use file_bound::Bounded;
-use file_check::Refusal;
 use std::fs::File;
 use std::io;
 use std::io::Write;
@@ -47,25 +46,23 @@ fn expand<'a>(file: &'a [u8], model: &mut ArrayVec<u8, MODEL>) -> Option<&'a [u8
 
 // ---- the answer's words
 
-fn agree(refusal: Refusal, bounded: Bounded) -> bool {
-    match bounded {
-        Bounded::Refused(number, place) => (number == refusal.number) & (place == refusal.place),
-        _ => (refusal.number == 0) & (refusal.place == 0),
-    }
-}
-
 // Writes the line of case n, whose bytes are `model`.
 fn answer<W: Write>(n: u32, model: &[u8], writer: &mut W) -> io::Result<()> {
-    let refusal = file_check::check(model);
+    let checked = file_check::check(model);
     let bounded = file_bound::bound(model);
-    if !agree(refusal, bounded) {
+    if checked.err() != bounded.err() {
         return writeln!(writer, "{n} disagree");
     }
     match bounded {
-        Bounded::Refused(number, place) => writeln!(writer, "{n} refused {number} at {place}"),
-        Bounded::None => writeln!(writer, "{n} bound none"),
-        Bounded::Over => writeln!(writer, "{n} bound over"),
-        Bounded::At(number) => writeln!(writer, "{n} bound {number}"),
+        Err(refused) => writeln!(
+            writer,
+            "{n} refused {} at {}",
+            refused.refusal.number(),
+            refused.place
+        ),
+        Ok(Bounded::None) => writeln!(writer, "{n} bound none"),
+        Ok(Bounded::Over) => writeln!(writer, "{n} bound over"),
+        Ok(Bounded::At(number)) => writeln!(writer, "{n} bound {number}"),
     }
 }
 

@@ -11,7 +11,7 @@ ghost use Rattle.base_numbers.specs.Line as Line;
 
 use arrayvec::ArrayString;
 use base_numbers::{fault, limit, line};
-use plan_text::Bounded;
+use file_bound::Bounded;
 use row_struct::State;
 use run_by_value::Moved;
 use run_limit::Answer;
@@ -27,11 +27,7 @@ const TEXT: usize = LINES * line::TEXT;
 
 // The bound of the model file s, which is not refused.
 fn bound_of(s: &[u8]) -> Bounded {
-    match file_bound::bound(s) {
-        file_bound::Bounded::At(number) => Bounded::At(number),
-        file_bound::Bounded::None => Bounded::None,
-        _ => Bounded::Over,
-    }
+    file_bound::bound(s).unwrap_or(Bounded::Over)
 }
 
 // The limit that follows this one.

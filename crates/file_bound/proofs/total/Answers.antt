@@ -1,5 +1,5 @@
 -- `file_bound::total` meets its contract. The loop's invariant, `Going`: what is summed so far with what the ENTITY records to
--- come weigh is the bound, under the cap; and the memo is right. Assumes nothing.
+-- come weigh is the bound, under the cap. Assumes nothing.
 use native.Mathlib.Omega.{arith}
 use Rattle.file_bound.proofs.Arrays.{readable, arrays}
 use Rattle.file_bound.proofs.Loop.{going_begun, going_ended, step, going_bodied, going_small, going_on}
@@ -14,8 +14,12 @@ graph_of-g-requires c = readable _ c.requires
 pub graph_of-p-requires : goal.graph_of-p-requires
 graph_of-p-requires c = readable _ c.requires
 
+pub invariant_of-blocks : goal.invariant_of-blocks
+invariant_of-blocks c = record { graph = (arrays c.args.s.now c.requires c.index_of-i.ensures c.graph_of-g.ensures).graph }
+
 pub loop-at-init : goal.loop-at-init
-loop-at-init c = rw c.first-at.ensures (going_begun c.args.s.now c.requires (arrays c.args.s.now c.requires
+loop-at-init c = rw (c.new-weights.ensures.actions, c.first-at.ensures) (going_begun c.args.s.now c.requires (arrays c.args.s.now
+    c.requires
     c.index_of-i.ensures
     c.graph_of-g.ensures))
 
@@ -36,27 +40,20 @@ slice_bounds-entity_weight-end c = let p = step c.loop-at.invariant c.loop-at-te
     c.next-end.ensures in omega (arith, p.far, p.within)
 
 pub entity_weight-v-requires : goal.entity_weight-v-requires
-entity_weight-v-requires c = let t = c.loop-at.invariant in record {
-  graph = t.made_for.graph;
-  bodied = going_bodied t c.loop-at-test.true c.read-x.ensures c.next-end.ensures;
-  known = t.known;
-}
+entity_weight-v-requires c = going_bodied c.loop-at.invariant c.loop-at-test.true c.read-x.ensures c.next-end.ensures
 
-pub added-w-requires : goal.added-w-requires
-added-w-requires c = let t = c.loop-at.invariant in record {
-  w_bound = t.small;
-  v_bound = going_small t c.loop-at-test.true c.read-x.ensures c.next-end.ensures
-      c.entity_weight-v.ensures.value;
-}
+pub overflow_add-w : goal.overflow_add-w
+overflow_add-w c = let t = c.loop-at.invariant in
+    omega (arith, t.small, going_small t c.loop-at-test.true c.read-x.ensures c.next-end.ensures c.entity_weight-v.ensures.value)
 
 pub loop-at-smaller : goal.loop-at-smaller
 loop-at-smaller c = let p = step c.loop-at.invariant c.loop-at-test.true c.read-x.ensures
     c.next-end.ensures in omega (arith, p.far, p.within)
 
 pub loop-at-preserved : goal.loop-at-preserved
-loop-at-preserved c = rw c.added-w.ensures
+loop-at-preserved c = rw (c.min-w.ensures, c.entity_weight-v.ensures.actions)
     (going_on c.loop-at.invariant c.loop-at-test.true
-    c.read-x.ensures c.next-end.ensures c.entity_weight-v.ensures.value c.entity_weight-v.ensures.known_2)
+    c.read-x.ensures c.next-end.ensures c.entity_weight-v.ensures.value)
 
 pub returns : goal.returns
 returns c = going_ended c.loop-at.invariant (omega (arith, c.loop-at-test.false))

@@ -2,8 +2,7 @@
 -- whole pass. Assumes nothing.
 use mathlib.Core.Path.{sym, ap}
 use native.Mathlib.Omega.{arith}
-use Rattle.file_check.proofs.Deep.{readable, begun, step, class_is, third_refused, turned, third_ends}
-use Rattle.file_check.specs.Check.{refusal_of}
+use Rattle.file_check.proofs.Deep.{readable, wired, begun, step, class_is, third_refused, turned, third_ends}
 use Rattle.file_check.proofs.third_pass.Goals as goal
 
 pub index_of-i-requires : goal.index_of-i-requires
@@ -12,8 +11,11 @@ index_of-i-requires c = readable _ c.requires
 pub graph_of-g-requires : goal.graph_of-g-requires
 graph_of-g-requires c = readable _ c.requires
 
+pub invariant_of-blocks : goal.invariant_of-blocks
+invariant_of-blocks c = record { graph = wired _ c.requires c.index_of-i.ensures c.graph_of-g.ensures }
+
 pub loop-at-init : goal.loop-at-init
-loop-at-init c = rw c.first-at.ensures
+loop-at-init c = rw (c.new-depths.ensures.blocks, c.first-at.ensures)
     (begun _ c.requires _
     c.index_of-i.ensures _
     c.graph_of-g.ensures)
@@ -39,21 +41,15 @@ slice_bounds-too_deep-end c = let p = step _ c.loop-at.invariant c.loop-at-test.
     c.next-end.ensures in omega (arith, p.far, p.within)
 
 pub too_deep-requires : goal.too_deep-requires
-too_deep-requires c = let w = c.loop-at.invariant in record {
-  graph = w.graph;
-  in_bounds = class_is _ w c.loop-at-test.true
-      c.read-x.ensures
-      c.next-end.ensures;
-  known = w.known;
-}
+too_deep-requires c = class_is _ c.loop-at.invariant c.loop-at-test.true c.read-x.ensures c.next-end.ensures
 
 pub returns-then-too_deep : goal.returns-then-too_deep
-returns-then-too_deep c = ap refusal_of (sym (third_refused _
+returns-then-too_deep c = sym (third_refused _
     c.loop-at.invariant
     c.loop-at-test.true
     c.read-x.ensures
     c.next-end.ensures c.too_deep.ensures.value
-    c.if-too_deep.true))
+    c.if-too_deep.true)
 
 pub loop-at-smaller : goal.loop-at-smaller
 loop-at-smaller c = let p = step _ c.loop-at.invariant
@@ -62,10 +58,11 @@ loop-at-smaller c = let p = step _ c.loop-at.invariant
     c.next-end.ensures in omega (arith, p.far, p.within)
 
 pub loop-at-preserved : goal.loop-at-preserved
-loop-at-preserved c = turned _ c.loop-at.invariant
+loop-at-preserved c = rw c.too_deep.ensures.blocks
+    (turned _ c.loop-at.invariant
     c.loop-at-test.true
     c.read-x.ensures
-    c.next-end.ensures c.too_deep.ensures.value c.if-too_deep.false c.too_deep.ensures.known_2
+    c.next-end.ensures c.too_deep.ensures.value c.if-too_deep.false)
 
 pub returns : goal.returns
-returns c = ap refusal_of (sym (third_ends _ c.loop-at.invariant (omega (arith, c.loop-at-test.false))))
+returns c = sym (third_ends _ c.loop-at.invariant (omega (arith, c.loop-at-test.false)))

@@ -6,7 +6,7 @@ use Rattle.file_check.proofs.Deep.{Turn}
 use Rattle.file_check.proofs.third_pass.Given as goal
 
 abbrev pub invariant-loop-at : goal.invariant-loop-at
-invariant-loop-at l = Turn l.s l.first l.from l.goes l.blocks l.memo l.at
+invariant-loop-at l = Turn l.s l.depths.blocks.first.now l.depths.blocks.from.now l.depths.blocks.goes.now l.depths.blocks.count l.at
 
 abbrev pub decreases-loop-at : goal.decreases-loop-at
 decreases-loop-at l = length l.s - l.at

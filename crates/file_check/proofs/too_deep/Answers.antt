@@ -5,25 +5,21 @@ use mathlib.Core.Path.{refl, ap}
 use Rattle.file_check.proofs.too_deep.Goals as goal
 
 pub u16_at-b-requires : goal.u16_at-b-requires
-u16_at-b-requires c = (c.requires.in_bounds c.if-kind-eq-CLASS.true).0
+u16_at-b-requires c = (c.requires c.if-kind-eq-CLASS.true).0
 
-pub depth-d-requires : goal.depth-d-requires
-depth-d-requires c = let w = c.requires.in_bounds c.if-kind-eq-CLASS.true in record {
-  graph = c.requires.graph;
-  b_lt_blocks = rw c.u16_at-b.ensures.0 w.1;
-  known = c.requires.known;
-}
+pub depth-requires : goal.depth-requires
+depth-requires c = rw c.u16_at-b.ensures.0 (c.requires c.if-kind-eq-CLASS.true).1
 
 pub returns-then-kind-eq-CLASS : goal.returns-then-kind-eq-CLASS
 returns-then-kind-eq-CLASS c = let u = c.u16_at-b.ensures.0 in record {
-  known_2 = c.depth-d.ensures.known_2;
-  memo_after = rw (eq-eqb _ _ c.if-kind-eq-CLASS.true) (rw u at c.depth-d.ensures.memo_after);
-  value = rw (eq-eqb _ _ c.if-kind-eq-CLASS.true) (ap (ltb 8) (rw u at c.depth-d.ensures.value));
+  blocks = c.depth.ensures.blocks;
+  memo = rw (eq-eqb _ _ c.if-kind-eq-CLASS.true) (rw u at c.depth.ensures.memo);
+  value = rw (eq-eqb _ _ c.if-kind-eq-CLASS.true) (ap (ltb 8) (rw u at c.depth.ensures.value));
 }
 
 pub returns : goal.returns
 returns c = record {
-  known_2 = c.requires.known;
-  memo_after = rw (ne_eqb _ _ c.if-kind-eq-CLASS.false) refl;
+  blocks = refl;
+  memo = rw (ne_eqb _ _ c.if-kind-eq-CLASS.false) refl;
   value = rw (ne_eqb _ _ c.if-kind-eq-CLASS.false) refl;
 }

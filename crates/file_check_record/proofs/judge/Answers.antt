@@ -58,4 +58,4 @@ returns c = let o = c.args in
       g,
       c.entry-most.ensures,
     ) at c.if-most-before.false in
-    c.body_number.ensures ∙ judged_on o.seen o.kind o.bs.now (omega (arith, g, l)) p m
+    c.judge_body.ensures ∙ judged_on o.seen o.kind o.bs.now (omega (arith, g, l)) p m

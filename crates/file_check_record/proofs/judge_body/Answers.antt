@@ -1,4 +1,4 @@
--- `file_check_record::body_number` meets its contract: each test is the definition's, by the row that the code read. Assumes
+-- `file_check_record::judge_body` meets its contract: each test is the definition's, by the row that the code read. Assumes
 -- nothing.
 use Prim.Native.Nat.{◌≤◌, ◌<◌}
 use borrow.Author.Tests.{le-leb, lt-leb}
@@ -8,7 +8,7 @@ use mathlib.Core.Path.{◌≡◌, sym, ◌∙◌}
 use Rattle.file_check_record.proofs.Rules.{tail_is, tail_read, body_is}
 use Rattle.file_check_record.specs.Rows.{column_of}
 use Rattle.semantics.specs.Record.{row_of, sized, valid, twice}
-use Rattle.file_check_record.proofs.body_number.Goals as goal
+use Rattle.file_check_record.proofs.judge_body.Goals as goal
 
 pub returns-then-bs-head : goal.returns-then-bs-head
 unfolding column_of
