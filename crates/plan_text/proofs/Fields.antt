@@ -49,8 +49,12 @@ u32_front x r k h = rw (u16_front x r k (omega arith), u16_front x r (k + 2) (om
 
 tell_front : (x r : List ℕ) → length x ≡ Line.BYTES → tell_in (x ++ r) ≡ tell_in x
 tell_front x r h =
-    rw (u32_front x r Line.TIME_AT (omega arith), u32_front x r Line.PROCESS_AT (omega arith),
-    u16_front x r Line.KIND_AT (omega arith), u32_front x r Line.VALUE_AT (omega arith)) refl
+    rw (
+      u32_front x r Line.TIME_AT (omega arith),
+      u32_front x r Line.PROCESS_AT (omega arith),
+      u16_front x r Line.KIND_AT (omega arith),
+      u32_front x r Line.VALUE_AT (omega arith),
+    ) refl
 
 -- One comes: of r, with n lines to come, it is x; r' is left, with m lines to come.
 module _ (r x r' : List ℕ) (n m : ℕ) (e : r ≡ x ++ r') (l : length x ≡ Line.BYTES) (o : m + 1 ≡ n) where
