@@ -1,13 +1,16 @@
 -- What the functions ask for is met between two tokens. Assumes nothing.
-use Rattle.std.specs.Prelude.{if◌then◌else◌}
+use Rattle.std.specs.Prelude.{if◌then◌else◌, ◌+◌, ◌-◌, slice_get, Some, None, IfSome, unwrap_or}
+use Rattle.std.specs.Prelude as Code
+use Rattle.std.proofs.Common.{length-append}
+use Rattle.std.proofs.lemmas.Option.{get_or_from_slice_get, slice_get-get_or}
 use Prim.Native.Nat.{ℕ, zero, suc, ◌≤◌, ◌<◌}
 use native.Mathlib.Omega.{arith}
 use mathlib.Core.Path.{◌≡◌, refl, sym, ◌∙◌, ap, subst}
 use mathlib.Core.List.{List, [], ◌∷◌}
 use mathlib.Core.Bool.{Bool, true, false, not, ◌&&◌, ◌||◌}
-use mathlib.Core.Option.{none, some}
+use mathlib.Core.Option.{Option, none, some}
 use lib.Dec.{eqb}
-use lib.ListN.{length, get_or, take, length-take}
+use lib.ListN.{length, get_or}
 use Rattle.semantics.specs.Words.{any}
 use Rattle.semantics.specs.Kinds as K
 use Rattle.promises.specs.Laws.{no_way, not_some, not-true, AllOf, Ordered}
@@ -24,35 +27,24 @@ use Rattle.text_machine.specs.Sheet as M
 use Rattle.text_machine.specs.Codes as C
 use Rattle.text_machine.specs.Codes.{symbol_of, token_of}
 use Rattle.text_machine.specs.Machine.{is_known}
+use Rattle.text_machine.specs.Machine as Machine
+use Rattle.text_machine.specs.Sheet.{headed}
 use Rattle.text_agrees.specs.Sheets.{deepness}
 use Rattle.text_agrees.specs.Stages.{Blocks, outside, acting, trying, Stage, declared, entity, titled, acts, Part, block, rest}
 use Rattle.text_agrees.specs.Stages.{roomy}
-use Rattle.text_agrees.specs.Goodness.{Sorted, Calling, silent, called, fine, all_written}
+use Rattle.text_agrees.specs.Goodness.{Sorted, Calling, silent, called, fine, all_written, Written, Item, a_class, another, item_bytes, joined, places_from}
 use Rattle.text_entry.specs.Draft.{TWO}
-use Rattle.text_names.specs.Table.{Distinct}
-use Rattle.text_pile.specs.Pile.{SYMBOLS, pile_of, turned_of}
+use Rattle.text_names.specs.Table.{Distinct, known_in}
+use Rattle.text_pile.specs.Pile.{SYMBOLS, pile_of, stack_of, turned_of}
 use Rattle.text_pile.specs.Laws.{top_of}
-use Rattle.text_sheet.specs.Numbers.{last_of}
-use Rattle.text_sheet.specs.Shown.{sheet_of, levels_of}
-use Rattle.text_sheet.specs.Fine.{Open}
-use Rattle.text_sheet.specs.Callers.{class_within}
+use Rattle.text_reader.specs.declared.Reader.{Reader}
 use Rattle.text_reader.specs.Drafted.{Fits}
-use Rattle.text_reader.specs.Shown.{Memory, reader_of, known_in, Ready}
-use Rattle.text_reader.specs.Sheets.{Titled}
+use Rattle.text_reader.specs.Shown.{reader_of, Ready}
+use Rattle.text_reader.specs.Sheets.{Titled, Short, ShortKept}
 use Rattle.text_reader.specs.Sorts as Sort
 use Rattle.text_reader.specs.Sorts.{sort_of}
-use Rattle.text_reader.proofs.Cuts.{levels_length}
 use Rattle.text_reader.proofs.Ready.{same_bytes_lem, distinct, numbers_small, branches_few}
 use Rattle.text_reader.proofs.Fitting.{Takes, takes, takes_name, takes_count, takes_etry}
-
-last_within : (n b : ℕ) (ks : List ℕ) → ((k : ℕ) → k < n → get_or ks k 0 ≤ b) → last_of n ks ≤ b
-last_within zero b ks h = omega arith
-last_within (suc k) b ks h = h k (omega arith)
-
-kept_any : (us bs ls ss kb : List ℕ) (n : ℕ) → M.kept_in (levels_of us ls ss kb n) ≡ M.kept_in (levels_of bs ls ss kb n)
-unfolding levels_of
-kept_any us bs ls ss kb zero = refl
-kept_any us bs ls ss kb (suc n) = refl
 
 -- The sorts that one symbol alone has.
 sign_not : (a b : Bool) (n : ℕ) → (Sort.SEMI ≡ n → ⊥) → (Sort.BRACE ≡ n → ⊥) → (Sort.OTHER ≡ n → ⊥)
@@ -115,51 +107,60 @@ stage_body (entity i g e x) = i.closed
 stage_body (titled i) = i.closed
 stage_body (acts e f g x) = absurd (part_body x)
 
-module _ (bs : List ℕ) (m : Memory) (h : Ready bs m) where
-  pub ready_distinct : Distinct (known_in bs m.names)
-  ready_distinct = distinct (known_in bs m.names) (fine h.comes).sorted.apart
+kept_short : (ls : List M.Level) → AllOf Short ls → length (M.resumed (M.kept_in ls)).body ≤ KEPT
+kept_short [] h = omega arith
+kept_short (l ∷ ls) h = go l.kept h.0
+  where
+    go : (o : Option M.Kept) → ShortKept o → length (M.resumed o).body ≤ KEPT
+    go none j = omega arith
+    go (some x) j = j
 
-  pub ready_open : Open m.sheet
-  ready_open = record { small = h.sheet.fine.small; room = h.sheet.roomy }
+-- The top of the pile, or a text where nothing is to come.
+pub top_shown : (p : List ℕ) (o : Code.Option ℕ) → o ≡ slice_get p (length p - 1) → IfSome o (λ s. s < SYMBOLS)
+    → (unwrap_or o C.TEXT < SYMBOLS) × (symbol_of (unwrap_or o C.TEXT) ≡ top_of (stack_of p))
+unfolding pile_of
+top_shown [] None e h = (omega arith, refl)
+top_shown [] (Some x) e h = absurd (let z : ◌≡◌ {A = ℕ} 0 1 = cc in omega arith)
+top_shown (x ∷ xs) None e h =
+    let z : None ≡ Some (get_or (x ∷ xs) (length (x ∷ xs) - 1) 0) =
+    e ∙ slice_get-get_or (x ∷ xs) (length (x ∷ xs) - 1) 0 (omega arith) in
+    absurd (let y : ◌≡◌ {A = ℕ} 0 1 = cc in omega arith)
+top_shown (x ∷ xs) (Some y) e h =
+    let z : get_or (x ∷ xs) (length (x ∷ xs) - 1) 0 ≡ y = get_or_from_slice_get (x ∷ xs) (length (x ∷ xs) - 1) y 0 (sym e) in
+    let k : length (x ∷ xs) - 1 ≡ length xs = omega arith in
+    (h, ap symbol_of (sym z ∙ ap (λ i. get_or (x ∷ xs) i 0) k))
 
-  pub ready_kept : last_of m.sheet.levels m.lent.kept_size ≤ KEPT
-  ready_kept = last_within m.sheet.levels KEPT m.lent.kept_size h.sheet.short
+module _ (m : Reader) (h : Ready m) where
+  pub ready_distinct : Distinct (known_in m.names)
+  ready_distinct = distinct (known_in m.names) (fine h.comes).sorted.apart
 
-  pub ready_blocks : get_or m.sheet.seen K.BLOCK 0 < TWO
-  ready_blocks = omega (arith, h.sheet.fine.small.few h.sheet.roomy K.BLOCK, h.sheet.roomy)
+  pub ready_kept : length (M.resumed (M.kept_in m.sheet.levels)).body ≤ KEPT
+  ready_kept = kept_short m.sheet.levels h.sheet.short
 
-  pub ready_number : (x : Name) → number_of (known_in bs m.names) x < TWO
+  pub ready_number : (x : Name) → number_of (known_in m.names) x < TWO
   ready_number x = numbers_small h.comes x
 
-  pub ready_fits : (s kind value : ℕ) (x : List ℕ) {zs : List Symbol} → s < SYMBOLS
-      → symbol_of s ≡ top_of (pile_of m.pile m.height)
-      → turned_of (pile_of m.pile m.height) (token_of kind value x) ≡ some zs
-      → Fits s kind value (M.resumed (M.kept_in (levels_of [] m.lent.kept_line m.lent.kept_size m.lent.kept_body
-      m.sheet.levels)))
-  unfolding sheet_of
+  pub ready_fits : (s kind value : ℕ) (x : List ℕ) {zs : List Symbol} → s < SYMBOLS → symbol_of s ≡ top_of (stack_of m.pile)
+      → turned_of (stack_of m.pile) (token_of kind value x) ≡ some zs
+      → Fits s kind value (M.resumed (M.kept_in m.sheet.levels))
   ready_fits s kind value x l e f =
       let t : Takes (symbol_of s) (token_of kind value x) =
       subst (λ (y : Symbol). Takes y (token_of kind value x)) (sym e)
-      (takes (pile_of m.pile m.height) (token_of kind value x) f) in
+      (takes (stack_of m.pile) (token_of kind value x) f) in
       record {
         count = λ a b. takes_count value
             (subst (λ (n : ℕ). Takes (symbol_of C.COUNT) (token_of n value x)) b
             (subst (λ (n : ℕ). Takes (symbol_of n) (token_of kind value x)) a t));
         etry = λ a n. takes_etry s l (subst (λ (j : ℕ). Takes (symbol_of s) (token_of j value x)) a t) n;
-        branches = rw (kept_any [] m.lent.level_block m.lent.kept_line m.lent.kept_size m.lent.kept_body
-            m.sheet.levels)
-            (branches_few (levels_of m.lent.level_block m.lent.kept_line m.lent.kept_size m.lent.kept_body
-            m.sheet.levels) (all_written h.comes).levels);
+        branches = branches_few m.sheet.levels (all_written h.comes).levels;
       }
 
-  pub ready_name : (s kind value : ℕ) (x : List ℕ) {zs : List Symbol}
-      → symbol_of s ≡ top_of (pile_of m.pile m.height)
-      → turned_of (pile_of m.pile m.height) (token_of kind value x) ≡ some zs → sort_of (symbol_of s) ≡ Sort.NAMED → kind ≡
-      C.NAME
+  pub ready_name : (s kind value : ℕ) (x : List ℕ) {zs : List Symbol} → symbol_of s ≡ top_of (stack_of m.pile)
+      → turned_of (stack_of m.pile) (token_of kind value x) ≡ some zs → sort_of (symbol_of s) ≡ Sort.NAMED → kind ≡ C.NAME
   ready_name s kind value x e f n =
       takes_name kind value x
       (subst (λ (y : Symbol). Takes y (token_of kind value x)) (sym e ∙ is_named (symbol_of s) n)
-      (takes (pile_of m.pile m.height) (token_of kind value x) f))
+      (takes (stack_of m.pile) (token_of kind value x) f))
 
 -- THE BODY OF A CLASS. A class that is to get its body has a number of a class.
 other_name : (x : Name) (k : Known) (ks : List Known) → x ≡ k.name → AllOf (λ (j : Known). k.name ≡ j.name → ⊥) ks
@@ -203,31 +204,50 @@ top_body : (us : List Symbol) → top_of us ≡ body_s → (ss : List Symbol) ×
 top_body [] e = let z : Sort.TEXT ≡ Sort.BODY = ap sort_of e in absurd (omega (arith, z))
 top_body (s ∷ ss) e = (ss, ap (λ x. x ∷ ss) e)
 
-module _ (bs : List ℕ) (m : Memory) (h : Ready bs m) (s : ℕ) (e : symbol_of s ≡ top_of (pile_of m.pile m.height))
+-- The body blocks of classes stand among the declarations.
+places_within : (n c : ℕ) (xs : List Item) → c < length (places_from n xs)
+    → get_or (places_from n xs) c 0 + 2 ≤ n + length (joined xs)
+places_within n c [] l = absurd (omega arith)
+places_within n zero (a_class a b ∷ xs) l = omega (arith, length-append (item_bytes (a_class a b)) (joined xs))
+places_within n (suc c) (a_class a b ∷ xs) l =
+    omega (arith, places_within (n + 6) c xs (omega arith), length-append (item_bytes (a_class a b)) (joined xs))
+places_within n c (another k bs ∷ xs) l =
+    omega (arith, places_within (n + length (headed k bs)) c xs l, length-append (headed k bs) (joined xs))
+
+places_stand : {z : M.Sheet} → Written z → (c : ℕ) → c < length z.class_at → get_or z.class_at c 0 + 2 ≤ length z.declared
+places_stand w c l =
+    omega (
+      arith,
+      ap length w.declared,
+      ap (λ (xs : List ℕ). get_or xs c 0) w.places,
+      places_within 0 c w.items (omega (arith, ap length w.places)),
+    )
+
+module _ (m : Reader) (h : Ready m) (s : ℕ) (e : symbol_of s ≡ top_of (stack_of m.pile))
     (b : sort_of (symbol_of s) ≡ Sort.BODY) where
-  pub ready_titled : Titled m.sheet m.lent.class_at (is_known (reader_of bs m))
-      (number_of (known_in bs m.names) (reader_of bs m).called)
-  unfolding sheet_of
-  ready_titled =
-      let p = top_body (pile_of m.pile m.height) (sym e ∙ is_body (symbol_of s) b) in
+  abbrev r : Machine.Reader
+  r = reader_of m
+
+  flat : length m.sheet.levels ≡ 0
+  flat =
+      let p = top_body (stack_of m.pile) (sym e ∙ is_body (symbol_of s) b) in
       let st = (roomy h.comes).held.stage in
-      let deep = stage_body (subst (λ (us : List Symbol). Stage (reader_of bs m).draft.role (reader_of bs m).draft.kind
-      (deepness (reader_of bs m).sheet) (roomy h.comes).held.q (roomy h.comes).held.l us) p.1 st) in
-      let fl : m.sheet.levels ≡ 0 =
-      sym (levels_length m.lent.level_block m.lent.kept_line m.lent.kept_size m.lent.kept_body m.sheet.levels)
-      ∙ deep in
-      let c = subst (λ (us : List Symbol). Calling (reader_of bs m).draft.role (known_in bs m.names) (reader_of bs m).called
-      us)
-      p.1 (fine h.comes).calling in
-      let has : is_known (reader_of bs m) ≡ true
-      → number_of (known_in bs m.names) (reader_of bs m).called < m.sheet.classes =
-      λ k. omega (
-        arith,
-        called_number (length (take m.sheet.classes m.lent.class_at)) (fine h.comes).sorted c k,
-        length-take m.sheet.classes m.lent.class_at,
-      ) in
-      record {
-        flat = fl;
-        has = has;
-        placed = λ k f. class_within m.sheet m.lent h.sheet.fine _ (has k) f;
-      }
+      stage_body (subst (λ (us : List Symbol). Stage r.draft.role r.draft.kind (deepness r.sheet) (roomy h.comes).held.q
+      (roomy h.comes).held.l us) p.1 st)
+
+  numbered : is_known r ≡ true → number_of r.known r.called < length m.sheet.class_at
+  numbered k =
+      let p = top_body (stack_of m.pile) (sym e ∙ is_body (symbol_of s) b) in
+      let c = subst (λ (us : List Symbol). Calling r.draft.role r.known r.called us) p.1 (fine h.comes).calling in
+      called_number (length m.sheet.class_at) (fine h.comes).sorted c k
+
+  standing : (c : ℕ) → c < length m.sheet.class_at → get_or m.sheet.class_at c 0 + 2 ≤ length m.sheet.declared
+  standing = places_stand (all_written h.comes)
+
+  pub ready_titled : (o : Code.Option ℕ) → o ≡ (if is_known r then Some (number_of r.known r.called) else None)
+      → Titled m.sheet o
+  ready_titled o f = rw f (go (is_known r) refl)
+    where
+      go : (t : Bool) → is_known r ≡ t → Titled m.sheet (if t then Some (number_of r.known r.called) else None)
+      go true k = record { flat = flat; has = numbered k; placed = standing _ (numbered k) }
+      go false k = record { flat = flat; has = tt; placed = tt }

@@ -1,94 +1,32 @@
--- The checks at a cut, by what the sheet's numbers show. Assumes nothing.
-use Rattle.std.specs.Prelude.{if◌then◌else◌}
-use Prim.Native.Nat.{ℕ, zero, suc, ◌+◌, ◌≤◌, ◌<◌}
-use native.Mathlib.Omega.{arith}
-use mathlib.Core.Path.{◌≡◌, refl, sym, ◌∙◌, ap, subst}
-use mathlib.Core.List.{List}
-use mathlib.Core.Bool.{Bool, true, false, ◌||◌}
-use mathlib.Core.Option.{Option, none, some}
-use lib.Dec.{leb, ltb}
-use lib.ListN.{length, get_or, take}
-use borrow.Author.Tests.{le-ltb, lt-ltb, ltb-false}
+-- The sheet after a token: the limits that it passes, and what stays of it. Assumes nothing.
+use Rattle.std.specs.Prelude.{ℕ, ◌+◌, ◌≤◌, ◌<◌, ◌≡◌, List, [], ◌∷◌, ◌++◌, Bool, true, false, ◌||◌, eqb, leb, ltb, length, get_or, if◌then◌else◌, Result, Ok, Err, OnOk}
+use Rattle.std.proofs.Common.{arith, sym, ◌∙◌, ap, get_or-set_other}
+use Rattle.std.proofs.Math.Path.{refl}
+use Rattle.std.proofs.Math.Option.{Option, none, some}
 use Rattle.semantics.specs.Numbers as F
 use Rattle.semantics.specs.Kinds as K
+use Rattle.semantics.specs.Words.{more}
+use Rattle.promises.specs.Laws.{AllOf}
+use Rattle.text_semantics.specs.Token as T
+use Rattle.text_semantics.specs.Token.{Token}
+use Rattle.text_semantics.specs.Written.{two}
 use Rattle.text_machine.specs.Entry as E
-use Rattle.text_machine.specs.Entry.{KEPT, FULL}
+use Rattle.text_machine.specs.Entry.{KEPT, FULL, mark_in}
 use Rattle.text_machine.specs.Sheet as M
-use Rattle.text_machine.specs.Sheet.{added, long}
-use Rattle.text_machine.specs.Machine.{over_limit, done, is_declaration}
-use Rattle.text_entry.specs.declared.Draft.{Draft}
-use Rattle.text_entry.specs.Draft.{draft_of, body_in}
-use Rattle.text_sheet.specs.declared.Sheet.{Sheet}
-use Rattle.text_sheet.specs.Numbers.{HEAD, longer, declaring}
-use Rattle.text_sheet.specs.Part.{part}
-use Rattle.text_sheet.specs.Shown.{Lent, sheet_of, levels_of, entry}
-use Rattle.text_sheet.specs.Fine.{Fine}
-use Rattle.text_sheet.specs.Callers.{declares-entry, acts-entry}
-use Rattle.text_reader.specs.declared.Limit.{Limit}
-use Rattle.text_reader.specs.declared.Staged.{Staged}
-use Rattle.text_reader.specs.Cut.{passed, stopped, limit_of, told_of}
-use Rattle.text_reader.specs.Sheets.{Sound, Steps, Turns, refused_of}
+use Rattle.text_machine.specs.Sheet.{added, long, headed}
+use Rattle.text_machine.specs.Machine.{done, behind, is_declaration, over_limit}
+use Rattle.text_sheet.specs.Numbers.{entry}
+use Rattle.text_sheet.specs.Callers.{declares-entry, acts-entry, opens-entry}
+use Rattle.text_reader.specs.Sheets.{Sound, Short, ShortKept, Steps}
+use Rattle.text_reader.specs.Cut.{cut_of}
+use borrow.Author.Tests.{lt-ltb, le-ltb}
 
 pub if_has : {A : Type 0} (P : A → Type 0) (b : Bool) {x y : A} → P x → P y → P (if b then x else y)
 if_has P true p q = p
 if_has P false p q = q
 
-pub levels_length : (bs ls ss kb : List ℕ) (n : ℕ) → length (levels_of bs ls ss kb n) ≡ n
-unfolding levels_of
-levels_length bs ls ss kb zero = refl
-levels_length bs ls ss kb (suc n) = ap suc (levels_length bs ls ss kb n)
-
--- SHOWN. The limits that the machine looks at are those of the numbers.
-pub told_chain : (a b c d e f : Bool) (p q r s t : ℕ)
-    → (if a then some p else if b then some q else if c then some r else if d then some s else if e then some t
-    else if f then some 0 else none)
-    ≡ told_of (if a then stopped p else if b then stopped q else if c then stopped r else if d then stopped s
-    else if e then stopped t else if f then stopped 0 else passed)
-told_chain true b c d e f p q r s t = refl
-told_chain false true c d e f p q r s t = refl
-told_chain false false true d e f p q r s t = refl
-told_chain false false false true e f p q r s t = refl
-told_chain false false false false true f p q r s t = refl
-told_chain false false false false false true p q r s t = refl
-told_chain false false false false false false p q r s t = refl
-
-pub over_shown : (r : Sheet) (n : Lent) (d : E.Draft) (f : Bool)
-    → over_limit (sheet_of r n) d f ≡ told_of (limit_of r d.line (get_or (take r.classes n.class_line) r.current 0) f)
-unfolding over_limit sheet_of
-over_shown r n d f =
-    rw (levels_length n.level_block n.kept_line n.kept_size n.kept_body r.levels)
-    (told_chain (ltb F.longest_file r.total) (f || ltb F.most_classes (get_or r.seen K.CLASS 0))
-    (ltb F.most_actions (get_or r.seen K.ACTION 0)) (ltb F.most_blocks (get_or r.seen K.BLOCK 0)) (ltb F.deepest r.levels)
-    r.full r.first d.line r.last_line d.line (get_or (take r.classes n.class_line) r.current 0))
-
--- Where no block is too deep, the line of the class doesn't matter.
-pub limit_flat : (r : Sheet) (line a b : ℕ) (f : Bool) → r.levels ≤ F.deepest → limit_of r line a f ≡ limit_of r line b f
-limit_flat r line a b f h = rw (le-ltb F.deepest r.levels h)
-
-over_chain : (a b c d e f : Bool) (p q r s t : ℕ)
-    → (if a then stopped p else if b then stopped q else if c then stopped r else if d then stopped s
-    else if e then stopped t else if f then stopped 0 else passed).over ≡ false
-    → (a ≡ false) × (e ≡ false) × (f ≡ false)
-over_chain true b c d e f p q r s t h = let z : ◌≡◌ {A = ℕ} 0 1 = cc in absurd (omega arith)
-over_chain false true c d e f p q r s t h = let z : ◌≡◌ {A = ℕ} 0 1 = cc in absurd (omega arith)
-over_chain false false true d e f p q r s t h = let z : ◌≡◌ {A = ℕ} 0 1 = cc in absurd (omega arith)
-over_chain false false false true e f p q r s t h = let z : ◌≡◌ {A = ℕ} 0 1 = cc in absurd (omega arith)
-over_chain false false false false true f p q r s t h = let z : ◌≡◌ {A = ℕ} 0 1 = cc in absurd (omega arith)
-over_chain false false false false false true p q r s t h = let z : ◌≡◌ {A = ℕ} 0 1 = cc in absurd (omega arith)
-over_chain false false false false false false p q r s t h = (refl, refl, refl)
-
-pub limit_within : (r : Sheet) (line c : ℕ) (f : Bool) → (limit_of r line c f).over ≡ false
-    → (r.total < FULL) × (r.levels ≤ F.deepest) × (r.full ≡ false)
-limit_within r line c f h =
-    let x = over_chain (ltb F.longest_file r.total) (f || ltb F.most_classes (get_or r.seen K.CLASS 0))
-    (ltb F.most_actions (get_or r.seen K.ACTION 0)) (ltb F.most_blocks (get_or r.seen K.BLOCK 0)) (ltb F.deepest r.levels)
-    r.full r.first line r.last_line line c h in
-    let a = ltb-false F.longest_file r.total x.0 in
-    let b = ltb-false F.deepest r.levels x.1 in
-    (omega (arith, a), omega (arith, b), x.2)
-
 -- A faulty record is refused for its length, or for itself.
-pub faulty_over : (z : M.Sheet) (d : E.Draft)
+faulty_over : (z : M.Sheet) (d : E.Draft)
     → over_limit z d true ≡ some (if ltb F.longest_file z.total then z.first else d.line)
 unfolding over_limit
 faulty_over z d = go (ltb F.longest_file z.total)
@@ -97,39 +35,7 @@ faulty_over z d = go (ltb F.longest_file z.total)
     go true = refl
     go false = refl
 
--- STEPS. One that stops; and one that is told by its limits.
-pub stops_at : {o : Option ℕ} {want : M.Sheet} {r : Staged} {m : Lent} → r.over ≡ true → some r.place ≡ o → Steps o want r m
-stops_at {r = r} h e =
-    record {
-      cut = ap (λ b. if b then some r.place else none) h ∙ e;
-      same = λ f. let z : ◌≡◌ {A = ℕ} 0 1 = cc in absurd (omega arith);
-      sound = λ f. let z : ◌≡◌ {A = ℕ} 0 1 = cc in absurd (omega arith);
-    }
-
-module _ (r : Sheet) (n : Lent) (want : M.Sheet) (d : E.Draft) (line : ℕ) (is : d.line ≡ line) (fine : Fine r n)
-    (same : sheet_of r n ≡ want) (short : (k : ℕ) → k < r.levels → get_or n.kept_size k 0 ≤ KEPT) where
-  pub limits : {l : Limit} → l ≡ limit_of r line 0 false → told_of l ≡ over_limit want d false
-  limits e =
-      ap told_of e
-      ∙ ap told_of (limit_flat r line 0 (get_or (take r.classes n.class_line) r.current 0) false fine.small.levels)
-      ∙ ap (λ p. told_of (limit_of r p (get_or (take r.classes n.class_line) r.current 0) false)) (sym is)
-      ∙ sym (over_shown r n d false)
-      ∙ ap (λ z. over_limit z d false) same
-
-  pub steps_by : {l : Limit} → l ≡ limit_of r line 0 false
-      → Steps (over_limit want d false) want (record { sheet = r; over = l.over; place = l.place }) n
-  steps_by e =
-      record {
-        cut = limits e;
-        same = λ h. same;
-        sound = λ h. record {
-          fine = fine;
-          roomy = (limit_within r line 0 false (sym (ap (λ l. l.over) e) ∙ h)).0;
-          short = short;
-        };
-      }
-
--- AT A SEMICOLON.
+-- TOTALS.
 stands_total : (k : ℕ) (bs : List ℕ) (z : M.Sheet) → ((M.stands k bs z).total ≡ z.total) × ((M.stands k bs z).first ≡ z.first)
 unfolding M.stands
 stands_total k bs z =
@@ -163,74 +69,248 @@ done_total d z =
     if_has (λ (x : M.Sheet). (x.total ≡ added z.total (long d)) × (x.first ≡ z.first)) (is_declaration d)
     (declares_total d z) (acts_total d z)
 
-module _ (s : Sheet) (m : Lent) (d : Draft) (bs ws : List ℕ) where
-  pub faulty_done : over_limit (done (draft_of d bs ws) (sheet_of s m)) (draft_of d bs ws) true
-      ≡ some (refused_of (longer s (HEAD + d.size)) d.line)
-  unfolding sheet_of draft_of
-  faulty_done =
-      let t = done_total (draft_of d bs ws) (sheet_of s m) in
-      faulty_over (done (draft_of d bs ws) (sheet_of s m)) (draft_of d bs ws)
-      ∙ ap (λ n. some (if ltb F.longest_file n then (done (draft_of d bs ws) (sheet_of s m)).first else d.line)) t.0
-      ∙ ap (λ n. some (if ltb F.longest_file (added s.total (HEAD + d.size)) then n else d.line)) t.1
+pub faulty_done : (d : E.Draft) (z : M.Sheet) {n p : ℕ} → n ≡ added z.total (4 + d.size)
+    → p ≡ (if ltb F.longest_file n then z.first else d.line) → some p ≡ over_limit (done d z) d true
+faulty_done d z {n} e f =
+    let t = done_total d z in
+    sym (faulty_over (done d z) d
+    ∙ ap (λ m. some (if ltb F.longest_file m then (done d z).first else d.line)) (t.0 ∙ sym e)
+    ∙ ap (λ m. some (if ltb F.longest_file n then m else d.line)) t.1 ∙ ap some (sym f))
 
-  pub done-declares : d.kind < K.ACTION → d.over ≡ false
-      → M.declares (entry 0 d.kind d.size (part 0 d.size bs)) (sheet_of s m) ≡ done (draft_of d bs ws) (sheet_of s m)
-  unfolding draft_of
-  done-declares h o =
-      ap (λ b. M.declares (entry 0 d.kind d.size (body_in b d.size bs)) (sheet_of s m)) (sym o)
-      ∙ sym (declares-entry (draft_of d bs ws) (sheet_of s m))
-      ∙ ap (λ b. if b then M.declares (draft_of d bs ws) (sheet_of s m) else M.acts (draft_of d bs ws) (sheet_of s m))
-      (sym (lt-ltb d.kind K.ACTION h))
+opens_first : (d : E.Draft) (z : M.Sheet) → (M.opens d z).first ≡ z.first
+unfolding M.opens M.braces M.tries
+opens_first d z =
+    if_has (λ (x : M.Sheet). x.first ≡ z.first) (eqb d.kind K.TRY) (branching (M.kept_in z.levels)) (acts_total d z).1
+  where
+    branching : (o : Option M.Kept) → (M.branches d o z).first ≡ z.first
+    branching none = (counts_total d z).1
+    branching (some x) = refl
 
-  pub done-acts : K.ACTION ≤ d.kind → d.over ≡ false
-      → M.acts (entry d.line d.kind d.size (part 0 d.size bs)) (sheet_of s m) ≡ done (draft_of d bs ws) (sheet_of s m)
-  unfolding draft_of
-  done-acts h o =
-      ap (λ b. M.acts (entry d.line d.kind d.size (body_in b d.size bs)) (sheet_of s m)) (sym o)
-      ∙ sym (acts-entry (draft_of d bs ws) (sheet_of s m))
-      ∙ ap (λ b. if b then M.declares (draft_of d bs ws) (sheet_of s m) else M.acts (draft_of d bs ws) (sheet_of s m))
-      (sym (le-ltb d.kind K.ACTION h))
+pub faulty_opens : (d : E.Draft) (z : M.Sheet) {n p : ℕ}
+    → ((line : ℕ) (bs : List ℕ) → n ≡ (M.opens (entry line d.kind d.size bs) z).total)
+    → p ≡ (if ltb F.longest_file n then z.first else d.line) → some p ≡ over_limit (M.opens d z) d true
+faulty_opens d z {n} e f =
+    let t = e d.line d.body ∙ ap (λ y. y.total) (sym (opens-entry d z)) in
+    sym (faulty_over (M.opens d z) d
+    ∙ ap (λ m. some (if ltb F.longest_file m then (M.opens d z).first else d.line)) (sym t)
+    ∙ ap (λ m. some (if ltb F.longest_file n then m else d.line)) (opens_first d z) ∙ ap some (sym f))
 
-pub declaring_levels : (n : ℕ) (s : Sheet) → (declaring n s).levels ≡ s.levels
-unfolding declaring
-declaring_levels n s = if_has (λ (x : Sheet). x.levels ≡ s.levels) (ltb M.DECLARED (s.declared + n)) refl refl
+-- WHAT IS OPEN AND KEPT stays short.
+keeping_length : (o : Option M.Kept) (ls : List M.Level) → length (M.keeping o ls) ≡ length ls
+keeping_length o [] = refl
+keeping_length o (l ∷ ls) = refl
 
--- The same levels, and the same sizes that are kept.
-pub as_short : (a b : ℕ) (ks : List ℕ) → a ≡ b → ((k : ℕ) → k < b → get_or ks k 0 ≤ KEPT) → (k : ℕ) → k < a → get_or ks k 0 ≤ KEPT
-as_short a b ks e h k l = h k (omega (arith, e))
+keeping_short : (o : Option M.Kept) (ls : List M.Level) → ShortKept o → AllOf Short ls → AllOf Short (M.keeping o ls)
+keeping_short o [] j h = tt
+keeping_short o (l ∷ ls) j h = (j, h.1)
 
--- WHAT IS SHOWN of a sheet and of a draft.
-pub seen_shown : (s : Sheet) (m : Lent) → (sheet_of s m).seen ≡ s.seen
-unfolding sheet_of
-seen_shown s m = refl
+outer_short : (ls : List M.Level) → AllOf Short ls → AllOf Short (M.outer ls)
+outer_short [] h = tt
+outer_short (l ∷ ls) h = h.1
 
-pub total_shown : (s : Sheet) (m : Lent) → (sheet_of s m).total ≡ s.total
-unfolding sheet_of
-total_shown s m = refl
+outer_length : (ls : List M.Level) → length (M.outer ls) ≤ length ls
+outer_length [] = omega arith
+outer_length (l ∷ ls) = omega arith
 
-pub line_shown : (d : Draft) (bs ws : List ℕ) → (draft_of d bs ws).line ≡ d.line
-unfolding draft_of
-line_shown d bs ws = refl
+stands_levels : (k : ℕ) (bs : List ℕ) (z : M.Sheet) → (M.stands k bs z).levels ≡ z.levels
+unfolding M.stands
+stands_levels k bs z =
+    if_has (λ (x : M.Sheet). x.levels ≡ z.levels)
+    (leb F.most_actions (length z.pieces) || ltb F.longest_file (z.staged + length (headed k bs))) refl refl
 
--- A step by what it is told that the record is; and one that no limit stops.
-pub steps_as : {want : M.Sheet} {r : Staged} {m : Lent} (d : E.Draft) {f g : Bool} → f ≡ g → Steps (over_limit want d f) want r m
-    → Steps (over_limit want d g) want r m
-steps_as {want} d e h = record { cut = h.cut ∙ ap (over_limit want d) e; same = h.same; sound = h.sound }
+counts_levels : (d : E.Draft) (z : M.Sheet) → (M.counts d z).levels ≡ z.levels
+unfolding M.counts
+counts_levels d z = if_has (λ (x : M.Sheet). x.levels ≡ z.levels) (leb z.last_block (M.innermost z.levels)) refl refl
 
-pub steps_on : {want : M.Sheet} {r : Staged} {m : Lent} (s : Sheet) → r.sheet ≡ s → r.over ≡ false → Turns want s m
-    → Steps none want r m
-steps_on {want} {r} {m} s e f h =
+acts_levels : (d : E.Draft) (z : M.Sheet) → (M.acts d z).levels ≡ z.levels
+unfolding M.acts
+acts_levels d z = stands_levels d.kind d.body (M.counts d z) ∙ counts_levels d z
+
+declares_levels : (d : E.Draft) (z : M.Sheet) → (M.declares d z).levels ≡ z.levels
+unfolding M.declares M.declaring
+declares_levels d z =
+    if_has (λ (x : M.Sheet). x.levels ≡ z.levels) (ltb M.DECLARED (length z.declared + length (headed d.kind d.body))) refl refl
+
+pub done_levels : (d : E.Draft) (z : M.Sheet) → (done d z).levels ≡ z.levels
+done_levels d z =
+    if_has (λ (x : M.Sheet). x.levels ≡ z.levels) (is_declaration d) (declares_levels d z) (acts_levels d z)
+
+pub done_short : (d : E.Draft) (z : M.Sheet) → AllOf Short z.levels → AllOf Short (done d z).levels
+done_short d z h = rw (done_levels d z) h
+
+pub opens_short : (d : E.Draft) (z : M.Sheet) → length d.body ≤ KEPT → AllOf Short z.levels → AllOf Short (M.opens d z).levels
+unfolding M.opens M.braces M.tries
+opens_short d z l h = (
+  tt,
+  if_has (λ (x : M.Sheet). AllOf Short x.levels) (eqb d.kind K.TRY)
+      (keeping_short (some (record { line = d.line; body = d.body })) _ l (rw (branching (M.kept_in z.levels)) h))
+      (rw (acts_levels d z) h),
+)
+  where
+    branching : (o : Option M.Kept) → (M.branches d o z).levels ≡ z.levels
+    branching none = counts_levels d z
+    branching (some x) = refl
+
+pub sound_settled : (z : M.Sheet) → Sound z → Sound (M.settled z)
+unfolding M.settled
+sound_settled z h = go (M.kept_in z.levels)
+  where
+    go : (o : Option M.Kept) → Sound (M.let_go o z)
+    go none = h
+    go (some x) =
+        let t = stands_total K.TRY x.body z in
+        let l = stands_levels K.TRY x.body z in
+        record {
+          roomy = omega (arith, t.0, h.roomy);
+          shallow = rw (keeping_length none (M.stands K.TRY x.body z).levels, l) h.shallow;
+          short = keeping_short none (M.stands K.TRY x.body z).levels tt (rw l h.short);
+        }
+
+sound_closed : (z : M.Sheet) → Sound z → Sound (M.closed z)
+unfolding M.closed
+sound_closed z h =
+    let t = sound_settled z h in
     record {
-      cut = ap (λ b. if b then some r.place else none) f;
-      same = λ q. ap (λ u. sheet_of u m) e ∙ h.same;
-      sound = λ q. subst (λ (u : Sheet). Sound u m) (sym e) h.sound;
+      roomy = t.roomy;
+      shallow = omega (arith, outer_length (M.settled z).levels, t.shallow);
+      short = outer_short (M.settled z).levels t.short;
     }
 
--- The same sheet in other words.
-pub steps_to : {want have : M.Sheet} {r : Staged} {m : Lent} (d : E.Draft) (f : Bool) → want ≡ have
-    → Steps (over_limit want d f) want r m → Steps (over_limit have d f) have r m
-steps_to d f e h =
-    record { cut = h.cut ∙ ap (λ z. over_limit z d f) e; same = λ q. h.same q ∙ e; sound = h.sound }
+pub sound_behind : (z : M.Sheet) (t : Token) → Sound z → Sound (behind z t)
+sound_behind z t h =
+    if_has Sound (eqb (mark_in t) T.RB) (sound_closed z h) (if_has Sound (eqb (mark_in t) T.ETRY) h (sound_settled z h))
 
-pub turns_to : {want have : M.Sheet} {s : Sheet} {m : Lent} → want ≡ have → Turns want s m → Turns have s m
-turns_to e h = record { same = h.same ∙ e; sound = h.sound }
+pub sound_first : (z : M.Sheet) (p : ℕ) → Sound z → Sound (if eqb z.total 0 then M.with_first z p else z)
+sound_first z p h =
+    if_has Sound (eqb z.total 0) (record { roomy = h.roomy; shallow = h.shallow; short = h.short }) h
+
+-- A CLASS.
+pub classes_levels : (p b : ℕ) (z : M.Sheet) → (M.classes p b z).levels ≡ z.levels
+unfolding M.classes M.declaring M.classed
+classes_levels p b z = go (leb F.most_classes (length z.class_at))
+  where
+    t : M.Sheet
+    t = M.with_total z (more z.seen K.CLASS 1) M.class_bytes
+
+    go : (c : Bool) → (M.declaring (headed K.CLASS (two b)) (if c then M.filled t
+        else M.with_class t (z.class_at ++ ((length z.declared + 4) ∷ [])) (z.class_line ++ (p ∷ [])) (length z.class_at))).levels
+        ≡ z.levels
+    go true = if_has (λ (x : M.Sheet). x.levels ≡ z.levels) (ltb M.DECLARED (length z.declared + length (headed K.CLASS (two b)))) refl refl
+    go false = if_has (λ (x : M.Sheet). x.levels ≡ z.levels) (ltb M.DECLARED (length z.declared + length (headed K.CLASS (two b)))) refl refl
+
+classes_seen : (p b : ℕ) (z : M.Sheet) → (M.classes p b z).seen ≡ more z.seen K.CLASS 1
+unfolding M.classes M.declaring M.classed
+classes_seen p b z = go (leb F.most_classes (length z.class_at))
+  where
+    t : M.Sheet
+    t = M.with_total z (more z.seen K.CLASS 1) M.class_bytes
+
+    go : (c : Bool) → (M.declaring (headed K.CLASS (two b)) (if c then M.filled t
+        else M.with_class t (z.class_at ++ ((length z.declared + 4) ∷ [])) (z.class_line ++ (p ∷ [])) (length z.class_at))).seen
+        ≡ more z.seen K.CLASS 1
+    go true = if_has (λ (x : M.Sheet). x.seen ≡ more z.seen K.CLASS 1) (ltb M.DECLARED (length z.declared + length (headed K.CLASS (two b)))) refl refl
+    go false = if_has (λ (x : M.Sheet). x.seen ≡ more z.seen K.CLASS 1) (ltb M.DECLARED (length z.declared + length (headed K.CLASS (two b)))) refl refl
+
+pub classes_blocks : (p b : ℕ) (z : M.Sheet) → M.blocks_of (M.classes p b z) ≡ M.blocks_of z
+classes_blocks p b z =
+    ap (λ xs. get_or xs K.BLOCK 0) (classes_seen p b z)
+    ∙ get_or-set_other z.seen K.CLASS K.BLOCK (get_or z.seen K.CLASS 0 + 1) 0 (λ e. omega (arith, e))
+
+pub bodied_same : (c b : ℕ) (z : M.Sheet) → ((M.bodied c b z).levels ≡ z.levels) × (M.blocks_of (M.bodied c b z) ≡ M.blocks_of z)
+unfolding M.bodied
+bodied_same c b z = (refl, refl)
+
+pub braces_short : (z : M.Sheet) → AllOf Short z.levels → AllOf Short (M.braces z).levels
+unfolding M.braces
+braces_short z h = (tt, h)
+
+pub short_class : (t : Bool) (c p b : ℕ) (z : M.Sheet) → AllOf Short z.levels
+    → AllOf Short (if t then M.bodied c b z else M.classes p b z).levels
+short_class true c p b z h = rw (bodied_same c b z).0 h
+short_class false c p b z h = rw (classes_levels p b z) h
+
+-- BY THE DRAFT'S parts.
+module _ (d : E.Draft) (z : M.Sheet) (s : d.size ≡ length d.body) where
+  pub done_declares : d.kind < K.ACTION → M.declares (entry 0 d.kind (length d.body) d.body) z ≡ done d z
+  done_declares h =
+      rw (lt-ltb d.kind K.ACTION h)
+      (ap (λ n. M.declares (entry 0 d.kind n d.body) z) (sym s) ∙ sym (declares-entry d z))
+
+  pub done_acts : K.ACTION ≤ d.kind → M.acts (entry d.line d.kind (length d.body) d.body) z ≡ done d z
+  done_acts h =
+      rw (le-ltb d.kind K.ACTION h)
+      (ap (λ n. M.acts (entry d.line d.kind n d.body) z) (sym s) ∙ sym (acts-entry d z))
+
+  pub opens_by : M.opens (entry d.line d.kind (length d.body) d.body) z ≡ M.opens d z
+  opens_by = ap (λ n. M.opens (entry d.line d.kind n d.body) z) (sym s) ∙ sym (opens-entry d z)
+
+-- THE LIMITS, one by one.
+module _ (z : M.Sheet) (line : ℕ) (d : E.Draft) (e : d.line ≡ line) where
+  pub limit_total : F.longest_file < z.total → some z.first ≡ over_limit z d false
+  unfolding over_limit
+  limit_total h = rw (lt-ltb F.longest_file z.total h)
+
+  module _ (l : z.total ≤ F.longest_file) where
+    pub limit_classes : F.most_classes < get_or z.seen K.CLASS 0 → some line ≡ over_limit z d false
+    unfolding over_limit
+    limit_classes h =
+        rw (le-ltb F.longest_file z.total l, lt-ltb F.most_classes (get_or z.seen K.CLASS 0) h) (ap some (sym e))
+
+    module _ (c : get_or z.seen K.CLASS 0 ≤ F.most_classes) where
+      pub limit_actions : F.most_actions < get_or z.seen K.ACTION 0 → some z.last_line ≡ over_limit z d false
+      unfolding over_limit
+      limit_actions h =
+          rw (
+            le-ltb F.longest_file z.total l,
+            le-ltb F.most_classes (get_or z.seen K.CLASS 0) c,
+            lt-ltb F.most_actions (get_or z.seen K.ACTION 0) h,
+          )
+
+      module _ (a : get_or z.seen K.ACTION 0 ≤ F.most_actions) where
+        pub limit_blocks : F.most_blocks < get_or z.seen K.BLOCK 0 → some line ≡ over_limit z d false
+        unfolding over_limit
+        limit_blocks h =
+            rw (
+              le-ltb F.longest_file z.total l,
+              le-ltb F.most_classes (get_or z.seen K.CLASS 0) c,
+              le-ltb F.most_actions (get_or z.seen K.ACTION 0) a,
+              lt-ltb F.most_blocks (get_or z.seen K.BLOCK 0) h,
+            ) (ap some (sym e))
+
+        module _ (b : get_or z.seen K.BLOCK 0 ≤ F.most_blocks) where
+          pub limit_depth : F.deepest < length z.levels → some (get_or z.class_line z.current 0) ≡ over_limit z d false
+          unfolding over_limit
+          limit_depth h =
+              rw (
+                le-ltb F.longest_file z.total l,
+                le-ltb F.most_classes (get_or z.seen K.CLASS 0) c,
+                le-ltb F.most_actions (get_or z.seen K.ACTION 0) a,
+                le-ltb F.most_blocks (get_or z.seen K.BLOCK 0) b,
+                lt-ltb F.deepest (length z.levels) h,
+              )
+
+          pub limit_full : length z.levels ≤ F.deepest → (t : Bool) → z.full ≡ t
+              → (if t then some 0 else none) ≡ over_limit z d false
+          unfolding over_limit
+          limit_full h t f =
+              rw (
+                le-ltb F.longest_file z.total l,
+                le-ltb F.most_classes (get_or z.seen K.CLASS 0) c,
+                le-ltb F.most_actions (get_or z.seen K.ACTION 0) a,
+                le-ltb F.most_blocks (get_or z.seen K.BLOCK 0) b,
+                le-ltb F.deepest (length z.levels) h,
+                f,
+              )
+
+-- A STEP that is told by its limits.
+pub steps_by : {z want : M.Sheet} (d : E.Draft) {f : Bool} (r : Result (Unit {0}) ℕ) → z ≡ want → cut_of r ≡ over_limit z d false
+    → false ≡ f → OnOk r ((z.total < FULL) × (length z.levels ≤ F.deepest)) → AllOf Short want.levels
+    → Steps (over_limit want d f) want r z
+steps_by {z} {want} d {f} (Ok x) e c n s h =
+    record {
+      cut = c ∙ ap (λ y. over_limit y d false) e ∙ ap (over_limit want d) n;
+      same = e;
+      sound = record { roomy = s.0; shallow = s.1; short = rw e h };
+    }
+steps_by {z} {want} d {f} (Err p) e c n s h =
+    record { cut = c ∙ ap (λ y. over_limit y d false) e ∙ ap (over_limit want d) n; same = tt; sound = tt }

@@ -2,10 +2,10 @@
 use Prim.Native.Nat.{ℕ, ◌≤◌, ◌<◌}
 use native.Mathlib.Omega.{arith}
 use mathlib.Core.Path.{◌≡◌, refl, sym, ◌∙◌, ap}
-use mathlib.Core.List.{List, []}
+use mathlib.Core.List.{List}
 use mathlib.Core.Bool.{Bool, true, false, not, ◌&&◌, ◌||◌}
 use lib.Dec.{eqb, leb}
-use lib.ListN.{length, get_or, take, length-take}
+use lib.ListN.{length, get_or}
 use borrow.Author.Tests.{leb-true, leb-false, ltb-true, ne_eqb, not-false}
 use Rattle.semantics.specs.Words.{Outcome, ok, Passed, passed, ◌>>◌, need}
 use Rattle.semantics.specs.Numbers as F
@@ -17,12 +17,10 @@ use Rattle.base_numbers.specs.Byte as Byte
 use Rattle.file_check_record.specs.Rows.{number_of}
 use Rattle.file_check_record.proofs.Table.{row_past}
 use Rattle.text_machine.specs.Sheet as M
-use Rattle.text_machine.specs.Machine.{passes, faulty}
-use Rattle.text_agrees.specs.Goodness.{not_faulty}
-use Rattle.text_entry.specs.declared.Draft.{Draft}
-use Rattle.text_entry.specs.Draft.{draft_of, body_in, BODY, MOST}
+use Rattle.text_machine.specs.Entry.{Draft}
+use Rattle.text_machine.specs.Machine.{passes, faulty, counts_for}
+use Rattle.text_entry.specs.Draft.{MOST}
 use Rattle.text_reader.specs.Cut.{counts_of}
-use Rattle.text_reader.specs.Sheets.{Right}
 
 never : {A : Type 0} → ◌≡◌ {A = Bool} true false → A
 never e = let z : ◌≡◌ {A = ℕ} 0 1 = cc in absurd (omega arith)
@@ -93,43 +91,16 @@ try_branches bs e =
     omega (arith, leb-true (u16 bs 0) F.most_branches d.1)
 
 -- THE DRAFT'S RECORD.
-pub faulty_shown : (z : M.Sheet) (d : Draft) (bs ws : List ℕ) → d.over ≡ false
-    → not (eqb (number_of (judged (counts_of z.seen d.kind) d.kind (take d.size bs))) 0) ≡ faulty z (draft_of d bs ws)
-unfolding faulty draft_of
-faulty_shown z d bs ws o =
-    ap not (sym (told_passes (counts_of z.seen d.kind) d.kind (take d.size bs)))
-    ∙ ap (λ b. b || not (passes (judged (counts_of z.seen d.kind) d.kind (body_in b d.size bs)))) (sym o)
+pub faulty_full : (z : M.Sheet) (d : Draft) → d.over ≡ true → true ≡ faulty z d
+unfolding faulty
+faulty_full z d o = ap (λ b. b || not (passes (judged (counts_for z d) d.kind d.body))) (sym o)
 
-pub faulty_full : (z : M.Sheet) (d : Draft) (bs ws : List ℕ) → d.over ≡ true → true ≡ faulty z (draft_of d bs ws)
-unfolding faulty draft_of
-faulty_full z d bs ws o =
-    ap (λ b. b || not (passes (judged (counts_of z.seen d.kind) d.kind (body_in b d.size bs)))) (sym o)
+pub faulty_judged : (z : M.Sheet) (d : Draft) → d.over ≡ false
+    → not (eqb (number_of (judged (counts_of z.seen d.kind) d.kind d.body)) 0) ≡ faulty z d
+unfolding faulty
+faulty_judged z d o =
+    ap not (sym (told_passes (counts_of z.seen d.kind) d.kind d.body))
+    ∙ ap (λ b. b || not (passes (judged (counts_of z.seen d.kind) d.kind d.body))) (sym o)
 
-pub right_full : (d : Draft) (bs : List ℕ) → Right true d bs
-right_full d bs =
-    record { kept = λ e. never e; small = λ e. never e; tried = λ e. never e; wide = λ e. never e }
-
-pub right_judged : (seen : List ℕ) (d : Draft) (bs : List ℕ) (r : Bool) → d.over ≡ false → length bs ≡ BODY
-    → r ≡ not (eqb (number_of (judged (counts_of seen d.kind) d.kind (take d.size bs))) 0) → Right r d bs
-unfolding draft_of
-right_judged seen d bs r o l e =
-    record {
-      kept = λ f. o;
-      small = λ f. kind_small (counts_of seen d.kind) d.kind (take d.size bs) (is f);
-      tried = λ f k. more f k;
-      wide = λ f. l;
-    }
-  where
-    is : r ≡ false → passes (judged (counts_of seen d.kind) d.kind (take d.size bs)) ≡ true
-    is f =
-        told_passes (counts_of seen d.kind) d.kind (take d.size bs) ∙ not-false _ (sym e ∙ f)
-
-    more : r ≡ false → d.kind ≡ K.TRY → 0 < d.size
-    more f k =
-        let j = (not_faulty (M.with_total M.blank seen 0) (draft_of d bs []) (sym (faulty_shown (M.with_total M.blank seen 0) d bs
-        [] o) ∙ sym e ∙ f)).1 in
-        let b : 2 ≤ length (take d.size bs) =
-        try_bytes (take d.size bs)
-        (ap (λ n. body_judged (row_of n) (take d.size bs)) (sym k) ∙ ap (λ t. body_judged (row_of d.kind) (body_in t d.size
-        bs)) (sym o) ∙ j) in
-        omega (arith, b, length-take d.size bs)
+pub right_kind : (seen : List ℕ) (k : ℕ) (bs : List ℕ) → not (eqb (number_of (judged seen k bs)) 0) ≡ false → k < Byte.TWO
+right_kind seen k bs e = kind_small seen k bs (told_passes seen k bs ∙ not-false _ e)

@@ -5,7 +5,6 @@ use mathlib.Core.Path.{◌≡◌, refl, sym, ◌∙◌, ap}
 use mathlib.Core.List.{List}
 use mathlib.Core.Bool.{Bool, true, false}
 use lib.Dec.{eqb}
-use lib.ListN.{length, get_or}
 use borrow.Author.Tests.{eqb-true}
 use Rattle.semantics.specs.Kinds as K
 use Rattle.promises.specs.Laws.{and-true}
@@ -14,39 +13,19 @@ use Rattle.text_semantics.specs.Meaning.{kind_of, number_of}
 use Rattle.text_semantics.specs.Reading.{Symbol, body_s}
 use Rattle.text_machine.specs.Entry as M
 use Rattle.text_machine.specs.Entry.{drafted, name_in}
-use Rattle.text_machine.specs.Sheet.{resumed, kept_in}
+use Rattle.text_machine.specs.Sheet.{resumed, kept_in, blocks_of}
 use Rattle.text_machine.specs.Codes as C
 use Rattle.text_machine.specs.Codes.{token_of}
-use Rattle.text_machine.specs.Machine.{Reader, draft_after}
-use Rattle.text_entry.specs.Draft.{draft_of}
+use Rattle.text_machine.specs.Machine.{Reader, draft_after, is_known}
 use Rattle.text_names.specs.Table.{part_of}
-use Rattle.text_sheet.specs.declared.Sheet.{Sheet}
-use Rattle.text_sheet.specs.Shown.{Lent, sheet_of, levels_of}
-use Rattle.text_reader.specs.Shown.{Memory, reader_of, known_in}
 use Rattle.text_reader.specs.Sorts as Sort
-use Rattle.text_reader.specs.Sorts.{sort_of, calls_by}
+use Rattle.text_reader.specs.Sorts.{sort_of, calls_by, sheet_by}
+use Rattle.text_reader.specs.Named.{number_if}
+use Rattle.text_reader.specs.Sheets.{is_class, class_of}
+use Rattle.std.specs.Prelude as Code
+use Rattle.std.specs.Prelude.{Some, None}
 use Rattle.text_reader.proofs.Troubles.{name_is}
-use Rattle.text_reader.proofs.Cuts.{levels_length}
 use Rattle.text_reader.proofs.Before.{is_body}
-
-pub levels_shown : (s : Sheet) (m : Lent) → s.levels ≡ length (sheet_of s m).levels
-unfolding sheet_of
-levels_shown s m = sym (levels_length m.level_block m.kept_line m.kept_size m.kept_body s.levels)
-
--- THE DRAFT.
-pub draft_shown : (bs : List ℕ) (m : Memory) (s : Symbol) (t : Token) (p w i : ℕ) (d : M.Draft)
-    → w ≡ kind_of (known_in bs m.names) (name_in t) → i ≡ number_of (known_in bs m.names) (name_in t)
-    → d ≡ drafted w i (get_or m.sheet.seen K.BLOCK 0) p (resumed (kept_in (levels_of m.lent.level_block m.lent.kept_line
-    m.lent.kept_size m.lent.kept_body m.sheet.levels))) s t (draft_of m.draft m.body m.starts)
-    → d ≡ draft_after (reader_of bs m) s t p
-unfolding draft_after sheet_of
-draft_shown bs m s t p w i d e f g =
-    let kept = resumed (kept_in (levels_of m.lent.level_block m.lent.kept_line m.lent.kept_size m.lent.kept_body
-    m.sheet.levels)) in
-    g
-    ∙ ap (λ x. drafted x i (get_or m.sheet.seen K.BLOCK 0) p kept s t (draft_of m.draft m.body m.starts)) e
-    ∙ ap (λ x. drafted (kind_of (known_in bs m.names) (name_in t)) x (get_or m.sheet.seen K.BLOCK 0) p kept s t
-    (draft_of m.draft m.body m.starts)) f
 
 body_draft : (r : Reader) (t : Token) (p : ℕ) → draft_after r body_s t p ≡ r.draft
 unfolding draft_after drafted
@@ -77,3 +56,24 @@ pub either_fits : (t : Bool) (p e q f n : ℕ) → p ≤ e → e ≤ n → q ≤
     → ((if t then p else q) ≤ (if t then e else f)) × ((if t then e else f) ≤ n)
 either_fits true p e q f n a b c d = (a, b)
 either_fits false p e q f n a b c d = (c, d)
+
+-- THE DRAFT, and the sheet, by what was found of the names.
+pub drafts_by : (r : Reader) (s : Symbol) (t : Token) (p w i : ℕ) {d : M.Draft} → w ≡ kind_of r.known (name_in t)
+    → i ≡ number_of r.known (name_in t)
+    → d ≡ drafted w i (blocks_of r.sheet) p (resumed (kept_in r.sheet.levels)) s t r.draft → d ≡ draft_after r s t p
+unfolding draft_after
+drafts_by r s t p w i e f g =
+    g ∙ ap (λ y. drafted y i (blocks_of r.sheet) p (resumed (kept_in r.sheet.levels)) s t r.draft) e
+    ∙ ap (λ y. drafted (kind_of r.known (name_in t)) y (blocks_of r.sheet) p (resumed (kept_in r.sheet.levels)) s t r.draft) f
+
+pub class_sheet : (n : ℕ) (r : Reader) (d : M.Draft) (t : Token) (p : ℕ) (o : Code.Option ℕ) → o ≡ number_if r.known r.called
+    → sheet_by n r.sheet (is_class o) (class_of o) r.draft.line d t p
+    ≡ sheet_by n r.sheet (is_known r) (number_of r.known r.called) r.draft.line d t p
+class_sheet n r d t p o e = rw e (go (is_known r))
+  where
+    go : (b : Bool)
+        → sheet_by n r.sheet (is_class (if b then Some (number_of r.known r.called) else None))
+        (class_of (if b then Some (number_of r.known r.called) else None)) r.draft.line d t p
+        ≡ sheet_by n r.sheet b (number_of r.known r.called) r.draft.line d t p
+    go true = refl
+    go false = refl

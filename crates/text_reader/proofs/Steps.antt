@@ -1,19 +1,14 @@
 -- One token, as the machine has it, by what each part of the reader finds. Assumes nothing.
 use Rattle.std.specs.Prelude.{if◌then◌else◌}
 use Prim.Native.Nat.{ℕ}
-use native.Mathlib.Omega.{arith}
-use mathlib.Core.Path.{◌≡◌, refl, sym, ◌∙◌, ap}
+use mathlib.Core.Path.{◌≡◌, sym, ◌∙◌, ap}
 use mathlib.Core.List.{List}
-use mathlib.Core.Bool.{Bool, true, false, not}
-use mathlib.Core.Option.{Option, none, some}
+use mathlib.Core.Option.{none, some}
 use lib.ListN.{length}
-use Rattle.semantics.specs.Words.{any}
 use Rattle.text_semantics.specs.Numbers as No
 use Rattle.text_semantics.specs.Token.{Token}
 use Rattle.text_semantics.specs.Lexing.{Placed}
-use Rattle.text_semantics.specs.Names as N
-use Rattle.text_semantics.specs.Names.{Known, Event, asks, declares, announces, embodies, leaves, wanting, trouble}
-use Rattle.text_semantics.specs.Names.{fits, awaited}
+use Rattle.text_semantics.specs.Names.{trouble}
 use Rattle.text_semantics.specs.Meaning.{number_of}
 use Rattle.text_semantics.specs.Reading.{Symbol}
 use Rattle.text_machine.specs.Entry.{Draft, name_in}
@@ -23,28 +18,9 @@ use Rattle.text_machine.specs.Machine.{cut_at}
 use Rattle.text_machine.specs.Machine.{after, calls, known_after, is_known}
 use Rattle.text_pile.specs.Pile.{turned_of}
 use Rattle.text_pile.specs.Laws.{top_of, by_pile, on_pile_lem}
-use Rattle.text_names.specs.Table.{told}
 use Rattle.text_reader.specs.Sorts.{sort_of, event_by, event_by_lem, trouble_place, place_by, known_by, known_by_lem, sheet_by}
 use Rattle.text_reader.specs.Sorts.{sheet_by_lem}
 use Rattle.text_reader.specs.Sorts.{cut_by, cut_by_lem, calls_by, calls_by_lem}
-
--- A trouble that is told as 0 is none, and any other is itself.
-wanting-none : (n : ℕ) (b : Bool) → (n ≡ 0 → ⊥) → 0 ≡ told (wanting n b) → wanting n b ≡ none
-wanting-none n true h e = refl
-wanting-none n false h e = absurd (h (sym e))
-
-told_none : (ks : List Known) (e : Event) → 0 ≡ told (trouble ks e) → trouble ks e ≡ none
-unfolding trouble
-told_none ks (asks ws x) h = wanting-none No.UNKNOWN (any (fits ws x) ks) (λ q. omega (arith, q)) h
-told_none ks (declares w x) h = wanting-none No.AGAIN (not (any (N.named x) ks)) (λ q. omega (arith, q)) h
-told_none ks (announces x) h = wanting-none No.AGAIN (not (any (N.named x) ks)) (λ q. omega (arith, q)) h
-told_none ks (embodies x) h =
-    wanting-none No.AGAIN (if any (awaited x) ks then true else not (any (N.named x) ks)) (λ q. omega (arith, q)) h
-told_none ks leaves h = refl
-
-told-some : (o : Option ℕ) (n : ℕ) → n ≡ told o → (n ≡ 0 → ⊥) → o ≡ some n
-told-some none n e h = absurd (h e)
-told-some (some m) n e h = ap some (sym e)
 
 module _ (r : Reader) (t : Token) (p : ℕ) where
   abbrev placed : Placed
@@ -65,15 +41,14 @@ module _ (r : Reader) (t : Token) (p : ℕ) where
     same_event : event_at r s t ≡ event_by sort r.draft.role r.called t
     same_event = event_by_lem r s t ∙ ap (λ n. event_by n r.draft.role r.called t) (sym so)
 
-    pub turned-trouble : {n : ℕ} → n ≡ told (trouble r.known (event_by sort r.draft.role r.called t))
-        → (n ≡ 0 → ⊥) → turned r placed ≡ stops n (trouble_place sort r.called_at p)
-    turned-trouble {n} f h =
+    pub turned-trouble : {n : ℕ} → trouble r.known (event_by sort r.draft.role r.called t) ≡ some n
+        → turned r placed ≡ stops n (trouble_place sort r.called_at p)
+    turned-trouble {n} f =
         by_name
-        ∙ ap (named r zs s t p)
-        (told-some (trouble r.known (event_at r s t)) n (f ∙ ap (λ x. told (trouble r.known x)) (sym same_event)) h)
+        ∙ ap (named r zs s t p) (ap (trouble r.known) same_event ∙ f)
         ∙ ap (stops n) (place_by r s p ∙ ap (λ x. trouble_place x r.called_at p) (sym so))
 
-    module _ (f : 0 ≡ told (trouble r.known (event_by sort r.draft.role r.called t))) (d : Draft)
+    module _ (f : trouble r.known (event_by sort r.draft.role r.called t) ≡ none) (d : Draft)
         (drafts : d ≡ draft_after r s t p) (z : Sheet)
         (sheets : z ≡ sheet_by sort r.sheet (is_known r) (number_of r.known r.called) r.draft.line d t p) where
       by_cut : turned r placed ≡ gone_on r d z zs s t p (cut_by sort r.sheet d t z)
@@ -85,8 +60,7 @@ module _ (r : Reader) (t : Token) (p : ℕ) where
           let c : cut_at r d s t z ≡ cut_by sort r.sheet d t z =
           cut_by_lem r d s t z ∙ ap (λ n. cut_by n r.sheet d t z) (sym so) in
           by_name
-          ∙ ap (named r zs s t p)
-          (told_none r.known (event_at r s t) (f ∙ ap (λ x. told (trouble r.known x)) (sym same_event)))
+          ∙ ap (named r zs s t p) (ap (trouble r.known) same_event ∙ f)
           ∙ ap (λ x. gone_on r x (sheet_after r x s t p) zs s t p (cut_at r x s t (sheet_after r x s t p))) (sym drafts)
           ∙ ap (λ y. gone_on r d y zs s t p (cut_at r d s t y)) (sym w)
           ∙ ap (gone_on r d z zs s t p) c

@@ -1,24 +1,27 @@
 -- Trouble with a name, by the sort of what was still to come. Assumes nothing.
-use Rattle.std.specs.Prelude.{if◌then◌else◌}
+use Rattle.std.specs.Prelude.{if◌then◌else◌, Result}
+use Rattle.std.specs.Prelude as Code
+use mathlib.Core.Option.{none}
 use Prim.Native.Nat.{ℕ, ◌-◌, ◌≤◌, ◌<◌}
 use native.Mathlib.Omega.{arith}
 use mathlib.Core.Path.{◌≡◌, refl, sym, ◌∙◌, ap}
 use mathlib.Core.List.{List, [], ◌∷◌}
 use mathlib.Core.Bool.{Bool, true, false}
 use lib.Dec.{eqb, leb}
-use borrow.Author.Tests.{ne_eqb, le-leb, lt-leb, leb-false}
+use borrow.Author.Tests.{ne_eqb, le-leb, lt-leb, leb-false, eqb-true, eqb-false}
 use Rattle.semantics.specs.Kinds as K
 use Rattle.text_semantics.specs.Token as T
 use Rattle.text_semantics.specs.Token.{name, number, mark, bad}
 use Rattle.text_semantics.specs.Grammar.{Name}
-use Rattle.text_semantics.specs.Names.{Known, Event, asks, declares, announces, embodies, leaves, trouble, LOCAL}
+use Rattle.text_semantics.specs.Names.{Known, Event, asks, declares, announces, embodies, leaves, trouble}
 use Rattle.text_machine.specs.Entry.{ASK, mark_in, name_in}
 use Rattle.text_machine.specs.Codes.{NUMBER, NAME, token_of}
 use Rattle.text_machine.specs.Machine.{asked, of_name}
 use Rattle.text_names.specs.declared.Found.{Found}
-use Rattle.text_names.specs.Table.{Distinct, found_of, told}
-use Rattle.text_names.specs.Trouble.{asked_of, declared_of, embodied_of, asked_trouble, embodied_trouble, declared_trouble}
-use Rattle.text_names.specs.Trouble.{announced_trouble, asks_one, asks_two}
+use Rattle.text_names.specs.declared.Trouble.{Trouble}
+use Rattle.text_names.specs.Table.{Distinct, found_of}
+use Rattle.text_names.specs.Trouble.{told, asked_of, declared_of, embodied_of, asked_trouble, embodied_trouble}
+use Rattle.text_names.specs.Trouble.{declared_trouble, announced_trouble}
 use Rattle.text_reader.specs.Sorts as Sort
 use Rattle.text_reader.specs.Sorts.{name_event, event_by}
 
@@ -63,46 +66,48 @@ no_name k v x f h =
     ∙ name_by k v x f (leb k T.END) (eqb k NUMBER)
 
 -- AT A NAME that has to come.
-module _ (ks : List Known) (x : Name) (d : Distinct ks) (role : ℕ) {f : Found} (e : f ≡ found_of ks x) where
-  pub role_asks : ASK ≤ role → {r : ℕ} → r ≡ asked_of f (role - ASK) (role - ASK) (role - ASK) → r ≡ told (trouble ks (asked
-      role x))
+module _ (ks : List Known) (x : Name) (d : Distinct ks) (role : ℕ) {f : Code.Option Found} (e : f ≡ found_of ks x) where
+  pub role_asks : ASK ≤ role → {r : Result (Unit {0}) Trouble} → r ≡ asked_of f ((role - ASK) ∷ [])
+      → told r ≡ trouble ks (asked role x)
   role_asks h q =
       let w : ℕ = role - ASK in
-      q ∙ ap (λ g. asked_of g w w w) e ∙ asked_trouble ks x d w w w ∙ ap told (asks_one ks x w w)
-      ∙ ap (λ b. told (trouble ks (if b then asks (w ∷ []) x else if eqb role K.CLASS then embodies x else declares role x)))
+      ap told q ∙ ap (λ g. told (asked_of g (w ∷ []))) e ∙ asked_trouble ks x d (w ∷ [])
+      ∙ ap (λ b. trouble ks (if b then asks (w ∷ []) x else if eqb role K.CLASS then embodies x else declares role x))
       (sym (le-leb ASK role h))
 
-  pub role_embodies : role ≡ K.CLASS → {r : ℕ} → r ≡ embodied_of f → r ≡ told (trouble ks (asked role x))
-  role_embodies h q = q ∙ ap embodied_of e ∙ embodied_trouble ks x d ∙ ap (λ w. told (trouble ks (asked w x))) (sym h)
+  pub role_embodies : role ≡ K.CLASS → {r : Result (Unit {0}) Trouble} → r ≡ embodied_of f → told r ≡ trouble ks (asked role x)
+  role_embodies h q =
+      ap told q ∙ ap (λ g. told (embodied_of g)) e ∙ embodied_trouble ks x d ∙ ap (λ w. trouble ks (asked w x)) (sym h)
 
-  pub role_declares : role < ASK → (role ≡ K.CLASS → ⊥) → {r : ℕ} → r ≡ declared_of f → r ≡ told (trouble ks (asked role x))
+  pub role_declares : role < ASK → (role ≡ K.CLASS → ⊥) → {r : Result (Unit {0}) Trouble} → r ≡ declared_of f
+      → told r ≡ trouble ks (asked role x)
   role_declares h k q =
-      q ∙ ap declared_of e ∙ declared_trouble ks x role
-      ∙ ap (λ b. told (trouble ks (if b then embodies x else declares role x))) (sym (ne_eqb role K.CLASS k))
-      ∙ ap (λ b. told (trouble ks (if b then asks ((role - ASK) ∷ []) x else if eqb role K.CLASS then embodies x
-      else declares role x))) (sym (lt-leb ASK role h))
+      ap told q ∙ ap (λ g. told (declared_of g)) e ∙ declared_trouble ks x role
+      ∙ ap (λ b. trouble ks (if b then embodies x else declares role x)) (sym (ne_eqb role K.CLASS k))
+      ∙ ap (λ b. trouble ks (if b then asks ((role - ASK) ∷ []) x else if eqb role K.CLASS then embodies x
+      else declares role x)) (sym (lt-leb ASK role h))
 
 -- AT ANY TOKEN.
 module _ (ks : List Known) (role v : ℕ) (x y : Name) where
-  pub body_semi : {g : Found} → g ≡ found_of ks y → {r : ℕ} → r ≡ declared_of g
-      → r ≡ told (trouble ks (event_by Sort.BODY role y (token_of T.SEMI v x)))
-  body_semi e q = q ∙ ap declared_of e ∙ announced_trouble ks y
+  pub body_semi : {g : Code.Option Found} → g ≡ found_of ks y → {r : Result (Unit {0}) Trouble} → r ≡ declared_of g
+      → told r ≡ trouble ks (event_by Sort.BODY role y (token_of T.SEMI v x))
+  body_semi e q = ap told q ∙ ap (λ g. told (declared_of g)) e ∙ announced_trouble ks y
 
-  pub body_other : (k : ℕ) → (k ≡ T.SEMI → ⊥) → 0 ≡ told (trouble ks (event_by Sort.BODY role y (token_of k v x)))
+  pub body_other : (k : ℕ) → (k ≡ T.SEMI → ⊥) → none ≡ trouble ks (event_by Sort.BODY role y (token_of k v x))
   unfolding trouble
   body_other k h =
-      ap (λ b. told (trouble ks (if b then announces y else leaves))) (sym (no_mark k v x T.SEMI h (λ e. omega (arith, e))))
+      ap (λ b. trouble ks (if b then announces y else leaves)) (sym (no_mark k v x T.SEMI h (λ e. omega (arith, e))))
 
   pub plain_token : (sort k : ℕ) → (sort ≡ Sort.BODY → ⊥) → (k ≡ NAME → ⊥)
-      → 0 ≡ told (trouble ks (event_by sort role y (token_of k v x)))
+      → none ≡ trouble ks (event_by sort role y (token_of k v x))
   unfolding trouble
   plain_token sort k h n =
-      ap (λ e. told (trouble ks e)) (sym (no_name k v x (name_event sort role) n))
-      ∙ ap (λ b. told (trouble ks (if b then (if eqb (mark_in (token_of k v x)) T.SEMI then announces y else leaves)
-      else of_name (token_of k v x) (name_event sort role)))) (sym (ne_eqb sort Sort.BODY h))
+      ap (λ e. trouble ks e) (sym (no_name k v x (name_event sort role) n))
+      ∙ ap (λ b. trouble ks (if b then (if eqb (mark_in (token_of k v x)) T.SEMI then announces y else leaves)
+      else of_name (token_of k v x) (name_event sort role))) (sym (ne_eqb sort Sort.BODY h))
 
   pub other_sort : (sort : ℕ) → (sort ≡ Sort.BODY → ⊥) → (sort ≡ Sort.NAMED → ⊥) → (sort ≡ Sort.VALUE → ⊥)
-      → (sort ≡ Sort.VARIABLE → ⊥) → (sort ≡ Sort.BLOCK → ⊥) → 0 ≡ told (trouble ks (event_by sort role y (token_of NAME v x)))
+      → (sort ≡ Sort.VARIABLE → ⊥) → (sort ≡ Sort.BLOCK → ⊥) → none ≡ trouble ks (event_by sort role y (token_of NAME v x))
   unfolding trouble
   other_sort sort a b c d e =
       rw (
@@ -113,22 +118,26 @@ module _ (ks : List Known) (role v : ℕ) (x y : Name) where
         ne_eqb sort Sort.BLOCK e,
       )
 
-  module _ (d : Distinct ks) {f : Found} (e : f ≡ found_of ks x) where
-    pub value_asks : {r : ℕ} → r ≡ asked_of f K.VAR LOCAL K.SAMPLER
-        → r ≡ told (trouble ks (event_by Sort.VALUE role y (token_of NAME v x)))
-    value_asks q = q ∙ ap (λ g. asked_of g K.VAR LOCAL K.SAMPLER) e ∙ asked_trouble ks x d K.VAR LOCAL K.SAMPLER
+  -- Neither a semicolon nor a name; and a name where none is looked at.
+  pub no_sign : (sort k : ℕ) → (k ≡ T.SEMI → ⊥) → (k ≡ NAME → ⊥) → none ≡ trouble ks (event_by sort role y (token_of k v x))
+  no_sign sort k h n = go (eqb sort Sort.BODY) refl
+    where
+      go : (b : Bool) → eqb sort Sort.BODY ≡ b → none ≡ trouble ks (event_by sort role y (token_of k v x))
+      go true e = rw (eqb-true sort Sort.BODY e) (body_other k h)
+      go false e = plain_token sort k (eqb-false sort Sort.BODY e) n
 
-    pub variable_asks : {r : ℕ} → r ≡ asked_of f K.VAR K.VAR K.VAR
-        → r ≡ told (trouble ks (event_by Sort.VARIABLE role y (token_of NAME v x)))
-    variable_asks q =
-        q ∙ ap (λ g. asked_of g K.VAR K.VAR K.VAR) e ∙ asked_trouble ks x d K.VAR K.VAR K.VAR ∙ ap told (asks_one ks x K.VAR
-        K.VAR)
+  pub no_name_there : (sort : ℕ) → (sort ≡ Sort.NAMED → ⊥) → (sort ≡ Sort.VALUE → ⊥) → (sort ≡ Sort.VARIABLE → ⊥)
+      → (sort ≡ Sort.BLOCK → ⊥) → none ≡ trouble ks (event_by sort role y (token_of NAME v x))
+  no_name_there sort b c d f = go (eqb sort Sort.BODY) refl
+    where
+      go : (t : Bool) → eqb sort Sort.BODY ≡ t → none ≡ trouble ks (event_by sort role y (token_of NAME v x))
+      go true e = rw (eqb-true sort Sort.BODY e) (body_other NAME (λ q. omega (arith, q)))
+      go false e = other_sort sort (eqb-false sort Sort.BODY e) b c d f
 
-    pub store_asks : {r : ℕ} → r ≡ asked_of f K.VAR LOCAL LOCAL
-        → r ≡ told (trouble ks (event_by Sort.BLOCK role y (token_of NAME v x)))
-    store_asks q =
-        q ∙ ap (λ g. asked_of g K.VAR LOCAL LOCAL) e ∙ asked_trouble ks x d K.VAR LOCAL LOCAL ∙ ap told (asks_two ks x K.VAR
-        LOCAL)
+  module _ (d : Distinct ks) {f : Code.Option Found} (e : f ≡ found_of ks x) (ws : List ℕ) {r : Result (Unit {0}) Trouble}
+      (q : r ≡ asked_of f ws) where
+    pub kinds_ask : told r ≡ trouble ks (asks ws x)
+    kinds_ask = ap told q ∙ ap (λ g. told (asked_of g ws)) e ∙ asked_trouble ks x d ws
 
 -- THE NAME that a token is: none where it is no name.
 nothing_by : (k v : ℕ) (a b : Bool) → name_in (if a then mark k else if b then number v else bad) ≡ []

@@ -1,10 +1,10 @@
+pub mod Reason
 pub mod Cut
 pub mod Sorts
 pub mod Drafted
 pub mod Sheets
 pub mod Shown
 pub mod Named
-pub mod Moves
 pub mod Turn
 pub mod Answer
 pub mod Length

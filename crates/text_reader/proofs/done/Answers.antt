@@ -1,62 +1,42 @@
--- `text_reader::done` meets its contract. Assumes nothing.
-use native.Mathlib.Omega.{arith}
-use mathlib.Core.Path.{◌≡◌, refl, sym, ◌∙◌, ap}
-use mathlib.Core.Option.{some}
-use Prim.Native.Nat.{◌+◌}
-use Rattle.text_entry.specs.Draft.{draft_of}
-use Rattle.text_sheet.specs.Numbers.{HEAD, counted, counting, last_of}
-use Rattle.text_sheet.specs.Shown.{sheet_of}
-use Rattle.text_sheet.proofs.Acted.{same_levels}
-use Rattle.text_sheet.proofs.Braced.{standing_levels}
-use Rattle.text_machine.specs.Machine as Machine
-use Rattle.text_reader.specs.Sheets.{with_both, refused_of}
-use Rattle.text_reader.proofs.Cuts.{stops_at, steps_by, faulty_done, done-declares, done-acts, declaring_levels, as_short}
+-- The record is refused, or written down and tested. Assumes nothing.
+use Rattle.std.specs.Prelude.{ℕ, ◌≡◌, ◌+◌, ltb, if◌then◌else◌}
+use Rattle.std.proofs.Common.{sym, ◌∙◌, ap}
+use Rattle.semantics.specs.Numbers as F
+use Rattle.text_machine.specs.Machine.{done, over_limit}
+use Rattle.text_machine.specs.Sheet.{added, Sheet}
+use Rattle.text_reader.proofs.Cuts.{faulty_done, done_declares, done_acts, done_short, steps_by}
 use Rattle.text_reader.proofs.done.Goals as goal
-
-pub longer-requires : goal.longer-requires
-longer-requires c = let p = c.requires in
-    (p.0.small.bytes, omega (arith, p.1.counted))
+use Rattle.text_reader.proofs.done.Goals.{then-draft-lt-ACTION, else-draft-lt-ACTION}
 
 pub returns-then-faulty : goal.returns-then-faulty
-returns-then-faulty c = let a = c.args in
-    let f = c.refused.ensures in
-    let n = c.longer.ensures in
-    λ m ws h. let e = c.if-faulty.true in
-    rw e (stops_at f.0 (ap some (f.1 ∙ ap (λ z. refused_of z a.d.line) n) ∙ sym (faulty_done a.s (with_both m a.declared.now a.stage.now a.ends.now a.blocks.now a.level_block.now) a.d a.body.now ws)))
-
-pub declares-r-requires : goal.declares-r-requires
-declares-r-requires c = let p = c.requires in
-    let o = p.2.kept c.if-faulty.false in
-    (p.0, c.if-d-lt-ACTION.true, omega (arith, p.1.kept o))
-
-pub returns-then-d-lt-ACTION : goal.returns-then-d-lt-ACTION
-unfolding draft_of
-returns-then-d-lt-ACTION c = let a = c.args in
-    let p = c.requires in
-    let o = p.2.kept c.if-faulty.false in
-    let r = c.declares-r.result in
-    let lv : r.levels ≡ a.s.levels = ap (λ u. u.levels) c.declares-r.ensures.value.0 ∙ declaring_levels (HEAD + a.d.size) (counted a.s a.d.kind (HEAD + a.d.size)) in
-    λ m ws h. let before = with_both m a.declared.now a.stage.now a.ends.now a.blocks.now a.level_block.now in
-    let v = c.declares-r.ensures.writes before h.fine in
-    rw c.if-faulty.false (steps_by r _ (Machine.done (draft_of a.d a.body.now ws)
-    (sheet_of a.s before)) (draft_of a.d a.body.now ws) a.d.line refl v.fine (v.same ∙ done-declares a.s
-    before a.d a.body.now ws c.if-d-lt-ACTION.true o) (as_short r.levels a.s.levels m.kept_size lv h.short) c.over_limit-l.ensures)
-
-pub acts-r-requires : goal.acts-r-requires
-acts-r-requires c = let p = c.requires in
-    let o = p.2.kept c.if-faulty.false in
-    (p.0, p.2.small c.if-faulty.false, omega (arith, p.1.kept o))
+returns-then-faulty c =
+    let z = c.args.sheet.now in
+    let d = c.args.draft.now in
+    let n = c.sheet.inside.total in
+    let total = ap (λ (y : Sheet). y.total) (c.sheet.view_is ∙ c.longer.ensures)
+    ∙ ap (λ m. added z.total (4 + m)) (ap (λ y. y.size) c.draft.view_is) in
+    let place = c.wrong_place.ensures
+    ∙ ap (λ (y : Sheet). if ltb F.longest_file n then y.first else c.draft.inside.line) c.longer.ensures
+    ∙ ap (λ (m : ℕ). if ltb F.longest_file n then z.first else m) (ap (λ y. y.line) c.draft.view_is) in
+    record {
+      cut = faulty_done d z {n = n} total place ∙ ap (over_limit (done d z) d) c.if-faulty.ensures.value;
+      same = tt;
+      sound = tt;
+    }
 
 pub returns : goal.returns
-unfolding draft_of
-returns c = let a = c.args in
-    let p = c.requires in
-    let o = p.2.kept c.if-faulty.false in
-    let r = c.acts-r.result in
-    let b = last_of a.s.levels a.level_block.now in
-    let lv : r.levels ≡ a.s.levels = ap (λ u. u.levels) c.acts-r.ensures.value.0 ∙ standing_levels (counting b a.d.line a.d.size
-    a.s) (HEAD + a.d.size) ∙ same_levels a.s b a.d.line a.d.size in
-    λ m ws h. let before = with_both m a.declared.now a.stage.now a.ends.now a.blocks.now a.level_block.now in
-    let v = c.acts-r.ensures.writes before h.fine in
-    rw c.if-faulty.false (steps_by r _ (Machine.done (draft_of a.d a.body.now ws) (sheet_of a.s before)) (draft_of a.d a.body.now ws) a.d.line refl v.fine (v.same ∙
-    done-acts a.s before a.d a.body.now ws c.if-d-lt-ACTION.false o) (as_short r.levels a.s.levels m.kept_size lv h.short) c.over_limit-l-2.ensures)
+returns c =
+    let z = c.args.sheet.now in
+    let d = c.args.draft.now in
+    let kind : c.draft.inside.kind ≡ d.kind = ap (λ y. y.kind) c.draft.view_is in
+    let line : c.draft.inside.line ≡ d.line = ap (λ y. y.line) c.draft.view_is in
+    let size = (c.faulty.ensures.right c.if-faulty.false).0 in
+    let made : c.if-draft-lt-ACTION.sheet ≡ done d z = elim c.if-draft-lt-ACTION.branch [
+      | then-draft-lt-ACTION w ↦ w.sheet-is ∙ w.declares.ensures
+          ∙ rw (w.body.ensures.value, kind) (done_declares d z size (rw kind at w.if-draft-lt-ACTION.true))
+      | else-draft-lt-ACTION w ↦ w.sheet-is ∙ w.acts.ensures
+          ∙ rw (w.body-else-draft-lt-ACTION.ensures.value, kind, line)
+          (done_acts d z size (rw kind at w.if-draft-lt-ACTION.false))
+    ] in
+    steps_by d c.within_limits.result made (c.within_limits.ensures.limits d (sym line)) c.if-faulty.ensures.value
+    c.within_limits.ensures.small (done_short d z c.requires.short)

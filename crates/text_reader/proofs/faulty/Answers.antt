@@ -1,30 +1,20 @@
--- `text_reader::faulty` meets its contract. Assumes nothing.
-use native.Mathlib.Omega.{arith}
-use mathlib.Core.Path.{◌≡◌, ◌∙◌, ap, sym}
-use mathlib.Core.Bool.{not}
-use lib.Dec.{eqb}
-use lib.ListN.{length, take}
-use Rattle.semantics.specs.Decode.{judged}
-use Rattle.file_check_record.specs.Rows.{number_of}
-use Rattle.text_entry.specs.Draft.{BODY}
-use Rattle.text_reader.specs.Cut.{counts_of}
-use Rattle.text_reader.proofs.Judges.{right_full, right_judged, faulty_full, faulty_shown}
+-- What the draft says of its body, or the judgement of that. Assumes nothing.
+use Rattle.std.proofs.Common.{sym}
+use Rattle.text_reader.proofs.Judges.{faulty_full, faulty_judged, right_kind}
 use Rattle.text_reader.proofs.faulty.Goals as goal
 
-pub returns-then-d : goal.returns-then-d
-returns-then-d c = let a = c.args in
-    (right_full a.d a.body.now, λ z ws e. faulty_full z a.d a.body.now ws c.if-d.true)
+pub returns-then-draft-clause-value : goal.returns-then-draft-clause-value
+returns-then-draft-clause-value c =
+    faulty_full c.args.sheet.now c.args.draft.now (rw (← c.draft.view_is) c.if-draft.true)
 
-pub wrong-requires : goal.wrong-requires
-wrong-requires c = omega (arith, c.requires.kept c.if-d.false)
+pub returns-clause-value : goal.returns-clause-value
+returns-clause-value c =
+    rw (c.judge.ensures, c.counts_for-counts.ensures, c.body.ensures.value, ← c.sheet.view_is, ← c.draft.view_is)
+    (faulty_judged _ _ c.if-draft.false)
 
-pub returns : goal.returns
-returns c = let a = c.args in
-    let o = c.if-d.false in
-    let l : length a.body.now ≡ BODY = omega arith in
-    let e = c.wrong.ensures ∙ ap (λ n. not (eqb (number_of (judged n a.d.kind (take a.d.size a.body.now))) 0)) c.counts_for.ensures in (
-      right_judged a.s.seen a.d a.body.now c.wrong.result o l e,
-      λ z ws q. e ∙ ap (λ xs. not (eqb (number_of
-          (judged (counts_of xs a.d.kind) a.d.kind (take a.d.size a.body.now))) 0)) (sym q) ∙ faulty_shown z
-          a.d a.body.now ws o,
-    )
+pub returns-clause-right : goal.returns-clause-right
+returns-clause-right c = λ e. (
+  rw (← c.draft.view_is) (sym (c.draft.invariant.kept c.if-draft.false)),
+  rw (← c.draft.view_is)
+      (right_kind c.counts_for-counts.result c.draft.inside.kind c.body.result.now (rw c.judge.ensures at e)),
+)

@@ -1,4 +1,4 @@
--- `text_reader::name_trouble` meets its contract. Assumes nothing.
+-- What is asked for or declared by the role. Assumes nothing.
 use Rattle.text_reader.proofs.Troubles.{role_asks, role_embodies, role_declares}
 use Rattle.text_reader.proofs.name_trouble.Goals as goal
 

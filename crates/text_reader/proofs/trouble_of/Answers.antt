@@ -1,37 +1,47 @@
--- `text_reader::trouble_of` meets its contract. Assumes nothing.
-use Rattle.text_reader.proofs.Troubles.{body_semi, body_other, plain_token, other_sort, value_asks, variable_asks}
-use Rattle.text_reader.proofs.Troubles.{store_asks}
+-- Trouble at a token, by the sort of what was still to come. Assumes nothing.
+use Rattle.std.proofs.Common.{arith}
+use Rattle.text_reader.specs.declared.sort.Sort.TheVariants as S
+use Rattle.text_reader.specs.Named.{sort_number}
+use Rattle.text_reader.proofs.Finds.{other_number}
+use Rattle.text_reader.proofs.Troubles.{body_semi, plain_token, no_sign, no_name_there, kinds_ask}
 use Rattle.text_reader.proofs.trouble_of.Goals as goal
 
-pub returns-then-kind-eq-SEMI : goal.returns-then-kind-eq-SEMI
-returns-then-kind-eq-SEMI c = let a = c.args in
-    λ ks v x y d e f. rw (c.if-sort-eq-BODY.true, c.if-kind-eq-SEMI.true) (body_semi ks a.role v x y f c.announces_trouble.ensures)
-
-pub returns-then-sort-eq-BODY : goal.returns-then-sort-eq-BODY
-returns-then-sort-eq-BODY c = let a = c.args in
-    λ ks v x y d e f. rw c.if-sort-eq-BODY.true (body_other ks a.role v x y a.kind c.if-kind-eq-SEMI.false)
+pub returns-in-Body : goal.returns-in-Body
+returns-in-Body c = λ ks v x y d e f.
+    rw (c.in-Body.is, c.if-kind-eq-SEMI.true) (body_semi ks c.args.role v x y f c.announces_trouble.ensures)
 
 pub returns-then-kind-ne-NAME : goal.returns-then-kind-ne-NAME
-returns-then-kind-ne-NAME c = let a = c.args in
-    λ ks v x y d e f. plain_token ks a.role v x y a.sort a.kind c.if-sort-eq-BODY.false c.if-kind-ne-NAME.true
+returns-then-kind-ne-NAME c = λ ks v x y d e f.
+    no_sign ks c.args.role v x y (sort_number c.args.sort) c.args.kind c.if-kind-eq-SEMI.false c.if-kind-ne-NAME.true
 
-pub returns-in-3 : goal.returns-in-3
-returns-in-3 c = let a = c.args in
-    λ ks v x y d e f. rw (c.in-3.is, c.if-kind-ne-NAME.false) (c.name_trouble.ensures ks x d (e c.if-kind-ne-NAME.false))
+pub returns-in-Named : goal.returns-in-Named
+returns-in-Named c = λ ks v x y d e f.
+    rw (c.in-Named.is, c.if-kind-ne-NAME.false) (c.name_trouble.ensures ks x d (e c.if-kind-ne-NAME.false))
 
-pub returns-in-4 : goal.returns-in-4
-returns-in-4 c = let a = c.args in
-    λ ks v x y d e f. rw (c.in-4.is, c.if-kind-ne-NAME.false) (value_asks ks a.role v x y d (e c.if-kind-ne-NAME.false) c.asks_trouble.ensures)
+pub returns-in-Value : goal.returns-in-Value
+returns-in-Value c = λ ks v x y d e f.
+    rw (c.in-Value.is, c.if-kind-ne-NAME.false)
+    (kinds_ask ks c.args.role v x y d (e c.if-kind-ne-NAME.false) _ c.asks_trouble.ensures)
 
-pub returns-in-6 : goal.returns-in-6
-returns-in-6 c = let a = c.args in
-    λ ks v x y d e f. rw (c.in-6.is, c.if-kind-ne-NAME.false) (variable_asks ks a.role v x y d (e c.if-kind-ne-NAME.false) c.asks_trouble-in-6.ensures)
+pub returns-in-Variable : goal.returns-in-Variable
+returns-in-Variable c = λ ks v x y d e f.
+    rw (c.in-Variable.is, c.if-kind-ne-NAME.false)
+    (kinds_ask ks c.args.role v x y d (e c.if-kind-ne-NAME.false) _ c.asks_trouble-in-Variable.ensures)
 
-pub returns-in-7 : goal.returns-in-7
-returns-in-7 c = let a = c.args in
-    λ ks v x y d e f. rw (c.in-7.is, c.if-kind-ne-NAME.false) (store_asks ks a.role v x y d (e c.if-kind-ne-NAME.false) c.asks_trouble-in-7.ensures)
+pub returns-in-Block : goal.returns-in-Block
+returns-in-Block c = λ ks v x y d e f.
+    rw (c.in-Block.is, c.if-kind-ne-NAME.false)
+    (kinds_ask ks c.args.role v x y d (e c.if-kind-ne-NAME.false) _ c.asks_trouble-in-Block.ensures)
 
 pub returns-in_default : goal.returns-in_default
-returns-in_default c = let a = c.args in
-    let m = c.in_default.in_default-own.rest in
-    λ ks v x y d e f. rw c.if-kind-ne-NAME.false (other_sort ks a.role v x y a.sort c.if-sort-eq-BODY.false m.0.0.0.1 m.0.0.1 m.0.1 m.1)
+returns-in_default c = λ ks v x y d e f.
+    plain_token ks c.args.role v x y (sort_number c.args.sort) c.args.kind
+    (other_number c.args.sort S.Body c.in_default.not-Body) (λ q. omega (arith, q))
+
+pub returns-in_default-sort : goal.returns-in_default-sort
+returns-in_default-sort c = λ ks v x y d e f.
+    let s = c.args.sort in
+    rw c.if-kind-ne-NAME.false
+    (no_name_there ks c.args.role v x y (sort_number s) (other_number s S.Named c.in_default-sort.not-Named)
+    (other_number s S.Value c.in_default-sort.not-Value) (other_number s S.Variable c.in_default-sort.not-Variable)
+    (other_number s S.Block c.in_default-sort.not-Block))
