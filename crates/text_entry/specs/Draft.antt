@@ -41,3 +41,7 @@ store_of w = if eqb w K.VAR then K.SET else K.LSET
 pub record Read (s kind value : ℕ) (d : M.Draft) : Type 0 where
   pub count : s ≡ C.COUNT → kind ≡ C.NUMBER → value < TWO
   pub branches : T.END < s → kind ≡ T.ETRY → get_or d.body 0 0 < MOST
+
+-- What a token leaves: the draft that is wanted, whatever the bytes of a name are.
+abbrev pub Left : (List ℕ → M.Draft) → M.Draft → Type 0
+Left want d = (x : List ℕ) → d ≡ want x

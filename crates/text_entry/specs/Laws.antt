@@ -9,6 +9,10 @@ use Rattle.text_machine.specs.Entry as M
 use Rattle.text_machine.specs.Entry.{KEPT, DEPTH, FULL, with_body, with_count, with_starts, put, first_start, outer}
 use Rattle.text_entry.specs.Draft.{TWO, FOUR, low}
 use Rattle.std.specs.List.{insert}
+use Rattle.std.specs.Prelude.{zero, suc, set, leb, get_or}
+use Rattle.std.proofs.Common.{drop-set-lt}
+use Rattle.std.proofs.lemmas.List.Edits.{sets}
+use Rattle.text_machine.specs.Entry.{with_count}
 use Rattle.std.proofs.lemmas.List.Edits.{insert-append_right}
 
 -- TWO RUNS OF BYTES, the second behind the first, are one.
@@ -90,3 +94,53 @@ node_front op l h =
     let m : op % BYTE ≡ op = omega arith in
     let q : op / BYTE ≡ 0 = omega arith in
     rw (m, q)
+
+-- WHETHER a body is over, and what stands in it or behind it.
+pub not_kept : {n : ℕ} → true ≡ false → n ≤ KEPT
+not_kept e = let z : ◌≡◌ {A = ℕ} 0 1 = cc in omega arith
+
+pub or_left : {a : Bool} (b : Bool) → a ≡ true → (a || b) ≡ true
+or_left b e = ap (λ t. t || b) e
+
+pub or_right : (a : Bool) {b : Bool} → b ≡ true → (a || b) ≡ true
+or_right true e = refl
+or_right false e = e
+
+pub take-set : (n : ℕ) (l : List ℕ) (i a : ℕ) → take n (set l i a) ≡ set (take n l) i a
+take-set zero l i a = refl
+take-set (suc n) [] i a = refl
+take-set (suc n) (x ∷ xs) zero a = refl
+take-set (suc n) (x ∷ xs) (suc i) a = ap (λ ys. x ∷ ys) (take-set n xs i a)
+
+pub counted_no_more : (x : M.Draft) → (x.over || leb KEPT x.count) ≡ true → M.dropped x ≡ M.one_more x
+unfolding M.one_more
+counted_no_more x o =
+    ap (λ t. if t
+    then M.dropped x
+    else with_count (with_body x (set x.body x.at (suc x.count)) false x.size) (suc x.count) x.at) (sym o)
+
+branch_none : (x : M.Draft) → x.body ≡ [] → x ≡ M.branching x
+branch_none x e = ap (λ l. with_body x l x.over x.size) (e ∙ ap (λ l. set l 0 (suc (get_or l 0 0))) (sym e))
+
+-- A count that is over nothing, and where it stands.
+pub count_behind : {x y : M.Draft} (n a : ℕ) → x ≡ y → (if x.over then 0 else n) ≡ a
+    → with_count x 0 a ≡ with_count y 0 (if y.over then 0 else n)
+count_behind {x} n a p q = ap (with_count x 0) (sym q) ∙ ap (λ z. with_count z 0 (if z.over then 0 else n)) p
+
+-- Behind what is stored all stays.
+pub sets_behind : (xs bs : List ℕ) (p n : ℕ) → p + length xs ≤ n → drop n (sets bs p xs) ≡ drop n bs
+sets_behind [] bs p n h = refl
+sets_behind (x ∷ xs) bs p n h = sets_behind xs (set bs p x) (suc p) n (omega arith) ∙ drop-set-lt n bs p x (omega arith)
+
+-- The bytes of an operation, one after the other.
+pub node_stored : (bs : List ℕ) (p op : ℕ) → op < BYTE
+    → set (set (set (set (set (set bs p op) (p + 1) 0) (p + 2) 0) (p + 3) 0) (p + 4) 0) (p + 5) 0 ≡ sets bs p (node op 0)
+node_stored bs p op h =
+    let a : p + 1 ≡ suc p = omega arith in
+    let b : p + 2 ≡ suc (suc p) = omega arith in
+    let c : p + 3 ≡ suc (suc (suc p)) = omega arith in
+    let d : p + 4 ≡ suc (suc (suc (suc p))) = omega arith in
+    let e : p + 5 ≡ suc (suc (suc (suc (suc p)))) = omega arith in
+    let m : op % BYTE ≡ op = omega arith in
+    let q : op / BYTE ≡ 0 = omega arith in
+    rw (a, b, c, d, e, m, q)

@@ -18,7 +18,7 @@ ghost use Rattle.semantics.specs.Kinds as K;
 ghost use Rattle.text_machine.specs.Entry as M;
 ghost use Rattle.text_machine.specs.Entry.{put, first_start, op_of, relation_of, mark_in, number_in, with_body};
 ghost use Rattle.text_machine.specs.Codes.{FEW, token_of, symbol_of, part_of};
-ghost use Rattle.text_entry.specs.Draft.{TWO, MOST, low, NODE, is_comma, store_of, Read};
+ghost use Rattle.text_entry.specs.Draft.{TWO, MOST, low, NODE, is_comma, store_of, Left, Read};
 
 // So many bytes of a body are kept, and so many expressions may be open; a length is counted up to one that is more than any.
 pub const KEPT: usize = 192;
@@ -697,7 +697,7 @@ impl Draft {
     pub fn drafted(&mut self, s: u8, kind: u8, value: u32, w: u32, i: u32, k: u32, p: usize)
         requires i_bound { (i < TWO) × (k < TWO) }
         requires read { Read s kind value self.old }
-        ensures { (x : List ℕ) → self.new ≡ M.drafted w i k p self.old (symbol_of s) (token_of kind value x) self.old }
+        ensures { Left (λ x. M.drafted w i k p self.old (symbol_of s) (token_of kind value x) self.old) self.new }
     {
         if s <= mark::END {
             self.at_sign(k, s);

@@ -1,5 +1,5 @@
 -- Laws of parts and of bytes put at a place. Assumes nothing.
-use Rattle.std.specs.Prelude.{◌≡◌, refl, List, [], ◌∷◌, ◌++◌, ℕ, suc, ◌+◌, ◌-◌, ◌≤◌, ◌<◌, length, get_or, take, drop, set}
+use Rattle.std.specs.Prelude.{◌≡◌, refl, List, ◌++◌, ℕ, suc, ◌+◌, ◌-◌, ◌≤◌, ◌<◌, length, get_or, take, drop, set}
 use Rattle.std.proofs.Common.{sym, ◌∙◌, ap, append_assoc, add-one, arith, length-take, length-drop, take-append-drop, length-append, drop-cons, get_or-take, get_or-drop, take_at, drop_at, length-take-le}
 use Rattle.std.proofs.lemmas.List.Edits.{sets, sets-eq}
 use Rattle.std.proofs.lemmas.List.{take-append-le, drop-append-le}
@@ -59,8 +59,3 @@ pub part_behind : (start : ℕ) (xs ys : List ℕ) → start ≡ length xs → p
 part_behind start xs ys e =
     let n : length xs + length ys - start ≡ length ys = omega (arith, e) in
     ap (λ m. take m (drop start (xs ++ ys))) n ∙ ap (take (length ys)) (drop_at xs ys start (sym e)) ∙ take-length ys
-
--- Two numbers stored one behind the other.
-pub two_stored : (xs : List ℕ) (p a b : ℕ) → p + 2 ≤ length xs
-    → set (set xs p a) (p + 1) b ≡ take p xs ++ (a ∷ b ∷ []) ++ drop (p + 2) xs
-two_stored xs p a b h = ap (λ n. set (set xs p a) n b) (add-one p) ∙ sets-eq (a ∷ b ∷ []) xs p h

@@ -1,6 +1,6 @@
 -- What contracts name: bytes of a record, the draft that is handed over as numbers and bytes, and a try that is kept.
 -- Assumes nothing.
-use Rattle.std.specs.Prelude.{ℕ, ◌+◌, List, [], ◌∷◌, ◌++◌, false, leb, length, Some, None, if◌then◌else◌}
+use Rattle.std.specs.Prelude.{ℕ, ◌≡◌, ◌+◌, List, [], ◌∷◌, ◌++◌, false, leb, length, Some, None, if◌then◌else◌}
 use Rattle.std.specs.Prelude as Prelude
 use Rattle.std.proofs.Math.Option.{Option, none, some}
 use Rattle.semantics.specs.Numbers as No
@@ -33,3 +33,7 @@ noted at line s =
     if leb No.most_classes (length s.class_at)
     then M.filled s
     else M.with_class s (s.class_at ++ (at ∷ [])) (s.class_line ++ (line ∷ [])) (length s.class_at)
+
+-- How many bytes there are with an action that opens a block, whatever its line and its body are.
+abbrev pub OpenedTotal : ℕ → ℕ → M.Sheet → ℕ → Type 0
+OpenedTotal kind size s n = (line : ℕ) (body : List ℕ) → n ≡ (M.opens (entry line kind size body) s).total

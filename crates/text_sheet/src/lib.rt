@@ -11,7 +11,7 @@ ghost use Rattle.text_semantics.specs.Written.{two as two_of};
 ghost use Rattle.text_machine.specs.Entry.{FULL};
 ghost use Rattle.text_machine.specs.Sheet.{headed, innermost, kept_in};
 ghost use Rattle.text_machine.specs.Sheet as M;
-ghost use Rattle.text_sheet.specs.Numbers.{HEAD, ROOM, entry, kept_length, noted};
+ghost use Rattle.text_sheet.specs.Numbers.{HEAD, ROOM, entry, kept_length, noted, OpenedTotal};
 ghost use Rattle.text_sheet.specs.Pieces.{pieces_from, Laid};
 ghost use Rattle.text_sheet.specs.Told.{Put};
 ghost use Rattle.std.proofs.Math.Option.{some};
@@ -229,13 +229,6 @@ impl Sheet {
         self.levels.len()
     }
 
-    // How many classes there are.
-    pub fn class_count(&self) -> usize
-        ensures { result ≡ length self.now.class_at }
-    {
-        self.classes.len()
-    }
-
     // The line of a class, and of the one that is being read; 0 where there is none.
     pub fn class_line(&self, class: usize) -> usize
         ensures { result ≡ get_or self.now.class_line class 0 }
@@ -259,8 +252,8 @@ impl Sheet {
         if self.levels.is_empty() {
             return 0;
         }
-        let level = &self.levels[0];
-        level.block
+        let inner = &self.levels[0];
+        inner.block
     }
 
     // How many bytes of a try are kept in it, if there is one.
@@ -282,12 +275,13 @@ impl Sheet {
         ensures draft { M.resumed (kept_in self.now.levels) ≡ entry result.line K.TRY (length result.body.now) result.body.now }
         ensures bound { length result.body.now ≤ ROOM }
     {
+        let nothing = Resumed { line: 0, body: &[] };
         if self.levels.is_empty() {
-            return Resumed { line: 0, body: &[] };
+            return nothing;
         }
-        let level = &self.levels[0];
-        match &level.kept {
-            None => Resumed { line: 0, body: &[] },
+        let open = &self.levels[0];
+        match &open.kept {
+            None => nothing,
             Some(kept) => Resumed {
                 line: kept.line,
                 body: kept.body.as_slice(),
@@ -319,8 +313,9 @@ impl Sheet {
         requires n_bound { (0 < n) × (n ≤ FULL + HEAD) }
         ensures { self.new ≡ M.with_total self.old (more self.old.seen group 1) n }
     {
+        let total = self.total;
         self.seen[group] += 1;
-        self.total = added(self.total, n);
+        self.total = added(total, n);
     }
 
     // One action more, at a line, in the innermost block.
@@ -368,13 +363,13 @@ impl Sheet {
         requires { self.old.full ≡ false → at + 2 ≤ length self.old.declared }
         ensures { self.new ≡ noted at line self.old }
     {
-        let class = self.classes.len();
-        if limit::CLASSES <= class {
+        let next = self.classes.len();
+        if limit::CLASSES <= next {
             self.full = true;
             return;
         }
         self.classes.push(Class { at, line });
-        self.current = class;
+        self.current = next;
     }
 
     // A class, at a line, with its body block.
@@ -396,11 +391,8 @@ impl Sheet {
         ensures { self.new ≡ M.bodied class block self.old }
     {
         let at = self.classes[class].at;
-        put(
-            &(block as u16).to_le_bytes(),
-            self.declared.as_mut_slice(),
-            at,
-        );
+        let bytes = (block as u16).to_le_bytes();
+        put(&bytes, self.declared.as_mut_slice(), at);
         self.current = class;
     }
 
@@ -413,7 +405,8 @@ impl Sheet {
         ensures { self.new ≡ M.stands kind body.now self.old }
     {
         let end = self.stage.len() + (HEAD + body.len());
-        if (limit::ACTIONS <= self.pieces.len()) | (limit::FILE < end) {
+        let crowded = (limit::ACTIONS <= self.pieces.len()) | (limit::FILE < end);
+        if crowded {
             self.full = true;
             return;
         }
@@ -474,7 +467,8 @@ impl Sheet {
         requires { (self.old.total < FULL) × (size ≤ FULL) }
         ensures { (bs : List ℕ) → self.new ≡ M.branches (entry line K.TRY size bs) (kept_in self.old.levels) self.old }
     {
-        match self.kept_size() {
+        let kept = self.kept_size();
+        match kept {
             None => self.counts(line, size),
             Some(kept) => self.longer(size.saturating_sub(kept)),
         }
@@ -513,7 +507,8 @@ impl Sheet {
     {
         // While bytes are counted, no group has more records than they are.
         let _ = &self.total;
-        if kind == kind::TRY {
+        let is_try = kind == kind::TRY;
+        if is_try {
             self.tries(line, body);
         } else {
             self.acts(line, kind, body);
@@ -525,14 +520,12 @@ impl Sheet {
     #[tactic(auto, unfolding(text_machine::specs::Sheet::opens, text_machine::specs::Sheet::braces, text_machine::specs::Sheet::tries, text_machine::specs::Sheet::acts, text_machine::specs::Sheet::stands, text_machine::specs::Sheet::counts))]
     pub fn opened_total(&self, kind: u32, size: usize) -> usize
         requires { size ≤ FULL }
-        ensures { (line : ℕ) (bs : List ℕ) → result ≡ (M.opens (entry line kind size bs) self.now).total }
+        ensures { OpenedTotal kind size self.now result }
     {
-        let mut n = HEAD + size;
-        if kind == kind::TRY {
-            if let Some(kept) = self.kept_size() {
-                n = size.saturating_sub(kept);
-            }
-        }
+        let n = match self.kept_size() {
+            Some(kept) if kind == kind::TRY => size.saturating_sub(kept),
+            _ => HEAD + size,
+        };
         added(added(self.total, n), HEAD)
     }
 

@@ -27,7 +27,7 @@ put-requires c =
     let low : a.class < length cs = omega (arith, length-map cs at_of, c.requires.class_bound.0, ap (λ x. length x.class_at) v) in
     let full : i.full ≡ true → get_or (map at_of cs) a.class 0 + 2 ≤ length i.declared.items = rw (← v) at c.requires.full in
     let fits = class_fits i.full (length i.declared.items) cs a.class d low h.placed full in
-    omega (arith, fits, q, ap length c.to_le_bytes.ensures, ap length c.as_mut_slice.ensures.value)
+    omega (arith, fits, q, ap length c.to_le_bytes-bytes.ensures, ap length c.as_mut_slice.ensures.value)
 
 pub invariant_of-self : goal.invariant_of-self
 invariant_of-self c =
@@ -43,7 +43,7 @@ invariant_of-self c =
     let full : i.full ≡ true → get_or (map at_of cs) a.class 0 + 2 ≤ length i.declared.items = rw (← v) at c.requires.full in
     let fits = class_fits i.full (length i.declared.items) cs a.class d low h.placed full in
     let xs = i.declared.items in
-    let bs = c.to_le_bytes.result in
+    let bs = c.to_le_bytes-bytes.result in
     let w = put_whole xs c.put.new.out bs at (c.put.ensures.bytes ∙ ap (λ ys. sets ys at bs) c.as_mut_slice.ensures.value) in
     record {
       bytes = h.bytes;
@@ -67,12 +67,12 @@ returns c =
     let full : i.full ≡ true → get_or (map at_of cs) a.class 0 + 2 ≤ length i.declared.items = rw (← v) at c.requires.full in
     let fits = class_fits i.full (length i.declared.items) cs a.class d low h.placed full in
     let xs = i.declared.items in
-    let bs = c.to_le_bytes.result in
+    let bs = c.to_le_bytes-bytes.result in
     let w = put_whole xs c.put.new.out bs at (c.put.ensures.bytes ∙ ap (λ ys. sets ys at bs) c.as_mut_slice.ensures.value) in
     let z = sheet_of i in
     let p : at ≡ get_or z.class_at a.class 0 = q ∙ sym (get_or-map at_of cs a.class d 0 low) in
     let r : a.block / 256 % 256 ≡ a.block / 256 = omega (arith, c.requires.class_bound.1) in
-    let t : bs ≡ two a.block = c.to_le_bytes.ensures ∙ ap (λ b. a.block % 256 ∷ b ∷ []) r in
+    let t : bs ≡ two a.block = c.to_le_bytes-bytes.ensures ∙ ap (λ b. a.block % 256 ∷ b ∷ []) r in
     ap (λ ds. M.with_class (M.with_declared z ds) z.class_at z.class_line a.class)
     (w ∙ ap (sets xs at) t ∙ ap (λ n. sets xs n (two a.block)) p
     ∙ sets-eq (two a.block) xs (get_or z.class_at a.class 0) (omega (arith, fits, q, p)))

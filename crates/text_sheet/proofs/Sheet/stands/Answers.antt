@@ -9,8 +9,8 @@ use Rattle.text_sheet.specs.Shown.{sheet_of}
 use Rattle.text_sheet.proofs.Steps.{crowded, stands_full, stands_room}
 use Rattle.text_sheet.proofs.Sheet.stands.Goals as goal
 
-pub returns-then-len-end : goal.returns-then-len-end
-returns-then-len-end c = let a = c.args in
+pub returns-then-crowded : goal.returns-then-crowded
+returns-then-crowded c = let a = c.args in
     let i = c.self.inside in
     let bs = headed a.kind a.body.now in
     let k = length bs in
@@ -20,7 +20,7 @@ returns-then-len-end c = let a = c.args in
     (pieces_length i.stage.items 0 i.pieces.items ∙ sym c.len-2.ensures.value)
     ∙ ap (λ n. leb No.most_actions c.len-2.result || ltb No.longest_file (n + k)) (sym c.len.ensures.value)
     ∙ ap (λ n. leb No.most_actions c.len-2.result || ltb No.longest_file (c.len.result + n)) four
-    ∙ c.if-len-end.true in
+    ∙ c.if-crowded.true in
     stands_full a.kind a.body.now (sheet_of i) e ∙ ap (M.stands a.kind a.body.now) c.self.view_is
 
 pub invariant_of-self-2 : goal.invariant_of-self-2
@@ -49,7 +49,7 @@ returns c = let a = c.args in
     (pieces_length i.stage.items 0 i.pieces.items ∙ sym c.len-2.ensures.value)
     ∙ ap (λ n. leb No.most_actions c.len-2.result || ltb No.longest_file (n + k)) (sym c.len.ensures.value)
     ∙ ap (λ n. leb No.most_actions c.len-2.result || ltb No.longest_file (c.len.result + n)) four
-    ∙ c.if-len-end.false in
+    ∙ c.if-crowded.false in
     let b = c.innermost-block.ensures ∙ sym (ap (λ x. M.innermost x.levels) c.self.view_is) in
     let ps = pieces_pushed i.stage.items bs i.pieces.items c.innermost-block.result _ c.self.invariant.laid
     (ap (λ n. c.len.result + n) (sym four) ∙ ap (λ n. n + length bs) c.len.ensures.value) c.append.ensures c.push.ensures.items in
