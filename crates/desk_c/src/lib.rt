@@ -66,9 +66,16 @@ pub extern "C" fn desk_text<'a>(text: &'a [u8], records: &'a mut [u8], place: &'
     ensures records_after { records.new
         ≡ left (answer_to text.now (length records.old)) records.old }
 {
-    let r = text_reader::read(text, records);
-    *place = r.place;
-    r.number
+    match text_reader::read(text, records) {
+        Ok(size) => {
+            *place = size;
+            0
+        }
+        Err(refused) => {
+            *place = refused.place;
+            refused.reason.number()
+        }
+    }
 }
 
 #[unsafe(no_mangle)]

@@ -3,6 +3,7 @@
 
 ghost use Rattle.std.specs.Prelude.{◌≡◌, ◌+◌, ◌≤◌, ◌<◌, ◌++◌, length, map, get_or, take, drop, IfSome, All};
 ghost use Rattle.text_machine.specs.Codes.{BAD};
+ghost use Rattle.text_machine.specs.Codes as Codes;
 ghost use Rattle.text_pile.specs.Pile.{SYMBOLS};
 ghost use Rattle.text_pile.specs.Table.{CLASSES, COLUMNS, SHIFTS, entry_of, class_of, column_of, deeper_by};
 
@@ -14,6 +15,8 @@ pub const HIGHEST: usize = 64;
 
 // What a pile begins with: the text itself is still to come.
 const TEXT: u8 = 63;
+
+// Kinds of tokens and symbols stay numbers here: the table is indexed by them, and text_machine's Codes numbers them.
 
 // A token that doesn't fit.
 #[derive(Clone, Copy, Debug, PartialEq, Eq)]
@@ -279,7 +282,7 @@ impl Pile {
 
     // The text itself is still to come.
     pub fn new() -> Self
-        ensures { result ≡ TEXT ∷ [] }
+        ensures { result ≡ Codes.TEXT ∷ [] }
     {
         let mut symbols = ArrayVec::new();
         symbols.push(TEXT);

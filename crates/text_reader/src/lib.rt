@@ -580,9 +580,10 @@ impl<'t> Reader<'t> {
         }
         let lacking = self.names.lacking();
         if let Some(class) = lacking {
+            let line = sheet.class_line(class);
             return Err(Refused {
                 reason: Reason::Checks,
-                place: sheet.class_line(class),
+                place: line,
             });
         }
         if out.len() < sheet.total {

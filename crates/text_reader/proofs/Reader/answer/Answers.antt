@@ -8,7 +8,7 @@ returns-then-sheet c = answers_full c.args.self.now c.args.bytes c.args.out.now 
 pub returns-in-Some : goal.returns-in-Some
 returns-in-Some c =
     answers_lacking c.args.self.now c.args.bytes c.args.out.now (rw (← c.sheet.view_is) c.if-sheet.false) c.in-Some.ensures
-    c.class_line.ensures
+    c.class_line-line.ensures
 
 pub returns-then-out-sheet : goal.returns-then-out-sheet
 returns-then-out-sheet c =
