@@ -90,46 +90,52 @@ def crates():
 def uses(body, name):
     """Whether a body calls a function of its crate, or names a constant of it. A method goes by its name, whatever it is called on."""
     holder, _, name = name.rpartition('::')
+    holder = holder.rpartition('::')[2]
     before = rf'(?:\.|\bSelf::|\b{holder}::)' if holder else r'(?<![:.\w])'
     return re.search(before + name + (r'\b' if name.isupper() else r'(?:::<.*?>)?\('), body)
 
 
 class Source:
-    """The functions and constants of a crate's source, and which of them come to which."""
+    """The functions and constants of a crate's sources, and which of them come to which. One of a module's file has its name."""
 
     def __init__(self, crate):
         folder = ROOT / 'crates' / crate
         self.file = PROGRAM if (folder / PROGRAM).exists() else SOURCE
-        self.text = (folder / self.file).read_text() if (folder / self.file).exists() else ''
-        holders = [(m.start(), m.end(), m[1]) for m in HOLDER.finditer(self.text)]
-        self.items, self.public, self.constants, self.cycles = [], set(), set(), {}
-        for m in ITEM.finditer(self.text):
-            name = '::'.join([holder for start, end, holder in holders if start < m.start() < end] + [m[4]])
-            self.items.append((m.start(), name))
+        self.texts = {str(path.relative_to(folder)): path.read_text() for path in sorted((folder / 'src').glob('*.rt'))}
+        self.items, self.public, self.constants, self.cycles, self.bodies = [], set(), set(), {}, {}
+        for file in sorted(self.texts, key=lambda file: (file != self.file, file)):
+            self.read(file, self.texts[file])
+        self.names = {name: {other for other in self.bodies if other != name and uses(re.sub(r'//.*', '', body), other)}
+                      for name, body in self.bodies.items()}
+
+    def read(self, file, text):
+        module = [] if file == self.file else [pathlib.Path(file).stem]
+        holders = [(m.start(), m.end(), m[1]) for m in HOLDER.finditer(text)]
+        found = list(ITEM.finditer(text))
+        for m, end in zip(found, [m.start() for m in found[1:]] + [len(text)]):
+            name = '::'.join(module + [holder for start, stop, holder in holders if start < m.start() < stop] + [m[4]])
+            self.items.append((file, m.start(), name))
+            self.bodies[name] = text[m.start():end]
             if m[2]:
                 self.public.add(name)
             if m[3] == 'const':
                 self.constants.add(name)
             for cycle in CYCLE.findall(m[1]):
                 self.cycles.setdefault(cycle, set()).add(name)
-        ends = [start for start, _ in self.items[1:]] + [len(self.text)]
-        self.bodies = {name: self.text[start:end] for (start, name), end in zip(self.items, ends)}
-        self.names = {name: {other for other in self.bodies if other != name and uses(re.sub(r'//.*', '', body), other)}
-                      for name, body in self.bodies.items()}
 
-    def item_at(self, at):
-        return [name for start, name in self.items if start <= at][-1]
+    def item_at(self, file, at):
+        return [name for where, start, name in self.items if where == file and start <= at][-1]
 
-    def item_on(self, line):
-        return self.item_at(len(''.join(self.text.splitlines(True)[:line])) - 1)
+    def item_on(self, file, line):
+        return self.item_at(file, len(''.join(self.texts[file].splitlines(True)[:line])) - 1)
 
-    def item_of(self, old):
-        return self.item_at(self.text.index(old))
+    def item_of(self, edit, old):
+        return self.item_at(edit.file, self.texts[edit.file].index(old))
 
     def in_code(self, edit):
         """Whether all that it changes is code, and no contract."""
         for old in edit.pairs[::2]:
-            body = self.bodies[self.item_of(old)]
+            body = self.bodies[self.item_of(edit, old)]
             begun = re.search(r'^ *\{$', body, re.M)
             if begun and old not in body[begun.start():]:
                 return False
@@ -137,7 +143,7 @@ class Source:
 
     def shown_in(self, edit):
         """The functions whose own proofs an edit of code must break: those that it changes, or that name what it changes."""
-        items = {self.item_of(old) for old in edit.pairs[::2]}
+        items = {self.item_of(edit, old) for old in edit.pairs[::2]}
         return items - self.constants | {name for name in self.bodies if self.names[name] & items & self.constants}
 
     def proved_in(self, file):
@@ -161,11 +167,11 @@ class Source:
             met |= rest
             rest = {other for other, named in self.names.items() if named & rest} - met - self.public
         over = met | {other for other, named in self.names.items() if named & (met - self.public)}
-        return [other for _, other in self.items if other in over & self.public]
+        return [other for _, _, other in self.items if other in over & self.public]
 
     def told_of(self, edit):
         """The functions that an edit is one of: a program has no public ones, so there it is the one that it changes."""
-        name = self.item_of(edit.pairs[0])
+        name = self.item_of(edit, edit.pairs[0])
         return [name] if self.file == PROGRAM else self.public_over(name)
 
 
@@ -190,14 +196,14 @@ class Log:
 
     def functions(self, file, line, source):
         """Those that a file of the copy speaks of; an empty name for a file that speaks of none."""
-        return {source.item_on(line)} if file == source.file else source.proved_in(file) or {''}
+        return {source.item_on(file, line)} if file in source.texts else source.proved_in(file) or {''}
 
 
 def together(source, edits):
     """Faults of the edits of one file: those that could hide behind one another."""
     if len(edits) == 1:
         return []
-    wrong = [f'{edit.name}: not of code alone' for edit in edits if edit.file != source.file or not source.in_code(edit)]
+    wrong = [f'{edit.name}: not of code alone' for edit in edits if edit.file not in source.texts or not source.in_code(edit)]
     for i, edit in enumerate(edits if not wrong else []):
         for other in edits[i + 1:]:
             pairs = [(f, g) for f in source.shown_in(edit) for g in source.shown_in(other)]
@@ -224,7 +230,7 @@ def carried(source, edit):
 def refused(source, edits, said):
     """Faults of the edits of one file as they were tried: those that were not refused for themselves."""
     log = Log(said, source)
-    if len(edits) == 1 and (edits[0].file != source.file or not source.in_code(edits[0])):
+    if len(edits) == 1 and (edits[0].file not in source.texts or not source.in_code(edits[0])):
         return [] if log.refused else [f'{edits[0].name}: refused at no fact']
     return [f'{edit.name}: not refused in its own proof, or not at a fact' for edit in edits
             if not log.refused & source.shown_in(edit)]
@@ -234,8 +240,8 @@ def rows():
     """Crate by crate: its source, and its edits in the order of what they change, each with its public functions."""
     for crate in crates():
         source = Source(crate)
-        edits = sorted(edits_of(crate), key=lambda edit: source.text.find(edit.pairs[0]))
-        yield crate, source, [(edit, source.told_of(edit) if edit.file == source.file else []) for edit in edits]
+        edits = sorted(edits_of(crate), key=lambda edit: (source.texts.get(edit.file) or '').find(edit.pairs[0]))
+        yield crate, source, [(edit, source.told_of(edit) if edit.file in source.texts else []) for edit in edits]
 
 
 def few(source, told):
