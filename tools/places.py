@@ -63,6 +63,11 @@ def functions(crate, path):
         while lines[k] != indent + '{' and not (not contract and re.match(rf'{indent}\S.*\{{$', lines[k])):
             contract.append(lines[k].strip())
             k += 1
+            # A function of a trait may have no body.
+            if contract[-1].endswith('};'):
+                break
+        if contract and contract[-1].endswith('};'):
+            continue
         if lines[k] != indent + '{':
             head.append(lines[k].strip().rstrip('{'))
         k += 1
