@@ -151,12 +151,6 @@ fn is_expression(k: u32) -> bool
         | ((k == kind::PRIO) | ((k == kind::TRACE) | ((k == kind::SET) | (k == kind::LSET))))
 }
 
-fn lesser(a: usize, b: usize) -> usize
-    ensures { result ≡ min a b }
-{
-    if a <= b { a } else { b }
-}
-
 // A node of an operation goes in front of what stands at `at`.
 fn insert_node(body: &mut ArrayVec<u8, KEPT>, at: usize, op: u8)
     requires in_bounds { at ≤ length body.old.items }
@@ -248,7 +242,7 @@ impl Draft {
     {
         self.over = true;
         self.body.clear();
-        self.size = lesser(FULL, self.size + n);
+        self.size = FULL.min(self.size + n);
     }
 
     // Bytes behind the body.
@@ -334,7 +328,7 @@ impl Draft {
             self.lose(op::NODE_BYTES);
             return;
         }
-        let at = lesser(p, self.size);
+        let at = p.min(self.size);
         insert_node(&mut self.body, at, op);
         self.size += op::NODE_BYTES;
     }

@@ -32,7 +32,7 @@ const PIECES: usize = limit::ACTIONS;
 
 const STAGE: usize = limit::FILE;
 
-const LEVELS: usize = limit::DEPTH + 1;
+pub const LEVELS: usize = limit::DEPTH + 1;
 
 // A class: where the number of its body block stands in the declarations, and its first line.
 #[derive(Clone, Copy, Default)]
@@ -148,10 +148,7 @@ fn added(total: usize, n: usize) -> usize
     requires { (total ≤ FULL) × (n ≤ FULL + HEAD) }
     ensures { result ≡ M.added total n }
 {
-    if total + n < FULL {
-        return total + n;
-    }
-    FULL
+    FULL.min(total + n)
 }
 
 // Bytes put at a place; answers the place behind them.
