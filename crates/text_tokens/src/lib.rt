@@ -12,7 +12,7 @@ ghost use Rattle.text_tokens.specs.Parts.{longest_keyword, found, word_kind, dou
 pub mod mark;
 
 // A token, from its place to just before its end. The value is that of a number. Its kind is a number and no enum: text_machine's
-// `token_of` has kinds as numbers, and theorems of text_machine, text_agrees and text_answers name them so.
+// `token_of` takes it so, and text_semantics has marks as numbers.
 #[derive(Clone, Copy)]
 pub struct Token {
     pub kind: u8,
