@@ -1,4 +1,5 @@
--- Laws of drafts: bytes put one after the other, what is stored into what is lent, and the open expressions.
+-- Laws of drafts: bytes put one after the other and put in at a place; and, from WHETHER on, laws that no proof needs any more and
+-- that stand as theorems.
 -- Assumes nothing.
 use Rattle.std.specs.Prelude.{ℕ, ◌+◌, ◌-◌, ◌/◌, ◌%◌, ◌≤◌, ◌<◌, min, ◌≡◌, refl, Bool, true, false, ◌||◌, List, [], ◌∷◌, ◌++◌, ltb, leb, length, take, drop, replicate, if◌then◌else◌}
 use Rattle.std.proofs.Common.{le_of_lt, arith, sym, ap, ◌∙◌, append_assoc, length-append, drop_of_length-le, length-take-le, take_all, ltb-true, ltb-false, leb-true, leb-false, lt-ltb}
@@ -34,7 +35,7 @@ body_twice false false xs ys h = refl
 body_twice true false xs ys h = ap (λ t. if t then [] else [] ++ ys) (h refl) ∙ ap (λ t. if t then [] else xs ++ ys)
     (sym (h refl))
 
-with_body_lem : (x : M.Draft) {bs cs : List ℕ} {o p : Bool} {n m : ℕ} → bs ≡ cs → o ≡ p → n ≡ m
+pub with_body_lem : (x : M.Draft) {bs cs : List ℕ} {o p : Bool} {n m : ℕ} → bs ≡ cs → o ≡ p → n ≡ m
     → with_body x bs o n ≡ with_body x cs p m
 with_body_lem x e f g = cc
 

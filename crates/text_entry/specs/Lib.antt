@@ -1,5 +1,6 @@
 pub mod Draft
 pub mod Laws
+pub mod Words
 pub mod Tokens
 pub mod Shown
 pub mod At

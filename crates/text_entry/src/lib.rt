@@ -151,19 +151,13 @@ fn is_expression(k: u32) -> bool
         | ((k == kind::PRIO) | ((k == kind::TRACE) | ((k == kind::SET) | (k == kind::LSET))))
 }
 
-fn lesser(a: usize, b: usize) -> usize
-    ensures { result ≡ min a b }
-{
-    if a <= b { a } else { b }
-}
-
 // A node of an operation goes in front of what stands at `at`.
 fn insert_node(body: &mut ArrayVec<u8, KEPT>, at: usize, op: u8)
     requires in_bounds { at ≤ length body.old.items }
     requires room { length body.old.items + NODE ≤ M.KEPT }
     ensures { body.new.items ≡ take at body.old.items ++ node op 0 ++ drop at body.old.items }
 {
-    // A node is its op and five more bytes.
+    // A node is its op and five more bytes; how many of them are there is named for the loop's invariant.
     for zeros in 0..op::NODE_BYTES - 1 {
         body.insert(at, 0);
     }
@@ -248,7 +242,7 @@ impl Draft {
     {
         self.over = true;
         self.body.clear();
-        self.size = lesser(FULL, self.size + n);
+        self.size = FULL.min(self.size + n);
     }
 
     // Bytes behind the body.
@@ -334,7 +328,7 @@ impl Draft {
             self.lose(op::NODE_BYTES);
             return;
         }
-        let at = lesser(p, self.size);
+        let at = p.min(self.size);
         insert_node(&mut self.body, at, op);
         self.size += op::NODE_BYTES;
     }
@@ -692,7 +686,9 @@ impl Draft {
     }
 
     // What the token of that kind and value at p, read where s was still to come, makes of the draft. A name in it is of the
-    // kind w and has the number i; k blocks have been opened. At an etry the draft is the try that goes on.
+    // kind w and has the number i; k blocks have been opened. At an etry the draft is the try that goes on. All of these go on as they
+    // are, here and above, and not as one struct: text_machine's `drafted` and its parts take them one by one, and each contract
+    // names its own of them.
     #[tactic(auto, unfolding(text_machine::specs::Entry::drafted))]
     pub fn drafted(&mut self, s: u8, kind: u8, value: u32, w: u32, i: u32, k: u32, p: usize)
         requires i_bound { (i < TWO) × (k < TWO) }

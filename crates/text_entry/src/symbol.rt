@@ -1,5 +1,6 @@
 // What can be still to come as numbers: a mark, a number and a name as the tokens have them; then these. The parts of an
-// expression stand behind all others, so many for each number of brackets that may be opened.
+// expression stand behind all others, so many for each number of brackets that may be opened. They are numbers and no enum, since
+// text_machine's `symbol_of` and its theorems name them so.
 pub const COUNT: u8 = 50;
 
 pub const MAGNITUDE: u8 = 51;

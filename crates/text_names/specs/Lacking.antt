@@ -8,7 +8,7 @@ use Rattle.semantics.specs.Kinds as K
 use Rattle.text_semantics.specs.Names.{Known}
 use Rattle.text_machine.specs.Machine.{most_names, lacking}
 use Rattle.text_names.specs.declared.Row.{Row}
-use Rattle.text_names.specs.Table.{known_by, known_of, lacking_in, lacking_of}
+use Rattle.text_names.specs.Table.{known_by, known_of, lacking_in, lacking_of, lacking_class}
 
 module _ (p q : Known → Bool) where
   no_more : (ks : List Known) → first_at q (keep p ks) ≤ length ks
@@ -64,6 +64,13 @@ lacking_bare ks = rw (any-bare ks, first_bare ks)
 pub lacking_known : (bs : List ℕ) (rows : List Row) → lacking_of rows ≡ lacking_in (known_of bs rows)
 lacking_known bs rows =
     sym (lacking_bare (known_of [] rows)) ∙ ap lacking_in (nameless bs rows) ∙ lacking_bare (known_of bs rows)
+
+class_bare : (ks : List Known) → lacking_class (map bare ks) ≡ lacking_class ks
+class_bare ks = rw (any-bare ks, first_bare ks)
+
+pub class_known : (bs : List ℕ) (rows : List Row) → lacking_class (known_of [] rows) ≡ lacking_class (known_of bs rows)
+class_known bs rows =
+    sym (class_bare (known_of [] rows)) ∙ ap lacking_class (nameless bs rows) ∙ class_bare (known_of bs rows)
 
 pub lacks_any : (ks : List Known) → length ks ≤ most_names → ltb (lacking_in ks) most_names ≡ any lacking ks
 lacks_any ks h = by (any lacking ks) refl

@@ -18,14 +18,14 @@ use Rattle.text_names.specs.declared.Trouble.TheVariants.{Unknown, Again}
 use Rattle.text_names.specs.Table.{Distinct, the_one, found_of}
 use Rattle.text_names.specs.Once.{kind_of_one, once_fits, once_awaited}
 
--- A trouble by its number, as the definitions have it; none where there is none.
+-- A trouble by its number, as the definitions have it; and that of an answer, none where it is no trouble.
 abbrev pub number_of : Trouble → ℕ
 number_of Unknown = No.UNKNOWN
 number_of Again = No.AGAIN
 
-abbrev pub told : {A : Type 0} → Result A Trouble → Option ℕ
-told (Ok x) = none
-told (Err t) = some (number_of t)
+abbrev pub trouble_in : {A : Type 0} → Result A Trouble → Option ℕ
+trouble_in (Ok x) = none
+trouble_in (Err t) = some (number_of t)
 
 -- BY WHAT WAS FOUND.
 abbrev pub is_of : List ℕ → Code.Option Found → Bool
@@ -68,10 +68,23 @@ module _ (ks : List Known) (x : Name) (d : Distinct ks) where
       by false true = refl
       by false false = refl
 
--- The trouble that is told.
-told-wanting : (t : Bool) → told {A = Unit {0}} (if t then Ok tt else Err Unknown) ≡ wanting No.UNKNOWN t
-told-wanting true = refl
-told-wanting false = refl
+-- A trouble as a number: 0 is none. No function tells it so any more; its laws stand because they stood.
+abbrev pub told : Option ℕ → ℕ
+told none = 0
+told (some n) = n
+
+told-wanting : (n : ℕ) (t : Bool) → (if t then 0 else n) ≡ told (wanting n t)
+told-wanting n true = refl
+told-wanting n false = refl
+
+told-not : (n : ℕ) (t : Bool) → (if t then n else 0) ≡ told (wanting n (not t))
+told-not n true = refl
+told-not n false = refl
+
+-- The trouble that an answer is.
+trouble-wanting : (t : Bool) → trouble_in {A = Unit {0}} (if t then Ok tt else Err Unknown) ≡ wanting No.UNKNOWN t
+trouble-wanting true = refl
+trouble-wanting false = refl
 
 module _ (ks : List Known) (x : Name) where
   abbrev one : Found
@@ -82,34 +95,34 @@ module _ (ks : List Known) (x : Name) where
     lacks = (the_one ks x).lacks;
   }
 
-  told-known : (t : Bool) → told (declared_of (if t then Some one else None)) ≡ wanting No.AGAIN (not t)
-  told-known true = refl
-  told-known false = refl
+  trouble-known : (t : Bool) → trouble_in (declared_of (if t then Some one else None)) ≡ wanting No.AGAIN (not t)
+  trouble-known true = refl
+  trouble-known false = refl
 
-  told-bodied : (t l : Bool) → (the_one ks x).lacks ≡ l
-      → told (embodied_of (if t then Some one else None)) ≡ wanting No.AGAIN (not (t && not l))
-  told-bodied true true e = rw e
-  told-bodied true false e = rw e
-  told-bodied false l e = refl
+  trouble-bodied : (t l : Bool) → (the_one ks x).lacks ≡ l
+      → trouble_in (embodied_of (if t then Some one else None)) ≡ wanting No.AGAIN (not (t && not l))
+  trouble-bodied true true e = rw e
+  trouble-bodied true false e = rw e
+  trouble-bodied false l e = refl
 
-  pub declared_trouble : (w : ℕ) → told (declared_of (found_of ks x)) ≡ trouble ks (declares w x)
+  pub declared_trouble : (w : ℕ) → trouble_in (declared_of (found_of ks x)) ≡ trouble ks (declares w x)
   unfolding trouble
-  declared_trouble w = told-known (any (named x) ks)
+  declared_trouble w = trouble-known (any (named x) ks)
 
-  pub announced_trouble : told (declared_of (found_of ks x)) ≡ trouble ks (announces x)
+  pub announced_trouble : trouble_in (declared_of (found_of ks x)) ≡ trouble ks (announces x)
   unfolding trouble
-  announced_trouble = told-known (any (named x) ks)
+  announced_trouble = trouble-known (any (named x) ks)
 
   module _ (d : Distinct ks) where
-    pub asked_trouble : (ws : List ℕ) → told (asked_of (found_of ks x) ws) ≡ trouble ks (asks ws x)
+    pub asked_trouble : (ws : List ℕ) → trouble_in (asked_of (found_of ks x) ws) ≡ trouble ks (asks ws x)
     unfolding trouble
     asked_trouble ws =
-        told-wanting (is_of ws (found_of ks x)) ∙ ap (wanting No.UNKNOWN) (sym (fits_found ks x d ws))
+        trouble-wanting (is_of ws (found_of ks x)) ∙ ap (wanting No.UNKNOWN) (sym (fits_found ks x d ws))
 
-    pub embodied_trouble : told (embodied_of (found_of ks x)) ≡ trouble ks (embodies x)
+    pub embodied_trouble : trouble_in (embodied_of (found_of ks x)) ≡ trouble ks (embodies x)
     unfolding trouble
     embodied_trouble =
-        told-bodied (any (named x) ks) (the_one ks x).lacks refl ∙ ap (wanting No.AGAIN) (sym (awaited_found ks x d))
+        trouble-bodied (any (named x) ks) (the_one ks x).lacks refl ∙ ap (wanting No.AGAIN) (sym (awaited_found ks x d))
 
 -- LISTS THAT ASK FOR THE SAME: a kind may stand there more than once.
 fits_alike : (ws vs : List ℕ) → ((w : ℕ) → any (eqb w) ws ≡ any (eqb w) vs) → (x : Name) (ks : List Known)

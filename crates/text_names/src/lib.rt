@@ -2,10 +2,10 @@
 // table. A row has a key of its name, so that a search looks at the text only where the keys are the same.
 #![tactic(auto)]
 
-ghost use Rattle.std.specs.Prelude.{◌≡◌, List, ℕ, ◌-◌, ◌≤◌, ◌<◌, length};
+ghost use Rattle.std.specs.Prelude.{◌≡◌, [], ◌-◌, ◌≤◌, ◌<◌, length};
 ghost use Rattle.semantics.specs.Kinds as K;
 ghost use Rattle.text_semantics.specs.Lexing.{same_bytes};
-ghost use Rattle.text_names.specs.Table.{key_of};
+ghost use Rattle.text_names.specs.Table.{key_of, known_of, lacking_class};
 ghost use Rattle.text_names.specs.Trouble.{asked_of, declared_of, embodied_of};
 
 use arrayvec::ArrayVec;
@@ -112,6 +112,25 @@ pub struct Row {
     pub lacks: bool,
 }
 
+// The number of the first class that lacks its body, if any name does: it is told by rows alone, whatever the text is.
+pub fn lacking(rows: &[Row]) -> Option<usize>
+    ensures { result ≡ lacking_class (known_of [] rows.now) }
+{
+    let mut others = false;
+    let mut classes = 0;
+    for row in rows {
+        if row.kind == kind::CLASS {
+            if row.lacks {
+                return Some(classes);
+            }
+            classes += 1;
+        } else {
+            others = others | row.lacks;
+        }
+    }
+    if others { Some(classes) } else { None }
+}
+
 // The names of a text, in their order.
 #[derive(Drop)]
 pub struct Names<'t> {
@@ -130,10 +149,10 @@ impl<'t> Model for Names<'t> {
 }
 
 impl<'t> Names<'t> {
-    ghost use Rattle.std.specs.Prelude.{[], true, false, IfSome};
+    ghost use Rattle.std.specs.Prelude.{true, false, IfSome};
     ghost use Rattle.text_semantics.specs.Names.{declares, announces, embodies, leaves, knows};
     ghost use Rattle.text_machine.specs.Machine.{keeps};
-    ghost use Rattle.text_names.specs.Table.{known_in, part_of, Distinct, place_in, found_of, lacking_class};
+    ghost use Rattle.text_names.specs.Table.{known_in, part_of, Distinct, place_in, found_of};
     ghost use Rattle.text_names.specs.Rows.{with_rows, with_row, bodied_at, embodied, left, how_many};
 
     // No name is known yet.
@@ -267,18 +286,6 @@ impl<'t> Names<'t> {
     pub fn lacking(&self) -> Option<usize>
         ensures { result ≡ lacking_class (known_in self.now) }
     {
-        let mut others = false;
-        let mut classes = 0;
-        for row in self.rows.iter() {
-            if row.kind == kind::CLASS {
-                if row.lacks {
-                    return Some(classes);
-                }
-                classes += 1;
-            } else {
-                others = others | row.lacks;
-            }
-        }
-        if others { Some(classes) } else { None }
+        lacking(self.rows.as_slice())
     }
 }

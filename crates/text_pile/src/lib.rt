@@ -259,7 +259,8 @@ fn put(symbols: &mut ArrayVec<u8, HIGHEST>, next: &[u8], by: u8)
     }
 }
 
-// The pile: the numbers of the symbols that are still to come, the next one last.
+// The pile: the numbers of the symbols that are still to come, the next one last. They are numbers and no enum: text_machine's
+// `symbol_of` names them so, and the table is asked by them.
 #[derive(Drop)]
 pub struct Pile {
     symbols: ArrayVec<u8, HIGHEST>,
@@ -278,11 +279,16 @@ impl Model for Pile {
 
 impl Pile {
     ghost use Rattle.std.specs.Prelude.{◌∷◌, [], ◌-◌, slice_get};
+    ghost use Rattle.text_machine.specs.Codes as C;
     ghost use Rattle.text_pile.specs.Pile.{Turns};
 
     // The text itself is still to come.
     pub fn new() -> Self
+<<<<<<< HEAD
         ensures { result ≡ Codes.TEXT ∷ [] }
+=======
+        ensures { result ≡ C.TEXT ∷ [] }
+>>>>>>> de7bd0948df99afbf09891b14ce553383c034a3c
     {
         let mut symbols = ArrayVec::new();
         symbols.push(TEXT);

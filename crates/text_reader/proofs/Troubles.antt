@@ -20,7 +20,7 @@ use Rattle.text_machine.specs.Machine.{asked, of_name}
 use Rattle.text_names.specs.declared.Found.{Found}
 use Rattle.text_names.specs.declared.Trouble.{Trouble}
 use Rattle.text_names.specs.Table.{Distinct, found_of}
-use Rattle.text_names.specs.Trouble.{told, asked_of, declared_of, embodied_of, asked_trouble, embodied_trouble}
+use Rattle.text_names.specs.Trouble.{trouble_in, asked_of, declared_of, embodied_of, asked_trouble, embodied_trouble}
 use Rattle.text_names.specs.Trouble.{declared_trouble, announced_trouble}
 use Rattle.text_reader.specs.Sorts as Sort
 use Rattle.text_reader.specs.Sorts.{name_event, event_by}
@@ -68,21 +68,21 @@ no_name k v x f h =
 -- AT A NAME that has to come.
 module _ (ks : List Known) (x : Name) (d : Distinct ks) (role : ℕ) {f : Code.Option Found} (e : f ≡ found_of ks x) where
   pub role_asks : ASK ≤ role → {r : Result (Unit {0}) Trouble} → r ≡ asked_of f ((role - ASK) ∷ [])
-      → told r ≡ trouble ks (asked role x)
+      → trouble_in r ≡ trouble ks (asked role x)
   role_asks h q =
       let w : ℕ = role - ASK in
-      ap told q ∙ ap (λ g. told (asked_of g (w ∷ []))) e ∙ asked_trouble ks x d (w ∷ [])
+      ap trouble_in q ∙ ap (λ g. trouble_in (asked_of g (w ∷ []))) e ∙ asked_trouble ks x d (w ∷ [])
       ∙ ap (λ b. trouble ks (if b then asks (w ∷ []) x else if eqb role K.CLASS then embodies x else declares role x))
       (sym (le-leb ASK role h))
 
-  pub role_embodies : role ≡ K.CLASS → {r : Result (Unit {0}) Trouble} → r ≡ embodied_of f → told r ≡ trouble ks (asked role x)
+  pub role_embodies : role ≡ K.CLASS → {r : Result (Unit {0}) Trouble} → r ≡ embodied_of f → trouble_in r ≡ trouble ks (asked role x)
   role_embodies h q =
-      ap told q ∙ ap (λ g. told (embodied_of g)) e ∙ embodied_trouble ks x d ∙ ap (λ w. trouble ks (asked w x)) (sym h)
+      ap trouble_in q ∙ ap (λ g. trouble_in (embodied_of g)) e ∙ embodied_trouble ks x d ∙ ap (λ w. trouble ks (asked w x)) (sym h)
 
   pub role_declares : role < ASK → (role ≡ K.CLASS → ⊥) → {r : Result (Unit {0}) Trouble} → r ≡ declared_of f
-      → told r ≡ trouble ks (asked role x)
+      → trouble_in r ≡ trouble ks (asked role x)
   role_declares h k q =
-      ap told q ∙ ap (λ g. told (declared_of g)) e ∙ declared_trouble ks x role
+      ap trouble_in q ∙ ap (λ g. trouble_in (declared_of g)) e ∙ declared_trouble ks x role
       ∙ ap (λ b. trouble ks (if b then embodies x else declares role x)) (sym (ne_eqb role K.CLASS k))
       ∙ ap (λ b. trouble ks (if b then asks ((role - ASK) ∷ []) x else if eqb role K.CLASS then embodies x
       else declares role x)) (sym (lt-leb ASK role h))
@@ -90,8 +90,8 @@ module _ (ks : List Known) (x : Name) (d : Distinct ks) (role : ℕ) {f : Code.O
 -- AT ANY TOKEN.
 module _ (ks : List Known) (role v : ℕ) (x y : Name) where
   pub body_semi : {g : Code.Option Found} → g ≡ found_of ks y → {r : Result (Unit {0}) Trouble} → r ≡ declared_of g
-      → told r ≡ trouble ks (event_by Sort.BODY role y (token_of T.SEMI v x))
-  body_semi e q = ap told q ∙ ap (λ g. told (declared_of g)) e ∙ announced_trouble ks y
+      → trouble_in r ≡ trouble ks (event_by Sort.BODY role y (token_of T.SEMI v x))
+  body_semi e q = ap trouble_in q ∙ ap (λ g. trouble_in (declared_of g)) e ∙ announced_trouble ks y
 
   pub body_other : (k : ℕ) → (k ≡ T.SEMI → ⊥) → none ≡ trouble ks (event_by Sort.BODY role y (token_of k v x))
   unfolding trouble
@@ -136,8 +136,8 @@ module _ (ks : List Known) (role v : ℕ) (x y : Name) where
 
   module _ (d : Distinct ks) {f : Code.Option Found} (e : f ≡ found_of ks x) (ws : List ℕ) {r : Result (Unit {0}) Trouble}
       (q : r ≡ asked_of f ws) where
-    pub kinds_ask : told r ≡ trouble ks (asks ws x)
-    kinds_ask = ap told q ∙ ap (λ g. told (asked_of g ws)) e ∙ asked_trouble ks x d ws
+    pub kinds_ask : trouble_in r ≡ trouble ks (asks ws x)
+    kinds_ask = ap trouble_in q ∙ ap (λ g. trouble_in (asked_of g ws)) e ∙ asked_trouble ks x d ws
 
 -- THE NAME that a token is: none where it is no name.
 nothing_by : (k v : ℕ) (a b : Bool) → name_in (if a then mark k else if b then number v else bad) ≡ []

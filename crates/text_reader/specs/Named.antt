@@ -11,7 +11,7 @@ use Rattle.text_machine.specs.Codes.{token_of}
 use Rattle.text_tokens.specs.declared.Token.{Token}
 use Rattle.text_names.specs.declared.Trouble.{Trouble}
 use Rattle.text_names.specs.Table.{part_of}
-use Rattle.text_names.specs.Trouble.{told}
+use Rattle.text_names.specs.Trouble.{trouble_in}
 use Rattle.text_reader.specs.declared.Named.{Named}
 use Rattle.text_reader.specs.declared.sort.Sort.{Sort}
 use Rattle.text_reader.specs.declared.sort.Sort.TheVariants as S
@@ -40,7 +40,7 @@ pub record Named_as (ks : List Known) (x y : Name) (r : Named) : Type 0 where
   pub class : r.class ≡ number_if ks y
 
 pub record Tells (ks : List Known) (sort role : ℕ) (called : Name) (t : T.Token) (r : Result Named Trouble) : Type 0 where
-  pub trouble : told r ≡ trouble ks (event_by sort role called t)
+  pub trouble : trouble_in r ≡ trouble ks (event_by sort role called t)
   pub named : IfOk r (Named_as ks (name_in t) called)
 
 -- Where the name ends that a token is; what is no name has none.

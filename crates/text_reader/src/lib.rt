@@ -29,7 +29,7 @@ ghost use Rattle.text_machine.specs.Machine.{asked};
 ghost use Rattle.file_check_record.specs.Rows as Rows;
 ghost use Rattle.text_pile.specs.Pile.{SYMBOLS};
 ghost use Rattle.text_names.specs.Table.{Distinct, known_in, part_of, found_of};
-ghost use Rattle.text_names.specs.Trouble.{told};
+ghost use Rattle.text_names.specs.Trouble.{trouble_in};
 ghost use Rattle.text_reader.specs.Cut.{counts_of, cut_of};
 ghost use Rattle.text_reader.specs.Sorts.{sort_of, event_by, known_by, body_by, sheet_by, cut_by, trouble_place, calls_by};
 ghost use Rattle.text_reader.specs.Sorts as Sorts;
@@ -90,7 +90,7 @@ const STORES: [u32; 2] = [kind::VAR, text_names::LOCAL];
 
 // At a name that has to come.
 fn name_trouble(role: u32, found: Option<Found>) -> Result<(), Trouble>
-    ensures { (ks : List Known) (x : Name) → Distinct ks → found ≡ found_of ks x → told result ≡ trouble ks (asked role x) }
+    ensures { (ks : List Known) (x : Name) → Distinct ks → found ≡ found_of ks x → trouble_in result ≡ trouble ks (asked role x) }
 {
     if ASK <= role {
         return text_names::asks_trouble(found, &[role - ASK]);
@@ -110,7 +110,7 @@ fn trouble_of(
     class: Option<Found>,
 ) -> Result<(), Trouble>
     ensures { (ks : List Known) (v : ℕ) (x y : Name) → Distinct ks → (kind ≡ NAME → own ≡ found_of ks x)
-        → class ≡ found_of ks y → told result ≡ trouble ks (event_by (sort_number sort) role y (token_of kind v x)) }
+        → class ≡ found_of ks y → trouble_in result ≡ trouble ks (event_by (sort_number sort) role y (token_of kind v x)) }
 {
     if kind == mark::SEMI {
         return match sort {

@@ -8,7 +8,7 @@ use Rattle.semantics.specs.Words.{more}
 use Rattle.text_machine.specs.Entry.{Draft, FULL}
 use Rattle.text_machine.specs.Sheet as M
 use Rattle.text_machine.specs.Sheet.{headed}
-use Rattle.text_sheet.specs.Numbers.{noted}
+use Rattle.text_sheet.specs.Numbers.{class_noted}
 
 -- A group that has no more records than bytes, while these are counted, and few anyway.
 pub bounded : (total n : ℕ) → (total < FULL → n ≤ total) → (FULL ≤ total → n ≤ FULL) → n ≤ FULL
@@ -38,9 +38,9 @@ module _ (bs : List ℕ) (p : ℕ) (s : M.Sheet) where
   abbrev many : Bool
   many = leb No.most_classes (length s.class_at)
 
-  noted_then : (a : Bool) → noted (length s.declared + 4) p (written a)
+  noted_then : (a : Bool) → class_noted (length s.declared + 4) p (written a)
       ≡ (if many then M.filled (written a) else with_class (written a))
-  unfolding noted
+  unfolding class_noted
   noted_then true = refl
   noted_then false = refl
 
@@ -56,7 +56,7 @@ module _ (bs : List ℕ) (p : ℕ) (s : M.Sheet) where
   written_then true = refl
   written_then false = refl
 
-  pub classes_swap : noted (length s.declared + 4) p (M.declaring bs s) ≡ M.declaring bs (M.classed p s)
+  pub classes_swap : class_noted (length s.declared + 4) p (M.declaring bs s) ≡ M.declaring bs (M.classed p s)
   unfolding M.declaring M.classed
   classes_swap = noted_then full ∙ swapped full many ∙ written_then many
 

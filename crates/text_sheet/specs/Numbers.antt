@@ -28,8 +28,8 @@ kept_length none = None
 kept_length (some k) = Some (length k.body)
 
 -- A class is noted, whose body block's number stands there, if there is room for it.
-unfoldable pub noted : ℕ → ℕ → M.Sheet → M.Sheet
-noted at line s =
+unfoldable pub class_noted : ℕ → ℕ → M.Sheet → M.Sheet
+class_noted at line s =
     if leb No.most_classes (length s.class_at)
     then M.filled s
     else M.with_class s (s.class_at ++ (at ∷ [])) (s.class_line ++ (line ∷ [])) (length s.class_at)

@@ -11,7 +11,7 @@ ghost use Rattle.text_semantics.specs.Written.{two as two_of};
 ghost use Rattle.text_machine.specs.Entry.{FULL};
 ghost use Rattle.text_machine.specs.Sheet.{headed, innermost, kept_in};
 ghost use Rattle.text_machine.specs.Sheet as M;
-ghost use Rattle.text_sheet.specs.Numbers.{HEAD, ROOM, entry, kept_length, noted, OpenedTotal};
+ghost use Rattle.text_sheet.specs.Numbers.{HEAD, ROOM, entry, kept_length, class_noted, OpenedTotal};
 ghost use Rattle.text_sheet.specs.Pieces.{pieces_from, Laid};
 ghost use Rattle.text_sheet.specs.Told.{Put};
 ghost use Rattle.std.proofs.Math.Option.{some};
@@ -20,16 +20,19 @@ use arrayvec::ArrayVec;
 use base_numbers::{group, kind, limit};
 use std::marker::Model;
 
-// How many bytes there is room for: of declarations, and of a kept body; and how many levels, one more than the checks let pass.
-pub mod room {
-    use base_numbers::limit;
+// How many there is room for: bytes of declarations, bytes of a kept body, classes, pieces, their bytes, and open blocks, which are
+// one more than the checks let pass.
+pub const DECLARED: usize = 4096;
 
-    pub const DECLARED: usize = 4096;
+pub const BODY: usize = 256;
 
-    pub const BODY: usize = 256;
+const CLASSES: usize = limit::CLASSES;
 
-    pub const LEVELS: usize = limit::DEPTH + 1;
-}
+const PIECES: usize = limit::ACTIONS;
+
+const STAGE: usize = limit::FILE;
+
+pub const LEVELS: usize = limit::DEPTH + 1;
 
 // A class: where the number of its body block stands in the declarations, and its first line.
 #[derive(Clone, Copy, Default)]
@@ -49,7 +52,7 @@ struct Piece {
 #[derive(Drop)]
 struct Kept {
     line: usize,
-    body: ArrayVec<u8, 256>,
+    body: ArrayVec<u8, BODY>,
 }
 
 impl Model for Kept {
@@ -87,12 +90,12 @@ pub struct Sheet {
     pub first: usize,
     last_block: u32,
     pub last_line: usize,
-    declared: ArrayVec<u8, 4096>,
-    classes: ArrayVec<Class, 64>,
+    declared: ArrayVec<u8, DECLARED>,
+    classes: ArrayVec<Class, CLASSES>,
     current: usize,
-    pieces: ArrayVec<Piece, 1024>,
-    stage: ArrayVec<u8, 65535>,
-    levels: ArrayVec<Level, 9>,
+    pieces: ArrayVec<Piece, PIECES>,
+    stage: ArrayVec<u8, STAGE>,
+    levels: ArrayVec<Level, LEVELS>,
     pub full: bool,
 }
 
@@ -145,10 +148,7 @@ fn added(total: usize, n: usize) -> usize
     requires { (total ≤ FULL) × (n ≤ FULL + HEAD) }
     ensures { result ≡ M.added total n }
 {
-    if total + n < FULL {
-        return total + n;
-    }
-    FULL
+    FULL.min(total + n)
 }
 
 // Bytes put at a place; answers the place behind them.
@@ -340,7 +340,7 @@ impl Sheet {
         requires { (kind < Byte.TWO) × (length body.now ≤ ROOM) }
         ensures { self.new ≡ M.declaring (headed kind body.now) self.old }
     {
-        if room::DECLARED < self.declared.len() + (HEAD + body.len()) {
+        if DECLARED < self.declared.len() + (HEAD + body.len()) {
             self.full = true;
             return;
         }
@@ -358,10 +358,10 @@ impl Sheet {
     }
 
     // A class is noted, whose body block's number stands there, if there is room for it.
-    #[tactic(auto, unfolding(crate::specs::Numbers::noted))]
+    #[tactic(auto, unfolding(crate::specs::Numbers::class_noted))]
     fn noted(&mut self, at: usize, line: usize)
         requires { self.old.full ≡ false → at + 2 ≤ length self.old.declared }
-        ensures { self.new ≡ noted at line self.old }
+        ensures { self.new ≡ class_noted at line self.old }
     {
         let next = self.classes.len();
         if limit::CLASSES <= next {
@@ -505,7 +505,8 @@ impl Sheet {
         requires kind_bound { (kind < Byte.TWO) × (length body.now ≤ ROOM) }
         ensures { self.new ≡ M.opens (entry line kind (length body.now) body.now) self.old }
     {
-        // While bytes are counted, no group has more records than they are.
+        // Read for the proof alone (without it that of `braces` doesn't close): it brings the invariant, that while bytes are counted
+        // no group has more records than they are.
         let _ = &self.total;
         let is_try = kind == kind::TRY;
         if is_try {

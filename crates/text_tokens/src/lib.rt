@@ -11,7 +11,8 @@ ghost use Rattle.text_tokens.specs.Parts.{longest_keyword, found, word_kind, dou
 
 pub mod mark;
 
-// A token, from its place to just before its end. The value is that of a number.
+// A token, from its place to just before its end. The value is that of a number. Its kind is a number and no enum: text_machine's
+// `token_of` takes it so, and text_semantics has marks as numbers.
 #[derive(Clone, Copy)]
 pub struct Token {
     pub kind: u8,

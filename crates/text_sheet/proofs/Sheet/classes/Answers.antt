@@ -6,7 +6,7 @@ use Rattle.semantics.specs.Words.{more}
 use Rattle.text_semantics.specs.Written.{two}
 use Rattle.text_machine.specs.Sheet as M
 use Rattle.text_machine.specs.Sheet.{headed}
-use Rattle.text_sheet.specs.Numbers.{noted}
+use Rattle.text_sheet.specs.Numbers.{class_noted}
 use Rattle.text_sheet.proofs.Steps.{classes_swap, declared_room}
 use Rattle.text_sheet.proofs.Sheet.classes.Goals as goal
 
@@ -31,6 +31,6 @@ returns c = let a = c.args in
     let d : c.declaring.new.self ≡ M.declaring bs t =
     c.declaring.ensures ∙ ap (λ xs. M.declaring (headed K.CLASS xs) c.counted.new.self) w
     ∙ ap (M.declaring bs) c.counted.ensures in
-    c.noted.ensures ∙ ap (λ k. noted (k + 4) a.line c.declaring.new.self) n
-    ∙ ap (noted (length s.declared + 4) a.line) d
+    c.noted.ensures ∙ ap (λ k. class_noted (k + 4) a.line c.declaring.new.self) n
+    ∙ ap (class_noted (length s.declared + 4) a.line) d
     ∙ classes_swap bs a.line t
