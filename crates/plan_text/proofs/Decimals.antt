@@ -1,8 +1,8 @@
 -- The decimals of the library are those of the text. Assumes nothing.
-use Rattle.std.specs.Prelude.{◌≡◌, refl, Bool, true, false, [], ◌∷◌, ◌++◌, ℕ, suc, ◌+◌, ◌-◌, ◌%◌, ◌^◌, ◌<◌, ltb, ℤ, pos, negsuc}
+use Rattle.std.specs.Prelude.{◌≡◌, refl, Bool, true, false, [], ◌∷◌, ◌++◌, ℕ, suc, ◌+◌, ◌-◌, ◌%◌, ◌^◌, ◌<◌, ltb}
 use Rattle.std.specs.Fmt.{decimal as library_decimal, signed_decimal as library_signed}
 use Rattle.std.specs.Int.{cast_signed}
-use Rattle.std.proofs.Common.{◌∙◌, ap, arith, lt-ltb, le-ltb, ltb-true, ltb-false}
+use Rattle.std.proofs.Common.{◌∙◌, ap, arith}
 use Rattle.std.proofs.lemmas.Fmt.{decimal_by_steps}
 use mir.Syntax.{w32}
 use Rattle.semantics.specs.Bytes.{signed}

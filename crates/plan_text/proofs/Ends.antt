@@ -1,7 +1,7 @@
 -- The last line and a refusal, put word by word. Assumes nothing.
 use Rattle.std.specs.Prelude.{◌≡◌, [], List, ◌++◌, ℕ, ◌^◌, ◌<◌}
 use Rattle.std.specs.Fmt.{decimal as library_decimal}
-use Rattle.std.proofs.Common.{sym, ◌∙◌, ap, append_assoc, arith}
+use Rattle.std.proofs.Common.{sym, ◌∙◌, ap, append_assoc}
 use Rattle.semantics.specs.Run.{Answer, FAULT}
 use Rattle.semantics.specs.Bound.{Bounded, AT}
 use Rattle.plan_text.specs.Text.{ascii, decimal, answer_text, bound_text, end_text, refused_text}

@@ -67,9 +67,9 @@ module _ (r x r' : List ℕ) (n m : ℕ) (e : r ≡ x ++ r') (l : length x ≡ L
       let i : n ≡ suc m = omega arith in
       rw (i, e, tells_in, drop_at x r' Line.BYTES l) (ap (λ t. line_text t ++ lines_text (tells_in r' m)) (tell_front x r' l))
 
-  pub one_more : (a b c : List ℕ) {d : List ℕ} → b ++ lines_text (tells_in r n) ≡ a ++ c → d ≡ b ++ line_text (tell_in x)
-      → d ++ lines_text (tells_in r' m) ≡ a ++ c
-  one_more a b c h k =
+  pub one_more : (b c : List ℕ) {d : List ℕ} → b ++ lines_text (tells_in r n) ≡ c → d ≡ b ++ line_text (tell_in x)
+      → d ++ lines_text (tells_in r' m) ≡ c
+  one_more b c h k =
       ap (λ z. z ++ lines_text (tells_in r' m)) k ∙ append_assoc b (line_text (tell_in x)) (lines_text (tells_in r' m))
       ∙ ap (λ z. b ++ z) (sym comes) ∙ h
 
@@ -78,6 +78,6 @@ pub none_left : (n l : ℕ) → Line.BYTES * n ≤ l → (0 < n → l < Line.BYT
 none_left zero l h e = refl
 none_left (suc n) l h e = absurd (omega (arith, e (omega arith)))
 
-pub all_come : (a b c r : List ℕ) {n : ℕ} → n ≡ 0 → b ++ lines_text (tells_in r n) ≡ a ++ c → b ≡ a ++ c
+pub all_come : (b c r : List ℕ) {n : ℕ} → n ≡ 0 → b ++ lines_text (tells_in r n) ≡ c → b ≡ c
 unfolding lines_text tells_in
-all_come a b c r e h = sym (append-nil b) ∙ rw e at h
+all_come b c r e h = sym (append-nil b) ∙ rw e at h

@@ -50,12 +50,13 @@ fn push_line<const N: usize>(text: &mut ArrayString<N>, journal: &[u8])
     push_number(text, value, "\n");
 }
 
-// Puts the first n lines of the journal behind the text.
+// Makes the text that of the first n lines of the journal, whatever it was.
 pub fn lines<const N: usize>(journal: &[u8], n: usize, text: &mut ArrayString<N>)
     requires n_in_bounds { Line.BYTES * n ≤ length journal.now }
-    requires n_in_bounds_2 { array_string_len text.old + Line.TEXT * n ≤ N }
-    ensures { text.new.bytes ≡ text.old.bytes ++ lines_text (tells_in journal.now n) }
+    requires n_in_bounds_2 { Line.TEXT * n ≤ N }
+    ensures { text.new.bytes ≡ lines_text (tells_in journal.now n) }
 {
+    text.clear();
     for bytes in journal.chunks_exact(line::BYTES).take(n) {
         push_line(text, bytes);
     }

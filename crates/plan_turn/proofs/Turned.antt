@@ -2,7 +2,7 @@
 use Prim.Native.Nat.{ℕ, ◌*◌, ◌/◌, ◌≤◌}
 use native.Mathlib.Omega.{arith}
 use mathlib.Core.Path.{◌≡◌, refl, sym, ◌∙◌, ap}
-use mathlib.Core.List.{List, [], ◌++◌, map}
+use mathlib.Core.List.{List, map}
 use lib.ListN.{length}
 use borrow.Author.Tests.{leb-true}
 use Rattle.semantics.specs.Run as definition
@@ -40,9 +40,9 @@ module _ {bs map w : List ℕ} (v : Open bs map w) (limit : ℕ) (j : List ℕ) 
 
 -- IT TELLS the run d, whose lines can be written.
 pub answered : {d : definition.Ran} → AllOf Writable d.lines → {x : Ran} {w' j j' : List ℕ} → RanAs d x w' j j'
-    → {empty text : List ℕ} → empty ≡ [] → text ≡ empty ++ lines_text (tells_in j' x.lines)
+    → {text : List ℕ} → text ≡ lines_text (tells_in j' x.lines)
     → AnsweredAs d (record { answer = x.answer; steps = x.steps }) w' j j' text
-answered {d} h {x} {j = j} {j'} t {empty} {text} e f =
+answered {d} h {x} {j = j} {j'} t f =
     record {
       answer_is = t.answer_is;
       steps_are = t.steps_are;
@@ -52,7 +52,7 @@ answered {d} h {x} {j = j} {j'} t {empty} {text} e f =
           let c : tells_in j' x.lines ≡ map print_line d.lines =
           ap (tells_in j') t.lines_are ∙ ap (λ l. tells_in l (length d.lines)) t.journal_is
           ∙ tells_written d.lines j h in
-          f ∙ ap (λ l. l ++ lines_text (tells_in j' x.lines)) e ∙ ap lines_text c;
+          f ∙ ap lines_text c;
     }
 
 -- THE RUN IS STILL OPEN.

@@ -34,7 +34,6 @@ pub fn turn<'a, const N: usize>(
         journal.old journal.new text.new.bytes }
 {
     let ran = run_limit::run(s, map, w, limit, journal);
-    text.clear();
     plan_text::lines(journal, ran.lines, text);
     Answered {
         answer: ran.answer,

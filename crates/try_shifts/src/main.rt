@@ -65,7 +65,6 @@ fn one_shift<'a, const N: usize>(
     ensures { result.steps ≤ limit }
 {
     let moved = run_lent::moved_on(s, run, limit, journal);
-    text.clear();
     plan_text::lines(journal, moved.lines, text);
     moved
 }

@@ -13,7 +13,7 @@ loop-bytes-preserved g c =
       s.0.0 ∙ i.0,
       bytes_left _ _ _ _ _ s.0.1.0 l s.1 i.1,
       omega (arith, i.2, c.push_line.ensures.upper_bound, s.1),
-      one_more _ _ _ _ _ s.0.1.0 l s.1 c.args.text.now.bytes c.loop-bytes.text.bytes
+      one_more _ _ _ _ _ s.0.1.0 l s.1 c.loop-bytes.text.bytes
           (lines_text (tells_in c.args.journal.now c.args.n)) i.3 c.push_line.ensures.bytes,
     )
 
@@ -21,5 +21,5 @@ pub returns : goal.returns
 returns g c =
     let i = c.loop-bytes.invariant in
     let e = c.in-None.ensures.steps in
-    all_come c.args.text.now.bytes c.loop-bytes.text.bytes (lines_text (tells_in c.args.journal.now c.args.n)) _
+    all_come c.loop-bytes.text.bytes (lines_text (tells_in c.args.journal.now c.args.n)) _
     (none_left _ _ i.1 (λ o. rw i.0 at (e o).1.0)) i.3

@@ -11,4 +11,4 @@ invariant-loop-bytes g l =
     (i.iter.size ≡ Line.BYTES)
     × (Line.BYTES * i.n ≤ length i.iter.rest.now)
     × (length l.text.bytes + Line.TEXT * i.n ≤ g.row.N)
-    × (l.text.bytes ++ lines_text (tells_in i.iter.rest.now i.n) ≡ l.initial.text.bytes ++ lines_text (tells_in l.journal l.n))
+    × (l.text.bytes ++ lines_text (tells_in i.iter.rest.now i.n) ≡ lines_text (tells_in l.journal l.n))
