@@ -3,7 +3,6 @@
 
 ghost use Rattle.std.specs.Prelude.{◌≡◌, ◌+◌, ◌≤◌, ◌<◌, ◌++◌, length, map, get_or, take, drop, IfSome, All};
 ghost use Rattle.text_machine.specs.Codes.{BAD};
-ghost use Rattle.text_machine.specs.Codes as Codes;
 ghost use Rattle.text_pile.specs.Pile.{SYMBOLS};
 ghost use Rattle.text_pile.specs.Table.{CLASSES, COLUMNS, SHIFTS, entry_of, class_of, column_of, deeper_by};
 
@@ -15,8 +14,6 @@ pub const HIGHEST: usize = 64;
 
 // What a pile begins with: the text itself is still to come.
 const TEXT: u8 = 63;
-
-// Kinds of tokens and symbols stay numbers here: the table is indexed by them, and text_machine's Codes numbers them.
 
 // A token that doesn't fit.
 #[derive(Clone, Copy, Debug, PartialEq, Eq)]
@@ -284,11 +281,7 @@ impl Pile {
 
     // The text itself is still to come.
     pub fn new() -> Self
-<<<<<<< HEAD
-        ensures { result ≡ Codes.TEXT ∷ [] }
-=======
         ensures { result ≡ C.TEXT ∷ [] }
->>>>>>> de7bd0948df99afbf09891b14ce553383c034a3c
     {
         let mut symbols = ArrayVec::new();
         symbols.push(TEXT);
