@@ -1,12 +1,12 @@
--- A record that is judged: as a number, and what one that passes has. Assumes nothing.
+-- A record that is judged, and what one that passes has. Assumes nothing.
 use Prim.Native.Nat.{ℕ, ◌≤◌, ◌<◌}
 use native.Mathlib.Omega.{arith}
 use mathlib.Core.Path.{◌≡◌, refl, sym, ◌∙◌, ap}
 use mathlib.Core.List.{List}
 use mathlib.Core.Bool.{Bool, true, false, not, ◌&&◌, ◌||◌}
-use lib.Dec.{eqb, leb}
+use lib.Dec.{leb}
 use lib.ListN.{length, get_or}
-use borrow.Author.Tests.{leb-true, leb-false, ltb-true, ne_eqb, not-false}
+use borrow.Author.Tests.{leb-true, leb-false, ltb-true}
 use Rattle.semantics.specs.Words.{Outcome, ok, Passed, passed, ◌>>◌, need}
 use Rattle.semantics.specs.Numbers as F
 use Rattle.semantics.specs.Kinds as K
@@ -14,7 +14,9 @@ use Rattle.semantics.specs.Bytes.{u16}
 use Rattle.semantics.specs.Record.{row_of, body_judged, sized, branches}
 use Rattle.semantics.specs.Decode.{judged}
 use Rattle.base_numbers.specs.Byte as Byte
-use Rattle.file_check_record.specs.Rows.{number_of}
+use Rattle.std.specs.Prelude.{Result, Ok, Err, is_err}
+use Rattle.file_check_record.specs.declared.Refusal.{Refusal}
+use Rattle.file_check_record.specs.Refused.{outcome_of}
 use Rattle.file_check_record.proofs.Table.{row_past}
 use Rattle.text_machine.specs.Sheet as M
 use Rattle.text_machine.specs.Entry.{Draft}
@@ -29,25 +31,14 @@ and_both : (a b : Bool) → (a && b) ≡ true → (a ≡ true) × (b ≡ true)
 and_both true b e = (refl, e)
 and_both false b e = never (sym e)
 
--- A number tells whether a record passes.
-told_need : (n : ℕ) (b : Bool) (o : Outcome Passed) → 0 < n → passes o ≡ eqb (number_of o) 0
-    → passes (need n b >> o) ≡ eqb (number_of (need n b >> o)) 0
-unfolding need ◌>>◌
-told_need n true o h e = e
-told_need n false o h e = sym (ne_eqb n 0 (λ q. omega (arith, q)))
+-- The answer tells whether a record passes.
+fails_by : (r : Result (Unit {0}) Refusal) → is_err r ≡ not (passes (outcome_of r))
+fails_by (Ok x) = refl
+fails_by (Err e) = refl
 
-told_last : (n : ℕ) (b : Bool) → 0 < n → passes (need n b) ≡ eqb (number_of (need n b)) 0
-unfolding need
-told_last n true h = refl
-told_last n false h = sym (ne_eqb n 0 (λ q. omega (arith, q)))
-
-pub told_passes : (seen : List ℕ) (k : ℕ) (bs : List ℕ) → passes (judged seen k bs) ≡ eqb (number_of (judged seen k bs)) 0
-unfolding judged body_judged
-told_passes seen k bs =
-    told_need F.KIND _ _ (omega arith)
-    (told_need F.PLACE _ _ (omega arith)
-    (told_need F.MANY _ _ (omega arith)
-    (told_need F.SIZE _ _ (omega arith) (told_need F.VALUE _ _ (omega arith) (told_last F.TWICE _ (omega arith))))))
+passes_by : (r : Result (Unit {0}) Refusal) → is_err r ≡ false → passes (outcome_of r) ≡ true
+passes_by (Ok x) e = refl
+passes_by (Err r) e = never e
 
 -- One that passes is of a kind; a try has bytes, and few branches.
 need-passes : (n : ℕ) (b : Bool) (o : Outcome Passed) → passes (need n b >> o) ≡ true → b ≡ true
@@ -95,12 +86,14 @@ pub faulty_full : (z : M.Sheet) (d : Draft) → d.over ≡ true → true ≡ fau
 unfolding faulty
 faulty_full z d o = ap (λ b. b || not (passes (judged (counts_for z d) d.kind d.body))) (sym o)
 
-pub faulty_judged : (z : M.Sheet) (d : Draft) → d.over ≡ false
-    → not (eqb (number_of (judged (counts_of z.seen d.kind) d.kind d.body)) 0) ≡ faulty z d
+pub faulty_judged : (z : M.Sheet) (d : Draft) (r : Result (Unit {0}) Refusal) → d.over ≡ false
+    → outcome_of r ≡ judged (counts_of z.seen d.kind) d.kind d.body → is_err r ≡ faulty z d
 unfolding faulty
-faulty_judged z d o =
-    ap not (sym (told_passes (counts_of z.seen d.kind) d.kind d.body))
+faulty_judged z d r o e =
+    fails_by r
+    ∙ ap (λ p. not (passes p)) e
     ∙ ap (λ b. b || not (passes (judged (counts_of z.seen d.kind) d.kind d.body))) (sym o)
 
-pub right_kind : (seen : List ℕ) (k : ℕ) (bs : List ℕ) → not (eqb (number_of (judged seen k bs)) 0) ≡ false → k < Byte.TWO
-right_kind seen k bs e = kind_small seen k bs (told_passes seen k bs ∙ not-false _ e)
+pub right_kind : (seen : List ℕ) (k : ℕ) (bs : List ℕ) (r : Result (Unit {0}) Refusal) → outcome_of r ≡ judged seen k bs
+    → is_err r ≡ false → k < Byte.TWO
+right_kind seen k bs r e f = kind_small seen k bs (ap passes (sym e) ∙ passes_by r f)
