@@ -4,6 +4,17 @@ ghost use Rattle.text_reader.specs.Reason.{number_of, reason_of};
 
 use text_names::Trouble;
 
+// The numbers that they are told by.
+const GRAMMAR: u32 = 51;
+
+const UNKNOWN: u32 = 52;
+
+const AGAIN: u32 = 53;
+
+const CHECKS: u32 = 54;
+
+const BUFFER: u32 = 55;
+
 // A token that doesn't fit; a name that isn't known or doesn't fit; one that is taken; what the checks of a file would refuse; and
 // records for which there is no room.
 #[derive(Clone, Copy, Debug, PartialEq, Eq)]
@@ -16,16 +27,16 @@ pub enum Reason {
 }
 
 impl Reason {
-    // The number that it is told by.
+    // Its number.
     pub fn number(self) -> u32
         ensures { result ≡ number_of self }
     {
         match self {
-            Reason::Grammar => 51,
-            Reason::Unknown => 52,
-            Reason::Again => 53,
-            Reason::Checks => 54,
-            Reason::Buffer => 55,
+            Reason::Grammar => GRAMMAR,
+            Reason::Unknown => UNKNOWN,
+            Reason::Again => AGAIN,
+            Reason::Checks => CHECKS,
+            Reason::Buffer => BUFFER,
         }
     }
 }
