@@ -15,8 +15,7 @@ loop-item-init c =
     let t = c.take-item-items.ensures in
     let k = c.chunks_exact.ensures in
     let d = rest_of 2 c.args.s.now in
-    let e = c.u16_at-items.ensures.0 in
-    (
+    let e = c.u16_at-items.ensures.0 in (
       rw (x, t.source) k.size,
       rw (x, t.count, t.source, k.rest, d, e) (omega (arith, c.requires.fits, length-drop 2 c.args.s.now)),
       rw (x, t.count, t.source, k.rest, d, e),
@@ -26,8 +25,7 @@ pub loop-item-preserved : goal.loop-item-preserved
 loop-item-preserved c =
     let i = c.loop-item.invariant in
     let s = c.in-Some.ensures.steps in
-    let l = s.0.1.1 ∙ i.0 in
-    (
+    let l = s.0.1.1 ∙ i.0 in (
       s.0.0 ∙ i.0,
       room _ _ _ _ _ _ s.0.1.0 l s.1 i.1,
       bits_turn c.args.j _ _ _ _ _ c.loop-item.found _ _ s.0.1.0 l s.1 c.bit-found.ensures i.2,
