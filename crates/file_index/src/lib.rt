@@ -18,6 +18,7 @@ use base_numbers::{item, kind, limit};
 
 // `first[b]` actions stand before block b, and `first[blocks]` is how many there are; the record of action a stands at byte
 // `place[a]`; the body block of class c is `body[c]`. What is not used is 0.
+// Arrays whole, with 0 behind what is used: the contract of file_map::map_of lays them so, by its definition rows_of.
 #[derive(Clone, Copy)]
 pub struct Index {
     pub blocks: usize,
@@ -41,6 +42,7 @@ pub struct Graph {
 // `from[a]` branches stand before action a, and `from[actions]` is how many there are. The claim of branch n stands at byte
 // `claim[n]`; bit i of `resources[n]`, of `bins[n]` and of `syncs[n]` is set where it names resource, bin or sync i. What is
 // not used is 0.
+// Arrays whole, with 0 behind what is used: the contract of file_map::map_of lays them so, by its definition rows_of.
 #[derive(Clone, Copy)]
 pub struct Branches {
     pub from: [u16; limit::ACTIONS + 1],
@@ -61,6 +63,7 @@ pub struct Counts {
 }
 
 // Of each sampler the code of its lowest value, and how many values it has. What is not used is 0.
+// Arrays whole, with 0 behind what is used: the contract of file_map::map_of lays them so, by its definition rows_of.
 #[derive(Clone, Copy)]
 pub struct Samplers {
     pub lowest: [u32; limit::SAMPLERS],
