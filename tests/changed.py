@@ -1,14 +1,16 @@
-"""Told apart: engines with one rule changed, and how many models the driver needs until it sees a difference.
+"""Told apart: engines with one rule changed, and how many models, or texts, the driver needs until it sees a difference.
 
     python3 -B tests/changed.py              the engine unchanged, then each change of CHANGES
     python3 -B tests/changed.py --edits      every must-fail edit of the engine's sources, which the prover refuses
     python3 -B tests/changed.py WORD ...     those of both whose name has one of the words
 
 On demand, not in the gate. Each engine is the source compiled as Rust (tests/native.py) with one text put in place of another,
-and linked to the driver as a shared library. A line is the change, the models needed and what differed. The exit status is 0 if
-the unchanged engine has no difference and each changed one has, but for those that no call can show (UNSEEN).
+and linked to the driver as a shared library. A change of a crate text_* is driven with texts, any other with models. A line is
+the change, the models or texts needed and what differed. The exit status is 0 if the unchanged engine has no difference and each
+changed one has, but for those that no call can show (UNSEEN).
 """
 import os
+import re
 import subprocess
 import sys
 import threading
@@ -18,7 +20,7 @@ import native
 
 FOLDER = native.ROOT / 'target' / 'changed'
 DRIVER = FOLDER / 'driver'
-# So many models at most, of the driver's first seed; so many seconds at most for one change.
+# So many models or texts at most, of the driver's first seed; so many seconds at most for one change.
 MODELS = 200000
 SECONDS = 900
 
@@ -300,9 +302,10 @@ def built(texts):
     return native.library(FOLDER / 'desk', texts, 'cdylib')
 
 
-def driven(folder):
+def driven(folder, kind):
     """The first lines of the driver on a difference of the library in this folder; nothing where there is none."""
-    run = subprocess.Popen([DRIVER / 'release' / 'driver', str(MODELS)], stdout=subprocess.PIPE, stderr=subprocess.DEVNULL,
+    words = {'models': [], 'texts': ['texts']}[kind] + [str(MODELS)]
+    run = subprocess.Popen([DRIVER / 'release' / 'driver', *words], stdout=subprocess.PIPE, stderr=subprocess.DEVNULL,
                            text=True, env={**os.environ, 'LD_LIBRARY_PATH': str(folder)})
     clock = threading.Timer(SECONDS, run.kill)
     clock.start()
@@ -318,13 +321,13 @@ def driven(folder):
     return said or (['no end, status %d' % status] if status else [])
 
 
-def told(name, said):
+def told(name, kind, said):
     if not said:
-        print('%-46s no difference in %d models' % (name, MODELS), flush=True)
+        print('%-46s no difference in %d %s' % (name, MODELS, kind), flush=True)
         return
-    models = said[0].partition('model ')[2].partition(',')[0]
-    what = said[1].partition('what:')[2].strip() if len(said) > 1 else said[0]
-    print('%-46s %7s   %s' % (name, models, what), flush=True)
+    number = re.search(r'at (?:model|text) (\d+)', said[0])
+    what = said[1].removeprefix('what:').strip() if len(said) > 1 else said[0]
+    print('%-46s %7s   %s' % (name, number[1] if number else '', what), flush=True)
 
 
 def chosen(words):
@@ -342,9 +345,10 @@ def main(words):
                    cwd=native.ROOT / 'driver', env={**os.environ, 'DESK_LIB': str(folder)}, check=True)
     wrong = 0
     if not words:
-        said = driven(folder)
-        told('unchanged', said)
-        wrong += bool(said)
+        for kind in ('models', 'texts'):
+            said = driven(folder, kind)
+            told('unchanged', kind, said)
+            wrong += bool(said)
     for name, crates, *pairs in chosen(words):
         after = changed(texts, crates, *pairs)
         if after is None:
@@ -357,8 +361,9 @@ def main(words):
         except subprocess.CalledProcessError:
             print('%-46s is no Rust' % name, flush=True)
             continue
-        said = driven(folder)
-        told(name, said)
+        kind = 'texts' if crates.startswith('text_') else 'models'
+        said = driven(folder, kind)
+        told(name, kind, said)
         wrong += not said
     return wrong > 0
 
