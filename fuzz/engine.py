@@ -20,7 +20,7 @@ def edited(texts, name):
     """The sources with the edit made."""
     crate = name.partition('/')[0]
     for edit in edits.edits_of(crate):
-        if crate in texts and name == '%s/%s' % (crate, edit.name) and edit.file == edits.SOURCE:
+        if crate in texts and name == '%s/%s' % (crate, edit.name) and edit.file.startswith('src/'):
             return {**texts, crate: edit.made(texts[crate])}
     sys.exit('%s: not an edit of the source' % name)
 

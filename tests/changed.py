@@ -1,14 +1,16 @@
-"""Told apart: engines with one rule changed, and how many models the driver needs until it sees a difference.
+"""Told apart: engines with one rule changed, and how many models, or texts, the driver needs until it sees a difference.
 
     python3 -B tests/changed.py              the engine unchanged, then each change of CHANGES
     python3 -B tests/changed.py --edits      every must-fail edit of the engine's sources, which the prover refuses
     python3 -B tests/changed.py WORD ...     those of both whose name has one of the words
 
 On demand, not in the gate. Each engine is the source compiled as Rust (tests/native.py) with one text put in place of another,
-and linked to the driver as a shared library. A line is the change, the models needed and what differed. The exit status is 0 if
-the unchanged engine has no difference and each changed one has, but for those that no call can show (UNSEEN).
+and linked to the driver as a shared library. A change of a crate text_* is driven with texts, any other with models. A line is
+the change, the models or texts needed and what differed. The exit status is 0 if the unchanged engine has no difference and each
+changed one has, but for those that no call can show (UNSEEN).
 """
 import os
+import re
 import subprocess
 import sys
 import threading
@@ -18,7 +20,7 @@ import native
 
 FOLDER = native.ROOT / 'target' / 'changed'
 DRIVER = FOLDER / 'driver'
-# So many models at most, of the driver's first seed; so many seconds at most for one change.
+# So many models or texts at most, of the driver's first seed; so many seconds at most for one change.
 MODELS = 200000
 SECONDS = 900
 
@@ -33,6 +35,11 @@ NAMED_AMOUNTS = (
     '            let items = (0..file_fields::u16_at(s, at) as usize).map(move |i| &s[at + 2 + item::BYTES * i..]);\n'
     '            items.filter(|i| file_fields::u8_at(i, 0) <= item::GET_S).map(|i| file_fields::u32_at(i, 4))\n        };\n'
     '        ')
+# Where the checks 1 to 7, and 8 and 9, are told at a record: there, and at the record after.
+JUDGED = 'judge(seen, x.kind, &s[at + 4..end])'
+NAMED = 'name(n, own, x.kind, &s[at + 4..end])'
+PLACE_AT = '.map_err(|refusal| Refused {\n            refusal,\n            place: at,'
+PLACE_END = PLACE_AT.replace('at,', 'end,')
 
 # A change: its name, its crates, the text that it takes away and the text that it puts there.
 CHANGES = [
@@ -241,14 +248,14 @@ CHANGES = [
     ('a seventeenth SAMPLER', 'file_check_record', '8, 16, 12,', '8, 17, 12,'),
     ('a SAMPLER of a difference of 1,000,001', 'file_check_record', '<= limit::SPREAD', '<= limit::SPREAD + 1'),
     ('a draw of a sampler that isn\'t there', 'file_check_parts', '(op != op::DRAW) | (operand < n[group::SAMPLER])', 'true'),
-    ('the place of the record after', 'file_check', 'place: f.place,', 'place: file_reader::next(s, f.place),'),
-    ('8 and 9 at the place of the record after', 'file_check',
-     'number: r,\n                place: at,',
-     'number: r,\n                place: end,'),
-    ('a branch may name a thing twice', 'file_check_tails',
-     'tail::BRANCHES => !all_branches(branch::ONCE, [0u32; group::MANY], 0, bs),', 'tail::BRANCHES => false,'),
+    ('the place of the record after', 'file_check',
+     'refusal: Refusal::Short,\n                place: at,',
+     'refusal: Refusal::Short,\n                place: file_reader::next(s, at),',
+     JUDGED + PLACE_AT, JUDGED + PLACE_END),
+    ('8 and 9 at the place of the record after', 'file_check', NAMED + PLACE_AT, NAMED + PLACE_END),
+    ('a branch may name a thing twice', 'file_check_tails', 'Tail::Branches => branches_twice(bs),', 'Tail::Branches => false,'),
     ('PUTR weighs 1', 'file_index', '[1, 1, 1, 1, 1, 2, 2, 1,', '[1, 1, 1, 1, 1, 1, 2, 1,'),
-    ('a TRY weighs its last branch', 'file_weight', 'top = larger(top, v);', 'top = v;'),
+    ('a TRY weighs its last branch', 'file_weight', 'top = top.max(v);', 'top = v;'),
     ('OVER from 4,294,967,295 on', 'file_bound', 'if w < limit::OVER {', 'if w < limit::OVER - 1 {'),
     # ---- soundness
     ('a return of lower priority is sound', 'row_sound_lists', '(rank == code::OF_RETURNS)', '(rank <= code::OF_RETURNS)'),
@@ -263,6 +270,7 @@ CHANGES = [
 
 # Must-fail edits that the prover refuses and no call of a C function can show, and why.
 UNSEEN = {
+    'run_row/length_told_at_1': 'the desk opens a run in a row of its length, and tests its own row itself',
     'run_row/no_room_told_as_21': 'the desk opens a run in a row of its length, and tests its own row itself',
     'run_row/opened_in_a_longer_row': 'the desk opens a run in a row of its length, and tests its own row itself',
     'base_places/flipped': 'whoever comes finds the place free',
@@ -275,7 +283,7 @@ def edits():
     """The must-fail edits of the sources, each as its name, its crate and the texts in turn."""
     for crate in sorted(native.named('desk_c')):
         for edit in must_fail.edits_of(crate):
-            if edit.file == must_fail.SOURCE:
+            if edit.file.startswith('src/'):
                 yield ['%s/%s' % (crate, edit.name), crate] + edit.pairs
 
 
@@ -294,9 +302,10 @@ def built(texts):
     return native.library(FOLDER / 'desk', texts, 'cdylib')
 
 
-def driven(folder):
+def driven(folder, kind):
     """The first lines of the driver on a difference of the library in this folder; nothing where there is none."""
-    run = subprocess.Popen([DRIVER / 'release' / 'driver', str(MODELS)], stdout=subprocess.PIPE, stderr=subprocess.DEVNULL,
+    words = {'models': [], 'texts': ['texts']}[kind] + [str(MODELS)]
+    run = subprocess.Popen([DRIVER / 'release' / 'driver', *words], stdout=subprocess.PIPE, stderr=subprocess.DEVNULL,
                            text=True, env={**os.environ, 'LD_LIBRARY_PATH': str(folder)})
     clock = threading.Timer(SECONDS, run.kill)
     clock.start()
@@ -312,13 +321,13 @@ def driven(folder):
     return said or (['no end, status %d' % status] if status else [])
 
 
-def told(name, said):
+def told(name, kind, said):
     if not said:
-        print('%-46s no difference in %d models' % (name, MODELS), flush=True)
+        print('%-46s no difference in %d %s' % (name, MODELS, kind), flush=True)
         return
-    models = said[0].partition('model ')[2].partition(',')[0]
-    what = said[1].partition('what:')[2].strip() if len(said) > 1 else said[0]
-    print('%-46s %7s   %s' % (name, models, what), flush=True)
+    number = re.search(r'at (?:model|text) (\d+)', said[0])
+    what = said[1].removeprefix('what:').strip() if len(said) > 1 else said[0]
+    print('%-46s %7s   %s' % (name, number[1] if number else '', what), flush=True)
 
 
 def chosen(words):
@@ -336,9 +345,10 @@ def main(words):
                    cwd=native.ROOT / 'driver', env={**os.environ, 'DESK_LIB': str(folder)}, check=True)
     wrong = 0
     if not words:
-        said = driven(folder)
-        told('unchanged', said)
-        wrong += bool(said)
+        for kind in ('models', 'texts'):
+            said = driven(folder, kind)
+            told('unchanged', kind, said)
+            wrong += bool(said)
     for name, crates, *pairs in chosen(words):
         after = changed(texts, crates, *pairs)
         if after is None:
@@ -351,8 +361,9 @@ def main(words):
         except subprocess.CalledProcessError:
             print('%-46s is no Rust' % name, flush=True)
             continue
-        said = driven(folder)
-        told(name, said)
+        kind = 'texts' if crates.startswith('text_') else 'models'
+        said = driven(folder, kind)
+        told(name, kind, said)
         wrong += not said
     return wrong > 0
 

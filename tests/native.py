@@ -4,9 +4,9 @@
     python3 -B tests/native.py desk    the desk's C functions: target/native/desk/target/release/libdesk_c.a
 
 The source of each crate that is needed is taken as it is, as a module, without its contracts; the `main` of `plan`, which takes a
-reader and a writer from Rattle's runtime, is written out below. It proves nothing: it is there for bench/steps.py and
-tests/changed.py, and stands in for the proved library where that can't be linked. Sums are checked, and a panic in the library is
-told as an answer of all ones.
+reader and a writer from Rattle's runtime, is written out below, and tests/native_kit.rs stands in for the crates of Rattle's kit.
+It proves nothing: it is there for bench/steps.py and tests/changed.py, and stands in for the proved library where that can't be
+linked. Sums are checked in the library, and a panic there is told as an answer of all ones.
 """
 import pathlib
 import re
@@ -16,6 +16,7 @@ import sys
 ROOT = pathlib.Path(__file__).resolve().parent.parent
 CRATES = ROOT / 'crates'
 NATIVE = ROOT / 'target' / 'native'
+KIT = ROOT / 'tests' / 'native_kit.rs'
 
 # The program's `main`, in place of the one over the runtime.
 RUNTIME = 'fn main(rt: HostRuntime)'
@@ -77,30 +78,39 @@ CARGO = ('[package]\nname = "%s"\nversion = "0.1.0"\nedition = "2021"\n%s\n'
          '[profile.release]\nopt-level = 3\ncodegen-units = 1\n%s\n[workspace]\n')
 
 
+# Where what only the prover reads begins: an item, a field or a clause of a contract.
+GHOST = re.compile(r'\n\s*(ghost|requires|ensures)\b')
+ATTRIBUTES = re.compile(r'(?m)^ *#!?\[(tactic|cycle)\([^\[\]]*\]\n')
+
+
+def past_ghost(text, at, ends):
+    """The place behind what only the prover reads: behind the first of `ends` that stands in no braces."""
+    depth = 0
+    while True:
+        depth += {'{': 1, '}': -1}.get(text[at], 0)
+        at += 1
+        if not depth and text[at - 1] in ends:
+            return at
+
+
 def without_contracts(text):
-    """The source without `ghost use` lines, `requires` and `ensures`, and without what only the prover reads."""
-    text = re.sub(r'(?m)^ghost use .*\n|^ *#!?\[(tactic|cycle)\(.*\n', '', text)
-    clause = re.compile(r'\n\s*(requires|ensures)\*?(\s+\w+)?\s*\{')
+    """The source without ghost items and fields, `requires` and `ensures`, and without what else only the prover reads."""
+    text = ATTRIBUTES.sub('', '\n' + text)
     kept, at = [], 0
-    while at < len(text):
-        found = clause.match(text, at)
-        if not found:
-            kept.append(text[at])
-            at += 1
-            continue
-        at, depth = found.end(), 1
-        while depth:
-            depth += {'{': 1, '}': -1}.get(text[at], 0)
-            at += 1
-    return ''.join(kept)
+    while found := GHOST.search(text, at):
+        kept.append(text[at:found.start()])
+        at = past_ghost(text, found.end(), ';,' if found[1] == 'ghost' else '}')
+    return ''.join(kept + [text[at:]])[1:]
 
 
 def module(text):
     text = re.sub(r'(?m)^//.*\n', '', without_contracts(text))
-    text = re.sub(r'(?m)^( *)use (?!super|std\b)([a-z0-9_]+)::', r'\1use crate::\2::', text)
+    text = re.sub(r'(?m)^use std::marker::Model;\n|^impl(<.*>)? Model for .* \{\s*\}\n', '', text)
+    inside = '|'.join(['super', 'std'] + re.findall(r'(?m)^(?:pub )?mod (\w+)', text))
+    text = re.sub(r'(?m)^( *)use (?!(?:%s)\b)([a-z0-9_]+)::' % inside, r'\1use crate::\2::', text)
     text = re.sub(r'(?m)^#\[unsafe\(no_mangle\)\]\npub extern "C" ', 'pub ', text)
     # What Rust drops by itself.
-    return re.sub(r'(?m)^ *#\[derive\(Drop\)\]\n', '', text)
+    return re.sub(r'(?m)^ *#\[derive\(Drop\)\]\n|, Drop(?=\)\]$)', '', text)
 
 
 def listed():
@@ -133,7 +143,7 @@ def sources(*crates):
 
 
 def modules(texts):
-    return '\n'.join(['#![allow(warnings)]'] + [
+    return '\n'.join(['#![allow(warnings)]', KIT.read_text()] + [
         'pub mod %s {\nuse crate::*;\n%s\n}' % (name, module(text)) for name, text in texts.items()])
 
 
