@@ -13,6 +13,7 @@ ghost use Rattle.semantics.specs.Decode.{node_known, part_known, tail_known};
 ghost use Rattle.base_numbers.specs.Byte as Byte;
 ghost use Rattle.file_check_tails.specs.Kinds.{kind_of};
 ghost use Rattle.file_check_tails.specs.Tails.{tail_of, arity, height_of, grown_by};
+ghost use Rattle.file_check_tails.specs.Tests.{Decides};
 
 use base_numbers::{branch, group, item, limit, op, tail};
 use file_check_parts::{Item, Listed, Node, Share};
@@ -147,7 +148,7 @@ fn branches_fit(count: u32, bs: &[u8]) -> bool
 }
 
 // What a branch is that stands in a slice of its own.
-fn branch_valid(b: &[u8]) -> bool
+pub fn branch_valid(b: &[u8]) -> bool
     requires { (4 ≤ length b.now) × (branch_size b.now ≤ length b.now) }
     ensures { result ≡ list_valid item (drop 2 b.now) }
 {
@@ -178,12 +179,12 @@ fn branches_sized(bs: &[u8]) -> bool
     branches_fit(file_fields::u16_at(bs, 0), &bs[2..])
 }
 
-// Whether all branches of a TRY's tail pass a test.
-fn all_branches<F: Fn(&[u8]) -> bool>(bs: &[u8], passes: F) -> bool
+// Whether all branches of a TRY's tail, each in a slice of its own, pass a test.
+pub fn all_branches<F: Fn(&[u8]) -> bool>(bs: &[u8], passes: F) -> bool
     requires fit { sized branches bs.now ≡ true }
     requires asked { (b : Bor (List ℕ)) → 4 ≤ length b.now → branch_size b.now ≤ length b.now → F.pre passes b }
-    ensures { (p : List ℕ → Bool) → ((b : Bor (List ℕ)) (r : Bool) → F.post passes b r → r ≡ p b.now) →
-        result ≡ all p (branches_from (u16 bs.now 0) (drop 2 bs.now)) }
+    requires decided { Decides (F.post passes) }
+    ensures { (d : Decides (F.post passes)) → result ≡ all d.is (branches_from (u16 bs.now 0) (drop 2 bs.now)) }
 {
     let mut rest = &bs[2..];
     for _ in 0..file_fields::u16_at(bs, 0) {

@@ -12,10 +12,10 @@ split_at-requires g c =
     fit_size _ _ c.loop.rest.now (rw c.u16_at-end.ensures.0 at c.loop-test.true) _ c.branch_size.ensures.0 c.loop.invariant.0
 
 pub returns-then-not-passes : goal.returns-then-not-passes
-returns-then-not-passes g c = λ p f.
+returns-then-not-passes g c = λ d.
     let r = c.loop.rest.now in
-    sym (all_fail _ _ r (rw c.u16_at-end.ensures.0 at c.loop-test.true) _ c.branch_size.ensures.0 p
-    (rw (← c.split_at.ensures.front) (sym (f c.split_at.result.0 false c.if-not-passes.ensures)))) ∙ c.loop.invariant.1 p f
+    sym (all_fail _ _ r (rw c.u16_at-end.ensures.0 at c.loop-test.true) _ c.branch_size.ensures.0 d.is
+    (rw (← c.split_at.ensures.front) (sym (d.so c.split_at.result.0 false c.if-not-passes.ensures)))) ∙ c.loop.invariant.1 d
 
 pub loop-preserved : goal.loop-preserved
 loop-preserved g c =
@@ -24,10 +24,10 @@ loop-preserved g c =
     let z = c.branch_size.ensures.0 in
     let s = c.split_at.ensures in (
       rw s.back (fit_turn _ _ r t _ z c.loop.invariant.0),
-      λ p f. rw s.back (sym (all_on _ _ r t _ z p (rw (← s.front) (sym (f c.split_at.result.0 true c.if-not-passes.ensures))))
-          ∙ c.loop.invariant.1 p f),
+      λ d. rw s.back (sym (all_on _ _ r t _ z d.is (rw (← s.front) (sym (d.so c.split_at.result.0 true c.if-not-passes.ensures))))
+          ∙ c.loop.invariant.1 d),
     )
 
 pub returns : goal.returns
-returns g c = λ p f.
-    sym (all_end _ _ c.loop.rest.now (rw c.u16_at-end.ensures.0 at c.loop-test.false) p) ∙ c.loop.invariant.1 p f
+returns g c = λ d.
+    sym (all_end _ _ c.loop.rest.now (rw c.u16_at-end.ensures.0 at c.loop-test.false) d.is) ∙ c.loop.invariant.1 d
