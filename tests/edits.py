@@ -13,7 +13,8 @@ the edited code no longer has, as far as the words of the check tell. A step of 
 edit of a test may carry these names along, by pairs of the function's proof that change names alone. An edit of a contract or a
 definition has a file to itself, and a fact refused anywhere in its crate will do.
 
-An edit of a function or a constant that isn't public is one of every public function that comes to it inside its crate.
+An edit of a function or a constant that isn't public is one of every public function that comes to it inside its crate; where
+none does, it is one of that function alone. The methods of a public trait are public, and come to those of each `impl` of it.
 """
 import pathlib
 import re
@@ -33,8 +34,8 @@ says how the edits of one file are kept apart.
 '''
 # A function, a method or a constant, with the attributes above it.
 ITEM = re.compile(r'^((?: *#\[[^\[\]]*\]\n)*) *(pub )?(?:extern "C" )?(fn|const) (\w+)', re.M)
-# Where the methods of a type or of a trait stand: they are called TYPE::NAME here.
-HOLDER = re.compile(r'^(?:impl(?:<.*?>)? (?:[\w:]+(?:<.*?>)? for )?|(?:pub )?trait )(\w+).*?^\}', re.M | re.S)
+# Where the methods of a type or of a trait stand: they are called TYPE::NAME here. An `impl` has its trait before it.
+HOLDER = re.compile(r'^(?:impl(?:<.*?>)? (?:([\w:]+)(?:<.*?>)? for )?|(pub )?trait )(\w+).*?^\}', re.M | re.S)
 # The name of a cycle of calls, whose proofs have one folder.
 CYCLE = re.compile(r'#\[cycle\((\w+)\)\]')
 # A name of a step or a goal.
@@ -88,10 +89,11 @@ def crates():
 
 
 def uses(body, name):
-    """Whether a body calls a function of its crate, or names a constant of it. A method goes by its name, whatever it is called on."""
+    """Whether a body calls a function of its crate, or names a constant of it. A method goes by its name, whatever it is called on;
+    a type parameter has one letter."""
     holder, _, name = name.rpartition('::')
     holder = holder.rpartition('::')[2]
-    before = rf'(?:\.|\bSelf::|\b{holder}::)' if holder else r'(?<![:.\w])'
+    before = rf'(?:\.|\b(?:Self|[A-Z]|{holder})::)' if holder else r'(?<![:.\w])'
     return re.search(before + name + (r'\b' if name.isupper() else r'(?:::<.*?>)?\('), body)
 
 
@@ -102,21 +104,25 @@ class Source:
         folder = ROOT / 'crates' / crate
         self.file = PROGRAM if (folder / PROGRAM).exists() else SOURCE
         self.texts = {str(path.relative_to(folder)): path.read_text() for path in sorted((folder / 'src').glob('*.rt'))}
-        self.items, self.public, self.constants, self.cycles, self.bodies = [], set(), set(), {}, {}
+        self.items, self.public, self.constants, self.cycles, self.bodies, self.impls = [], set(), set(), {}, {}, []
         for file in sorted(self.texts, key=lambda file: (file != self.file, file)):
             self.read(file, self.texts[file])
         self.names = {name: {other for other in self.bodies if other != name and uses(re.sub(r'//.*', '', body), other)}
                       for name, body in self.bodies.items()}
+        for method, name in self.impls:
+            self.names.get(method, set()).add(name)
 
     def read(self, file, text):
         module = [] if file == self.file else [pathlib.Path(file).stem]
-        holders = [(m.start(), m.end(), m[1]) for m in HOLDER.finditer(text)]
+        holders = [(m.start(), m.end(), m[1], m[2], m[3]) for m in HOLDER.finditer(text)]
         found = list(ITEM.finditer(text))
         for m, end in zip(found, [m.start() for m in found[1:]] + [len(text)]):
-            name = '::'.join(module + [holder for start, stop, holder in holders if start < m.start() < stop] + [m[4]])
+            held = [holder for start, stop, *holder in holders if start < m.start() < stop]
+            name = '::'.join(module + [holder for _, _, holder in held] + [m[4]])
             self.items.append((file, m.start(), name))
             self.bodies[name] = text[m.start():end]
-            if m[2]:
+            self.impls += [('::'.join(module + [trait, m[4]]), name) for trait, _, _ in held if trait]
+            if m[2] or any(public for _, public, _ in held):
                 self.public.add(name)
             if m[3] == 'const':
                 self.constants.add(name)
@@ -170,9 +176,9 @@ class Source:
         return [other for _, _, other in self.items if other in over & self.public]
 
     def told_of(self, edit):
-        """The functions that an edit is one of: a program has no public ones, so there it is the one that it changes."""
+        """The functions that an edit is one of. Where no public one comes to what it changes, as in a program, it is that one."""
         name = self.item_of(edit, edit.pairs[0])
-        return [name] if self.file == PROGRAM else self.public_over(name)
+        return self.public_over(name) or [name]
 
 
 class Log:
@@ -245,7 +251,7 @@ def rows():
 
 
 def few(source, told):
-    """Public functions with fewer than two edits."""
+    """Public functions with fewer than two edits. One of specs/ alone may be of any of them."""
     beside = sum(1 for _, over in told if not over)
     for name in sorted(source.public - source.constants):
         if sum(name in over for _, over in told) + beside < 2:
