@@ -3,6 +3,8 @@
 
 ghost use Rattle.std.specs.Prelude.{◌≡◌};
 ghost use Rattle.semantics.specs.Bytes.{records_from};
+ghost use Rattle.semantics.specs.Desk.{check_file};
+ghost use Rattle.file_check.specs.Check.{passed_of};
 ghost use Rattle.file_map.specs.MapOf.{map_of};
 ghost use Rattle.row_view.specs.View.{sound_row};
 ghost use Rattle.run_row.specs.Handed.{Passing};
@@ -106,13 +108,20 @@ fn turned_away() -> Ran
     }
 }
 
+// What decides whether a row of a file is run.
+fn check(file: &[u8]) -> Result<(), Refused>
+    ensures { passed_of result ≡ check_file file.now }
+{
+    file_check::check(file)
+}
+
 // At most `limit` steps of the run whose file is s and whose row is w, with their lines written into the journal. A run that is
 // not sound is left as it was, and so is the journal. The map is made once, for the test of soundness and for the steps.
 pub fn run_row<'a>(s: &'a [u8], w: &'a mut [u64], limit: u32, journal: &'a mut [u8]) -> Ran
     ensures { TellsCall (call_row s.now (asked limit journal.old) w.old) result
         w.new journal.old journal.new }
 {
-    if file_check::check(s).is_err() {
+    if check(s).is_err() {
         return turned_away();
     }
     let map = file_map::map_of(s);
