@@ -2,8 +2,10 @@
 // run_by_value, whose state is stored where the run was lent.
 #![tactic(auto)]
 
+ghost use Rattle.std.specs.Prelude.{◌≡◌};
 ghost use Rattle.semantics.specs.Decode.{decode};
 ghost use Rattle.row_struct.specs.State.{row_of, Full};
+ghost use Rattle.run_row.specs.Open.{number_told, place_told};
 ghost use Rattle.run_row.specs.Call.{asked, call_row, TellsCall};
 ghost use Rattle.run_by_value.specs.Moved.{TellsMoved};
 ghost use Rattle.run_lent.specs.Opened.{TellsOpened};
@@ -12,6 +14,7 @@ use base_numbers::row;
 use row_struct::State;
 use run_by_value::Moved;
 use run_limit::Ran;
+use run_row::Unopened;
 
 // The number and the place of a refusal and a state that is all 0; or 0, 0 and the state of a fresh run.
 // It is no Result, since with a refusal too it hands out a state (`opened_row`).
@@ -22,24 +25,29 @@ pub struct Opened {
     pub state: State,
 }
 
+// The number and the place of why no run is opened; 0 and 0 where one is.
+fn told(opened: Result<(), Unopened>) -> (u32, usize)
+    ensures number { result.0 ≡ number_told opened }
+    ensures place { result.1 ≡ place_told opened }
+{
+    match opened {
+        Ok(()) => (0, 0),
+        Err(unopened) => (unopened.number(), unopened.place()),
+    }
+}
+
 // Opens a run of the model file s. What is told of one file is told in one way only (`same_opened`).
 pub fn open_run(s: &[u8]) -> Opened
     ensures { TellsOpened (decode s.now) result }
 {
     let mut w = [0u64; row::WORDS];
     let opened = run_row::open_row(s, &mut w);
+    let (number, place) = told(opened);
     let state = row_struct::pack(&w);
-    match opened {
-        Ok(()) => Opened {
-            number: 0,
-            place: 0,
-            state,
-        },
-        Err(unopened) => Opened {
-            number: unopened.number(),
-            place: unopened.place(),
-            state,
-        },
+    Opened {
+        number,
+        place,
+        state,
     }
 }
 

@@ -2,11 +2,7 @@
 use Rattle.run_lent.proofs.Opens.{opened_told}
 use Rattle.run_lent.proofs.open_run.Goals as goal
 
-pub returns-in-Ok : goal.returns-in-Ok
-returns-in-Ok c = let p = c.pack-state in
-    opened_told _ _ p.result p.ensures.result_value p.ensures.full _ c.in-Ok.ensures
-
-pub returns-in-Err : goal.returns-in-Err
-returns-in-Err c = let p = c.pack-state in
-    rw (c.number.ensures, c.place.ensures)
-    (opened_told _ _ p.result p.ensures.result_value p.ensures.full _ c.in-Err.ensures)
+pub returns : goal.returns
+returns c = let p = c.pack-state in
+    rw (c.told-number.ensures.number, c.told-number.ensures.place)
+    (opened_told _ _ p.result p.ensures.result_value p.ensures.full _ c.open_row-opened.ensures)
