@@ -1,5 +1,5 @@
--- The parts of a slice as its iterator of chunks gives them: there is a test that all pass, or that one does. Assumes nothing.
-use Rattle.std.proofs.Common.{ℕ, ◌≡◌, refl, ◌∙◌, ◌+◌, ◌-◌, ◌*◌, ◌≤◌, ◌<◌, List, ◌∷◌, ◌++◌, length, take, drop, Bool, true, false, zero, suc}
+-- The parts of a slice as its iterator of chunks gives them: a test that all pass, or that one does. Assumes nothing.
+use Rattle.std.proofs.Common.{ℕ, ◌≡◌, refl, ◌∙◌, ◌+◌, ◌-◌, ◌*◌, ◌≤◌, ◌<◌, List, ◌∷◌, ◌++◌, length, take, drop, Bool, true, false, ◌&&◌, zero, suc}
 use Rattle.std.proofs.lemmas.List.{take_at, drop_at, length-append}
 use Rattle.file_check_parts.proofs.Laws.{parts-cons, parts_none}
 use native.Mathlib.Omega.{arith}
@@ -20,11 +20,9 @@ module _ (k n m : ℕ) (r x r' : List ℕ) (e : r ≡ x ++ r') (l : length x ≡
       omega (arith)
 
   module _ (p : List ℕ → Bool) where
-    pub fails : p x ≡ false → all p (parts k n r) ≡ false
-    fails e = rw (comes, e) refl
-
-    pub passes : p x ≡ true → all p (parts k n r) ≡ all p (parts k m r')
-    passes e = rw (comes, e) refl
+    pub turns : (t u : Bool) → u ≡ p x → ((t && u) && all p (parts k m r')) ≡ (t && all p (parts k n r))
+    turns true u e = rw (comes, e) refl
+    turns false u e = refl
 
     pub finds : p x ≡ true → any p (parts k n r) ≡ true
     finds e = rw (comes, e) refl

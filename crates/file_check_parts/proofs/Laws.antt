@@ -1,7 +1,7 @@
 -- One turn of a loop over the parts of a slice, and the rest of a slice. Assumes nothing.
 use mathlib.Core.Path.{◌≡◌, refl}
 use mathlib.Core.List.{List, [], ◌∷◌}
-use mathlib.Core.Bool.{Bool, true, false, ◌||◌}
+use mathlib.Core.Bool.{Bool, true, false, ◌&&◌, ◌||◌}
 use Prim.Native.Nat.{ℕ, zero, suc, ◌*◌, ◌-◌, ◌≤◌, ◌<◌}
 use native.Mathlib.Numerals.{sub-one}
 use native.Mathlib.Omega.{arith}
@@ -25,6 +25,10 @@ unfolding parts
 parts_none k n bs h = rw h
 
 -- Nothing more.
+pub and-true : (t u : Bool) → u ≡ true → (t && u) ≡ t
+and-true true u e = e
+and-true false u e = refl
+
 pub or-false : (t u : Bool) → u ≡ false → (t || u) ≡ t
 or-false true u e = refl
 or-false false u e = e

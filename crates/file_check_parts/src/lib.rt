@@ -238,30 +238,28 @@ impl Part for Node {
 
 // ---- all parts
 
-// Whether the first `count` parts of bs pass check 6.
+// Whether the first `count` parts of bs pass check 6. All are looked at, and no turn ends it: so the loop takes several at once.
 pub fn all_valid<P: Part>(count: u32, bs: &[u8]) -> bool
     requires { P.SIZE * count ≤ length bs.now }
     ensures { result ≡ all P.is_valid (parts P.SIZE count bs.now) }
 {
+    let mut ok = true;
     for part in bs.chunks_exact(P::SIZE).take(count as usize) {
-        if !P::valid(part) {
-            return false;
-        }
+        ok &= P::valid(part);
     }
-    true
+    ok
 }
 
-// Whether the first `count` parts of bs pass check 8.
+// Whether the first `count` parts of bs pass check 8. All are looked at, as in check 6.
 pub fn all_known<P: Part>(n: [u32; group::MANY], count: u32, bs: &[u8]) -> bool
     requires { P.SIZE * count ≤ length bs.now }
     ensures { result ≡ all (P.is_known n) (parts P.SIZE count bs.now) }
 {
+    let mut ok = true;
     for part in bs.chunks_exact(P::SIZE).take(count as usize) {
-        if !P::known(n, part) {
-            return false;
-        }
+        ok &= P::known(n, part);
     }
-    true
+    ok
 }
 
 // Whether one of the first `count` parts of bs names what the part x does.

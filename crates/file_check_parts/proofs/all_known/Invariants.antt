@@ -1,5 +1,6 @@
--- `file_check_parts::all_known` meets its contract. The loop's invariant: the parts that are left decide. Assumes nothing.
-use Rattle.std.proofs.Common.{◌≡◌, ◌*◌, ◌≤◌, length}
+-- `file_check_parts::all_known` meets its contract. The loop's invariant: what is found so far and the parts that are
+-- left decide. Assumes nothing.
+use Rattle.std.proofs.Common.{◌≡◌, ◌*◌, ◌≤◌, ◌&&◌, length}
 use Rattle.semantics.specs.Words.{all}
 use Rattle.semantics.specs.Bytes.{parts}
 use Rattle.file_check_parts.proofs.all_known.Given as goal
@@ -11,4 +12,4 @@ invariant-loop-part g l =
     let p = g.P.Part.is_known l.n in
     (i.iter.size ≡ k)
     × (k * i.n ≤ length i.iter.rest.now)
-    × (all p (parts k i.n i.iter.rest.now) ≡ all p (parts k l.count l.bs))
+    × ((l.ok && all p (parts k i.n i.iter.rest.now)) ≡ all p (parts k l.count l.bs))
