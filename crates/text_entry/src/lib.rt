@@ -27,6 +27,11 @@ const KEPT_COUNT: u32 = 192;
 
 pub const DEPTH: usize = 17;
 
+// Room for a body in an array of bytes, more than is kept of it; and for the open expressions in one of words, two each.
+pub const BODY: usize = 256;
+
+pub const STARTS: usize = 2 * DEPTH;
+
 const FULL: usize = 65536;
 
 // What the next name is there for: where one of a kind is asked for, this and the kind.
