@@ -59,7 +59,7 @@ impl Model for Start {
 // Where its declaration or action begins in the text, its kind, what the next name is for; its body, unless that is more than
 // is kept, and how long it is; how many items or shares it has, and where their number stands in the body; a number that waits
 // for its relation; and the expressions that are open, the innermost first.
-#[derive(Drop)]
+#[derive(Clone, Drop)]
 pub struct Draft {
     pub line: usize,
     pub kind: u32,
