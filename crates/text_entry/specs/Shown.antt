@@ -2,7 +2,7 @@
 -- Assumes nothing.
 use Rattle.std.specs.Prelude.{◌≡◌, ◌≤◌, true, false, [], length}
 use Rattle.text_machine.specs.Entry as M
-use Rattle.text_machine.specs.Entry.{FULL}
+use Rattle.text_machine.specs.Entry.{KEPT, FULL}
 use Rattle.text_entry.specs.declared.Draft.TheInside.{Inside}
 
 abbrev pub draft_of : Inside → M.Draft
@@ -21,7 +21,10 @@ draft_of d =
     }
 
 -- A length is counted so far and no farther; it is that of the body, unless the body is more than is kept: then none of it is.
+-- No more items or shares are counted than bytes are kept, and their number stands among these.
 pub record Fine (d : Inside) : Type 0 where
   pub counted : d.size ≤ FULL
   pub kept : d.over ≡ false → length d.body.items ≡ d.size
   pub dropped : d.over ≡ true → d.body.items ≡ []
+  pub listed : d.count ≤ KEPT
+  pub placed : d.at ≤ KEPT

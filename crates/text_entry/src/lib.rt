@@ -27,6 +27,11 @@ const KEPT_COUNT: u32 = 192;
 
 pub const DEPTH: usize = 17;
 
+// Room for a body in an array of bytes, more than is kept of it; and for the open expressions in one of words, two each.
+pub const BODY: usize = 256;
+
+pub const STARTS: usize = 2 * DEPTH;
+
 const FULL: usize = 65536;
 
 // What the next name is there for: where one of a kind is asked for, this and the kind.
@@ -54,7 +59,7 @@ impl Model for Start {
 // Where its declaration or action begins in the text, its kind, what the next name is for; its body, unless that is more than
 // is kept, and how long it is; how many items or shares it has, and where their number stands in the body; a number that waits
 // for its relation; and the expressions that are open, the innermost first.
-#[derive(Drop)]
+#[derive(Clone, Drop)]
 pub struct Draft {
     pub line: usize,
     pub kind: u32,
