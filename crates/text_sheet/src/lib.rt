@@ -1,7 +1,7 @@
 // What the text reader has written down, of the declarations and actions that it has read.
 #![tactic(auto)]
 
-ghost use Rattle.std.specs.Prelude.{ℕ, ◌≡◌, ◌++◌, ◌+◌, ◌-◌, ◌≤◌, ◌<◌, ◌||◌, List, [], ◌∷◌, leb, length, get_or, drop, true, false};
+ghost use Rattle.std.specs.Prelude.{ℕ, ◌≡◌, ◌++◌, ◌+◌, ◌-◌, ◌≤◌, ◌<◌, ◌||◌, List, [], ◌∷◌, leb, length, get_or, drop};
 ghost use Rattle.std.proofs.lemmas.List.Edits.{sets};
 ghost use Rattle.semantics.specs.Kinds as K;
 ghost use Rattle.semantics.specs.Numbers as No;
@@ -145,10 +145,9 @@ fn append<const N: usize>(out: &mut ArrayVec<u8, N>, kind: u32, body: &[u8])
 }
 
 fn added(total: usize, n: usize) -> usize
-    requires { (total ≤ FULL) × (n ≤ FULL + HEAD) }
     ensures { result ≡ M.added total n }
 {
-    FULL.min(total + n)
+    FULL.min(total.saturating_add(n))
 }
 
 // Bytes put at a place; answers the place behind them.
@@ -300,7 +299,6 @@ impl Sheet {
 
     // n bytes more.
     pub fn longer(&mut self, n: usize)
-        requires { n ≤ FULL + HEAD }
         ensures { self.new ≡ M.with_total self.old self.old.seen n }
     {
         self.total = added(self.total, n);
@@ -308,9 +306,7 @@ impl Sheet {
 
     // One record more of a group, and n bytes.
     fn counted(&mut self, group: usize, n: usize)
-        requires group_bound { group < K.groups }
-        requires seen_bound { FULL ≤ self.old.total → get_or self.old.seen group 0 ≤ FULL }
-        requires n_bound { (0 < n) × (n ≤ FULL + HEAD) }
+        requires { (group < K.groups) × (get_or self.old.seen group 0 ≤ FULL) }
         ensures { self.new ≡ M.with_total self.old (more self.old.seen group 1) n }
     {
         let total = self.total;
@@ -321,7 +317,7 @@ impl Sheet {
     // One action more, at a line, in the innermost block.
     #[tactic(auto, unfolding(text_machine::specs::Sheet::counts))]
     fn counts(&mut self, line: usize, size: usize)
-        requires { (self.old.total < FULL) × (size ≤ FULL) }
+        requires { (get_or self.old.seen K.ACTION 0 ≤ FULL) × (size ≤ FULL) }
         ensures { (kind : ℕ) (bs : List ℕ) → self.new ≡ M.counts (entry line kind size bs) self.old }
     {
         let block = self.innermost();
@@ -350,7 +346,7 @@ impl Sheet {
     // A declaration but that of a class.
     #[tactic(auto, unfolding(text_machine::specs::Sheet::declares))]
     pub fn declares(&mut self, kind: u32, body: &[u8])
-        requires { (self.old.total < FULL) × (kind < K.ACTION) × (length body.now ≤ ROOM) }
+        requires { (get_or self.old.seen kind 0 ≤ FULL) × (kind < K.ACTION) × (length body.now ≤ ROOM) }
         ensures { self.new ≡ M.declares (entry 0 kind (length body.now) body.now) self.old }
     {
         self.counted(kind as usize, HEAD + body.len());
@@ -360,7 +356,6 @@ impl Sheet {
     // A class is noted, whose body block's number stands there, if there is room for it.
     #[tactic(auto, unfolding(crate::specs::Numbers::class_noted))]
     fn noted(&mut self, at: usize, line: usize)
-        requires { self.old.full ≡ false → at + 2 ≤ length self.old.declared }
         ensures { self.new ≡ class_noted at line self.old }
     {
         let next = self.classes.len();
@@ -374,7 +369,7 @@ impl Sheet {
 
     // A class, at a line, with its body block.
     pub fn classes(&mut self, line: usize, block: u32)
-        requires { (self.old.total < FULL) × (block < Byte.TWO) }
+        requires { (get_or self.old.seen K.CLASS 0 ≤ FULL) × (block < Byte.TWO) }
         ensures { self.new ≡ M.classes line block self.old }
     {
         let at = self.declared.len() + HEAD;
@@ -387,7 +382,7 @@ impl Sheet {
     #[tactic(auto, unfolding(text_machine::specs::Sheet::bodied))]
     pub fn bodied(&mut self, class: usize, block: u32)
         requires class_bound { (class < length self.old.class_at) × (block < Byte.TWO) }
-        requires full { self.old.full ≡ true → get_or self.old.class_at class 0 + 2 ≤ length self.old.declared }
+        requires place { get_or self.old.class_at class 0 + 2 ≤ length self.old.declared }
         ensures { self.new ≡ M.bodied class block self.old }
     {
         let at = self.classes[class].at;
@@ -418,7 +413,7 @@ impl Sheet {
     // An action.
     #[tactic(auto, unfolding(text_machine::specs::Sheet::acts))]
     pub fn acts(&mut self, line: usize, kind: u32, body: &[u8])
-        requires { (self.old.total < FULL) × (kind < Byte.TWO) × (length body.now ≤ ROOM) }
+        requires { (get_or self.old.seen K.ACTION 0 ≤ FULL) × (kind < Byte.TWO) × (length body.now ≤ ROOM) }
         ensures { self.new ≡ M.acts (entry line kind (length body.now) body.now) self.old }
     {
         self.counts(line, body.len());
@@ -464,7 +459,7 @@ impl Sheet {
 
     // A branch of a try is counted: the first one, or one more of a try that goes on.
     fn branches(&mut self, line: usize, size: usize)
-        requires { (self.old.total < FULL) × (size ≤ FULL) }
+        requires { (get_or self.old.seen K.ACTION 0 ≤ FULL) × (size ≤ FULL) }
         ensures { (bs : List ℕ) → self.new ≡ M.branches (entry line K.TRY size bs) (kept_in self.old.levels) self.old }
     {
         let kept = self.kept_size();
@@ -491,7 +486,7 @@ impl Sheet {
     // A branch of a try.
     #[tactic(auto, unfolding(text_machine::specs::Sheet::tries))]
     fn tries(&mut self, line: usize, body: &[u8])
-        requires { (self.old.total < FULL) × (length body.now ≤ ROOM) }
+        requires { (get_or self.old.seen K.ACTION 0 ≤ FULL) × (length body.now ≤ ROOM) }
         ensures { self.new ≡ M.tries (entry line K.TRY (length body.now) body.now) self.old }
     {
         self.branches(line, body.len());
@@ -501,13 +496,11 @@ impl Sheet {
     // A brace is opened by an action: a do, a while or a try.
     #[tactic(auto, unfolding(text_machine::specs::Sheet::opens))]
     pub fn opens(&mut self, line: usize, kind: u32, body: &[u8])
-        requires open { (self.old.total < FULL) × (length self.old.levels ≤ No.deepest) }
+        requires seen { (get_or self.old.seen K.ACTION 0 ≤ FULL) × (get_or self.old.seen K.BLOCK 0 ≤ FULL) }
+        requires deep { length self.old.levels ≤ No.deepest }
         requires kind_bound { (kind < Byte.TWO) × (length body.now ≤ ROOM) }
         ensures { self.new ≡ M.opens (entry line kind (length body.now) body.now) self.old }
     {
-        // Read for the proof alone (without it that of `braces` doesn't close): it brings the invariant, that while bytes are counted
-        // no group has more records than they are.
-        let _ = &self.total;
         let is_try = kind == kind::TRY;
         if is_try {
             self.tries(line, body);

@@ -30,11 +30,8 @@ invariant_of-self-2 c = let a = c.args in
     let bs = headed a.kind a.body.now in
     let four : 4 + length a.body.now ≡ length bs = omega arith in
     record {
-      bytes = h.bytes;
-      few = h.few;
       laid = laid_pushed i.stage.items bs i.pieces.items c.innermost-block.result _ h.laid
           (ap (λ n. c.len.result + n) four ∙ ap (λ n. n + length bs) c.len.ensures.value) c.append.ensures c.push.ensures.items;
-      placed = h.placed;
     }
 
 pub returns : goal.returns
