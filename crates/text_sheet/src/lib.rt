@@ -20,12 +20,20 @@ use arrayvec::ArrayVec;
 use base_numbers::{group, kind, limit};
 use std::marker::Model;
 
-// How many there is room for: bytes of declarations, bytes of a kept body, classes, pieces, their bytes, and open blocks, which are
-// one more than the checks let pass.
-pub const DECLARED: usize = 4096;
+// How many bytes there is room for: of declarations; of a kept body, and of all of them.
+pub mod room {
+    use base_numbers::limit;
 
-pub const BODY: usize = 256;
+    pub const DECLARED: usize = 4096;
 
+    pub const BODY: usize = 256;
+
+    pub const BODIES: usize = BODY * limit::DEPTH;
+}
+
+pub use room::{BODY, DECLARED};
+
+// .. and how many classes, pieces, their bytes, and open blocks, which are one more than the checks let pass.
 const CLASSES: usize = limit::CLASSES;
 
 const PIECES: usize = limit::ACTIONS;
