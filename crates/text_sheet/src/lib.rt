@@ -57,7 +57,7 @@ struct Piece {
 }
 
 // A try whose branches may still go on: its line, and its body so far.
-#[derive(Drop)]
+#[derive(Clone, Drop)]
 struct Kept {
     line: usize,
     body: ArrayVec<u8, BODY>,
@@ -72,7 +72,7 @@ impl Model for Kept {
 }
 
 // An open block, and the try in it that may go on.
-#[derive(Default, Drop)]
+#[derive(Clone, Default, Drop)]
 struct Level {
     block: u32,
     kept: Option<Kept>,
@@ -91,7 +91,7 @@ impl Model for Level {
 // of the file, by its block and its line; the bytes of the declarations; the classes, and the one that is being read; the
 // records in blocks, in the order of the text, and their bytes one behind the other; the open blocks, the innermost first; and
 // whether there was no room for something.
-#[derive(Drop)]
+#[derive(Clone, Drop)]
 pub struct Sheet {
     pub seen: [u32; group::MANY],
     pub total: usize,
@@ -200,7 +200,7 @@ fn write_blocks(many: u32, pieces: &[Piece], stage: &[u8], out: &mut [u8], at: u
 }
 
 // The draft with which an etry goes on: its line, and its body so far.
-#[derive(Drop)]
+#[derive(Clone, Copy)]
 pub struct Resumed<'a> {
     pub line: usize,
     pub body: &'a [u8],
