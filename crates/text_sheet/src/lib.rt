@@ -11,7 +11,7 @@ ghost use Rattle.text_semantics.specs.Written.{two as two_of};
 ghost use Rattle.text_machine.specs.Entry.{FULL};
 ghost use Rattle.text_machine.specs.Sheet.{headed, innermost, kept_in};
 ghost use Rattle.text_machine.specs.Sheet as M;
-ghost use Rattle.text_sheet.specs.Numbers.{HEAD, ROOM, entry, kept_length, class_noted, OpenedTotal};
+ghost use Rattle.text_sheet.specs.Numbers.{HEAD, ROOM, entry, kept_length, class_noted, crowded, Counts, Branches, OpenedTotal};
 ghost use Rattle.text_sheet.specs.Pieces.{pieces_from, Laid};
 ghost use Rattle.text_sheet.specs.Told.{Put};
 ghost use Rattle.std.proofs.Math.Option.{some};
@@ -96,11 +96,11 @@ pub struct Sheet {
     pub seen: [u32; group::MANY],
     pub total: usize,
     pub first: usize,
-    last_block: u32,
+    pub last_block: u32,
     pub last_line: usize,
     declared: ArrayVec<u8, DECLARED>,
     classes: ArrayVec<Class, CLASSES>,
-    current: usize,
+    pub current: usize,
     pieces: ArrayVec<Piece, PIECES>,
     stage: ArrayVec<u8, STAGE>,
     levels: ArrayVec<Level, LEVELS>,
@@ -236,6 +236,40 @@ impl Sheet {
         self.levels.len()
     }
 
+    // How many bytes of declarations there are, and how many classes.
+    pub fn declared(&self) -> usize
+        ensures { result ≡ length self.now.declared }
+    {
+        self.declared.len()
+    }
+
+    pub fn class_count(&self) -> usize
+        ensures { result ≡ length self.now.class_at }
+    {
+        self.classes.len()
+    }
+
+    // How many records stand in blocks, and their bytes.
+    pub fn pieces(&self) -> usize
+        ensures { result ≡ length self.now.pieces }
+    {
+        self.pieces.len()
+    }
+
+    pub fn staged(&self) -> usize
+        ensures { result ≡ self.now.staged }
+    {
+        self.stage.len()
+    }
+
+    // Whether there is no room for one record more in blocks, of n bytes.
+    pub fn crowded(&self, n: usize) -> bool
+        requires { n ≤ FULL + HEAD }
+        ensures { result ≡ crowded n self.now }
+    {
+        (limit::ACTIONS <= self.pieces.len()) | (limit::FILE < self.stage.len() + n)
+    }
+
     // The line of a class, and of the one that is being read; 0 where there is none.
     pub fn class_line(&self, class: usize) -> usize
         ensures { result ≡ get_or self.now.class_line class 0 }
@@ -253,7 +287,7 @@ impl Sheet {
     }
 
     // The block that actions stand in, or 0.
-    fn innermost(&self) -> u32
+    pub fn innermost(&self) -> u32
         ensures { result ≡ innermost self.now.levels }
     {
         if self.levels.is_empty() {
@@ -264,7 +298,7 @@ impl Sheet {
     }
 
     // How many bytes of a try are kept in it, if there is one.
-    fn kept_size(&self) -> Option<usize>
+    pub fn kept_size(&self) -> Option<usize>
         ensures { result ≡ kept_length (kept_in self.now.levels) }
     {
         if self.levels.is_empty() {
@@ -313,7 +347,7 @@ impl Sheet {
     }
 
     // One record more of a group, and n bytes.
-    fn counted(&mut self, group: usize, n: usize)
+    pub fn counted(&mut self, group: usize, n: usize)
         requires { (group < K.groups) × (get_or self.old.seen group 0 ≤ FULL) }
         ensures { self.new ≡ M.with_total self.old (more self.old.seen group 1) n }
     {
@@ -324,9 +358,9 @@ impl Sheet {
 
     // One action more, at a line, in the innermost block.
     #[tactic(auto, unfolding(text_machine::specs::Sheet::counts))]
-    fn counts(&mut self, line: usize, size: usize)
+    pub fn counts(&mut self, line: usize, size: usize)
         requires { (get_or self.old.seen K.ACTION 0 ≤ FULL) × (size ≤ FULL) }
-        ensures { (kind : ℕ) (bs : List ℕ) → self.new ≡ M.counts (entry line kind size bs) self.old }
+        ensures { Counts line size self.old self.new }
     {
         let block = self.innermost();
         self.counted(ACTION, HEAD + size);
@@ -340,7 +374,7 @@ impl Sheet {
 
     // A record, if there is room for it.
     #[tactic(auto, unfolding(text_machine::specs::Sheet::declaring))]
-    fn declaring(&mut self, kind: u32, body: &[u8])
+    pub fn declaring(&mut self, kind: u32, body: &[u8])
         requires { (kind < Byte.TWO) × (length body.now ≤ ROOM) }
         ensures { self.new ≡ M.declaring (headed kind body.now) self.old }
     {
@@ -363,7 +397,7 @@ impl Sheet {
 
     // A class is noted, whose body block's number stands there, if there is room for it.
     #[tactic(auto, unfolding(crate::specs::Numbers::class_noted))]
-    fn noted(&mut self, at: usize, line: usize)
+    pub fn noted(&mut self, at: usize, line: usize)
         ensures { self.new ≡ class_noted at line self.old }
     {
         let next = self.classes.len();
@@ -403,16 +437,15 @@ impl Sheet {
 
     // A record goes into the innermost block, if there is room for it.
     #[tactic(auto, unfolding(text_machine::specs::Sheet::stands))]
-    fn stands(&mut self, kind: u32, body: &[u8])
+    pub fn stands(&mut self, kind: u32, body: &[u8])
         requires { (kind < Byte.TWO) × (length body.now ≤ ROOM) }
         ensures { self.new ≡ M.stands kind body.now self.old }
     {
-        let end = self.stage.len() + (HEAD + body.len());
-        let crowded = (limit::ACTIONS <= self.pieces.len()) | (limit::FILE < end);
-        if crowded {
+        if self.crowded(HEAD + body.len()) {
             self.full = true;
             return;
         }
+        let end = self.stage.len() + (HEAD + body.len());
         let block = self.innermost();
         append(&mut self.stage, kind, body);
         self.pieces.push(Piece { block, end });
@@ -466,9 +499,9 @@ impl Sheet {
     }
 
     // A branch of a try is counted: the first one, or one more of a try that goes on.
-    fn branches(&mut self, line: usize, size: usize)
+    pub fn branches(&mut self, line: usize, size: usize)
         requires { (get_or self.old.seen K.ACTION 0 ≤ FULL) × (size ≤ FULL) }
-        ensures { (bs : List ℕ) → self.new ≡ M.branches (entry line K.TRY size bs) (kept_in self.old.levels) self.old }
+        ensures { Branches line size self.old self.new }
     {
         let kept = self.kept_size();
         match kept {
