@@ -17,6 +17,7 @@ use Rattle.text_machine.specs.Sheet.{added, long, headed}
 use Rattle.text_machine.specs.Machine.{done, behind, is_declaration, over_limit}
 use Rattle.text_sheet.specs.Numbers.{entry}
 use Rattle.text_sheet.specs.Callers.{declares-entry, acts-entry, opens-entry}
+use Rattle.text_sheet.specs.Fit.{Fit, fit_first, fit_declares, fit_classes, fit_bodied, fit_acts, fit_let_go, fit_closed}
 use Rattle.text_reader.specs.Sheets.{Sound, Short, ShortKept, Steps}
 use Rattle.text_reader.specs.Cut.{cut_of}
 use borrow.Author.Tests.{lt-ltb, le-ltb}
@@ -138,6 +139,9 @@ done_levels d z =
 pub done_short : (d : E.Draft) (z : M.Sheet) → AllOf Short z.levels → AllOf Short (done d z).levels
 done_short d z h = rw (done_levels d z) h
 
+pub done_fit : (d : E.Draft) (z : M.Sheet) → Fit 0 z → Fit 0 (done d z)
+done_fit d z h = if_has (Fit 0) (is_declaration d) (fit_declares d h) (fit_acts d h)
+
 pub opens_short : (d : E.Draft) (z : M.Sheet) → length d.body ≤ KEPT → AllOf Short z.levels → AllOf Short (M.opens d z).levels
 unfolding M.opens M.braces M.tries
 opens_short d z l h = (
@@ -164,6 +168,7 @@ sound_settled z h = go (M.kept_in z.levels)
           roomy = omega (arith, t.0, h.roomy);
           shallow = rw (keeping_length none (M.stands K.TRY x.body z).levels, l) h.shallow;
           short = keeping_short none (M.stands K.TRY x.body z).levels tt (rw l h.short);
+          fit = fit_let_go (some x) h.fit;
         }
 
 sound_closed : (z : M.Sheet) → Sound z → Sound (M.closed z)
@@ -174,6 +179,7 @@ sound_closed z h =
       roomy = t.roomy;
       shallow = omega (arith, outer_length (M.settled z).levels, t.shallow);
       short = outer_short (M.settled z).levels t.short;
+      fit = fit_closed h.fit;
     }
 
 pub sound_behind : (z : M.Sheet) (t : Token) → Sound z → Sound (behind z t)
@@ -182,7 +188,7 @@ sound_behind z t h =
 
 pub sound_first : (z : M.Sheet) (p : ℕ) → Sound z → Sound (if eqb z.total 0 then M.with_first z p else z)
 sound_first z p h =
-    if_has Sound (eqb z.total 0) (record { roomy = h.roomy; shallow = h.shallow; short = h.short }) h
+    if_has Sound (eqb z.total 0) (record { roomy = h.roomy; shallow = h.shallow; short = h.short; fit = fit_first p h.fit }) h
 
 -- A CLASS.
 pub classes_levels : (p b : ℕ) (z : M.Sheet) → (M.classes p b z).levels ≡ z.levels
@@ -228,6 +234,9 @@ pub short_class : (t : Bool) (c p b : ℕ) (z : M.Sheet) → AllOf Short z.level
     → AllOf Short (if t then M.bodied c b z else M.classes p b z).levels
 short_class true c p b z h = rw (bodied_same c b z).0 h
 short_class false c p b z h = rw (classes_levels p b z) h
+
+pub fit_class : (t : Bool) (c p b : ℕ) (z : M.Sheet) → Fit 0 z → Fit 0 (if t then M.bodied c b z else M.classes p b z)
+fit_class t c p b z h = if_has (Fit 0) t (fit_bodied c b h) (fit_classes p b h)
 
 -- BY THE DRAFT'S parts.
 module _ (d : E.Draft) (z : M.Sheet) (s : d.size ≡ length d.body) where
@@ -304,13 +313,13 @@ module _ (z : M.Sheet) (line : ℕ) (d : E.Draft) (e : d.line ≡ line) where
 
 -- A STEP that is told by its limits.
 pub steps_by : {z want : M.Sheet} (d : E.Draft) {f : Bool} (r : Result (Unit {0}) ℕ) → z ≡ want → cut_of r ≡ over_limit z d false
-    → false ≡ f → OnOk r ((z.total < FULL) × (length z.levels ≤ F.deepest)) → AllOf Short want.levels
+    → false ≡ f → OnOk r ((z.total < FULL) × (length z.levels ≤ F.deepest)) → AllOf Short want.levels → Fit 0 want
     → Steps (over_limit want d f) want r z
-steps_by {z} {want} d {f} (Ok x) e c n s h =
+steps_by {z} {want} d {f} (Ok x) e c n s h j =
     record {
       cut = c ∙ ap (λ y. over_limit y d false) e ∙ ap (over_limit want d) n;
       same = e;
-      sound = record { roomy = s.0; shallow = s.1; short = rw e h };
+      sound = record { roomy = s.0; shallow = s.1; short = rw e h; fit = rw e j };
     }
-steps_by {z} {want} d {f} (Err p) e c n s h =
+steps_by {z} {want} d {f} (Err p) e c n s h j =
     record { cut = c ∙ ap (λ y. over_limit y d false) e ∙ ap (over_limit want d) n; same = tt; sound = tt }

@@ -2,7 +2,6 @@
 -- Assumes nothing.
 use Rattle.std.specs.Prelude.{ℕ, ◌≡◌, List, length, Result, Err}
 use Rattle.std.proofs.Common.{sym, subst, ◌∙◌}
-use Rattle.std.proofs.Math.Path.{refl}
 use Rattle.text_semantics.specs.Answer.{Answer, refused, answer}
 use Rattle.text_machine.specs.Machine.{machine}
 use Rattle.text_answers.specs.Agreeing.{machine_is_answer}
@@ -11,7 +10,7 @@ use Rattle.text_reader.specs.declared.refused.Refused.{Refused}
 use Rattle.text_reader.specs.Reason.{number_of}
 use Rattle.text_reader.specs.Answer.{Says}
 use Rattle.text_reader.specs.Going.{Over}
-use Rattle.text_reader.specs.End.{Answers}
+use Rattle.text_reader.specs.End.{Answers, answers_stopped}
 
 module _ {bs out after : List ℕ} {a : Result ℕ Refused} where
   pub answers_text : {m : Reader} → Over bs m → Answers m (length bs) out a after → Says (answer bs (length out)) a out after
@@ -22,4 +21,4 @@ pub stopped_text : (bs : List ℕ) {out : List ℕ} {e : Refused} → ((room : �
     → Says (answer bs (length out)) (Err e) out out
 stopped_text bs {out} {e} d =
     subst (λ (y : Answer). Says y (Err e) out out) (sym (d (length out)) ∙ machine_is_answer bs (length out))
-    (record { answer = refl; bytes = refl })
+    (answers_stopped e out)

@@ -1,6 +1,6 @@
 -- The end: what is answered behind the last token.
 -- Assumes nothing.
-use Rattle.std.specs.Prelude.{ℕ, ◌≤◌, ◌<◌, ◌≡◌, List, ◌++◌, length, get_or, drop, Bool, eqb, leb, if◌then◌else◌, Result, Ok, Err, Some, None}
+use Rattle.std.specs.Prelude.{ℕ, zero, suc, ◌≤◌, ◌<◌, ◌≡◌, List, [], ◌∷◌, ◌++◌, length, get_or, take, drop, Bool, eqb, leb, if◌then◌else◌, Result, Ok, Err, Some, None}
 use Rattle.std.proofs.Common.{arith, ◌∙◌}
 use Rattle.std.proofs.Math.Path.{refl}
 use Rattle.std.proofs.Math.Bool.{true, false}
@@ -16,6 +16,7 @@ use Rattle.text_names.specs.Table.{known_in, lacking_class}
 use Rattle.text_reader.specs.declared.Reader.{Reader}
 use Rattle.text_reader.specs.declared.refused.Refused.{Refused}
 use Rattle.text_reader.specs.declared.refused.Reason.TheVariants.{Checks, Buffer}
+use Rattle.text_reader.specs.Reason.{number_of}
 use Rattle.text_reader.specs.Shown.{reader_of}
 use Rattle.text_reader.specs.Answer.{Says}
 use Rattle.text_reader.specs.Length.{file_fits}
@@ -25,7 +26,18 @@ use Rattle.text_reader.specs.Going.{Over}
 abbrev pub Answers : Reader → ℕ → List ℕ → Result ℕ Refused → List ℕ → Type 0
 Answers m len out a after = Says (ended (reader_of m) len (length out)) a out after
 
--- Each way through the code.
+-- Beyond the front of a list nothing stands in it.
+beyond : (n c : ℕ) (xs : List ℕ) → n ≤ c → get_or (take n xs) c 0 ≡ 0
+beyond zero c xs h = refl
+beyond (suc n) c [] h = refl
+beyond (suc n) zero (x ∷ xs) h = absurd (omega arith)
+beyond (suc n) (suc c) (x ∷ xs) h = beyond n c xs (omega arith)
+
+-- Each way through the code: what stopped the reader is told, and nothing is written.
+pub answers_stopped : (e : Refused) (out : List ℕ) → Says (refused (number_of e.reason) e.place) (Err e) out out
+answers_stopped e out = record { answer = refl; bytes = refl }
+
+-- .. or the end.
 module _ (m : Reader) (len : ℕ) (out : List ℕ) where
   abbrev ks : List Known
   ks = known_in m.names

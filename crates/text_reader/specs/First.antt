@@ -10,6 +10,7 @@ use Rattle.text_machine.specs.Codes.{TEXT}
 use Rattle.text_machine.specs.Machine.{at_first, going, machine}
 use Rattle.text_agrees.specs.Stages.{Comes, starts}
 use Rattle.text_pile.specs.Pile.{pile_of}
+use Rattle.text_sheet.specs.Fit.{fit_blank}
 use Rattle.text_reader.specs.declared.Reader.{Reader}
 use Rattle.text_reader.specs.Shown.{reader_of, Begins}
 use Rattle.text_reader.specs.Length.{Counts, counts_first}
@@ -41,7 +42,7 @@ reads_start bs =
         begun = omega arith;
         within = omega arith;
         sized = omega arith;
-        sheet = record { roomy = omega arith; shallow = omega arith; short = tt };
+        sheet = record { roomy = omega arith; shallow = omega arith; short = tt; fit = fit_blank };
       };
       counts = subst Counts (sym (start_first bs)) counts_first;
       same = λ room. ap (λ r. going r (tokens_from 0 clear bs) (length bs) room) (start_first bs);

@@ -1,9 +1,10 @@
 -- The loop over the tokens: what holds before each of them, and what is so behind the last.
 -- Assumes nothing.
-use Rattle.std.specs.Prelude.{ℕ, ◌≤◌, ◌≡◌, length, drop, if◌then◌else◌, Result, Ok, Err}
-use Rattle.std.proofs.Common.{◌∙◌, eq-eqb, ne_eqb}
-use Rattle.std.proofs.Math.Path.{sym, ap}
+use Rattle.std.specs.Prelude.{ℕ, ◌≤◌, ◌≡◌, Bool, true, false, not, ◌||◌, eqb, length, drop, if◌then◌else◌, Result, Ok, Err, OnOk}
+use Rattle.std.proofs.Common.{arith, ◌∙◌, eqb-true, eq-eqb, ne_eqb}
+use Rattle.std.proofs.Math.Path.{refl, sym, ap}
 use mathlib.Core.List.{List, [], ◌∷◌}
+use Rattle.std.proofs.lemmas.Bool.{eqb-false}
 use Rattle.text_semantics.specs.Token as K
 use Rattle.text_semantics.specs.Lexing.{Placed, clear, tokens_from}
 use Rattle.text_semantics.specs.Answer.{refused}
@@ -90,3 +91,20 @@ module _ {bs : List ℕ} {at : ℕ} {t : Token} {m : Code.Reader} (x : Reads bs 
               room) (ne_eqb t.kind K.END f))
               ∙ sym (going_on (reader_of m) (placed_of bs t) (behind bs t) (length bs) room (told z)) ∙ ahead room;
         }
+
+  -- So behind the last token, or where one stops the reader.
+  pub reads_done : (r : Result (Unit {0}) Refused) {n : Code.Reader} → Turns t m r n → OnOk r (t.kind ≡ K.END) → Done bs r n
+  reads_done (Ok u) z f = reads_over z f
+  reads_done (Err e) z f = reads_stopped z
+
+-- A TEST of numbers: a token of this kind stopped the reader, with a number that is not 0, or is the last one.
+pub last_token : (n k : ℕ) → not (eqb n 0) || eqb k K.END ≡ true → n ≡ 0 → k ≡ K.END
+last_token n k h e = eqb-true k K.END (sym (ap (λ b. not b || eqb k K.END) (eq-eqb n 0 e)) ∙ h)
+
+pub more_tokens : (n k : ℕ) → not (eqb n 0) || eqb k K.END ≡ false → (n ≡ 0) × (k ≡ K.END → ⊥)
+more_tokens n k h = go (eqb n 0) refl (eqb k K.END) refl h
+  where
+    go : (a : Bool) → eqb n 0 ≡ a → (b : Bool) → eqb k K.END ≡ b → not a || b ≡ false → (n ≡ 0) × (k ≡ K.END → ⊥)
+    go true e false f h = (eqb-true n 0 e, eqb-false k K.END f)
+    go true e true f h = let z : ◌≡◌ {A = ℕ} 0 1 = cc in absurd (omega arith)
+    go false e b f h = let z : ◌≡◌ {A = ℕ} 0 1 = cc in absurd (omega arith)

@@ -2,14 +2,17 @@
 -- Assumes nothing.
 use Rattle.std.specs.Prelude.{ℕ, ◌+◌, ◌≤◌, ◌<◌, ◌≡◌, Bool, true, false, length, get_or, IfSome, Some, None, Result, OnOk}
 use Rattle.std.specs.Prelude as Code
+use Rattle.std.proofs.Common.{arith}
 use Rattle.std.proofs.Math.Option.{Option, none, some}
 use Rattle.semantics.specs.Numbers as F
 use Rattle.promises.specs.Laws.{AllOf}
 use Rattle.text_machine.specs.Entry.{KEPT, FULL}
 use Rattle.text_machine.specs.Sheet.{Sheet, Level, Kept}
+use Rattle.text_sheet.specs.Fit.{Fit}
 use Rattle.text_reader.specs.Cut.{cut_of}
 
--- What a sheet is between two tokens: the total isn't full, and no more is open and kept than a draft keeps.
+-- What a sheet is between two tokens: the total isn't full, no more is open and kept than a draft keeps, and what is counted and
+-- placed is as each step leaves it.
 abbrev pub ShortKept : Option Kept → Type 0
 ShortKept none = Unit {0}
 ShortKept (some x) = length x.body ≤ KEPT
@@ -21,6 +24,11 @@ pub record Sound (z : Sheet) : Type 0 where
   pub roomy : z.total < FULL
   pub shallow : length z.levels ≤ F.deepest
   pub short : AllOf Short z.levels
+  pub fit : Fit 0 z
+
+-- So there are few records of each group.
+pub few_seen : {z : Sheet} → Sound z → (g : ℕ) → get_or z.seen g 0 < FULL
+few_seen h g = let f = h.fit.few h.roomy g in omega (arith, f, h.roomy)
 
 -- The class whose body begins, if it is known.
 abbrev pub is_class : Code.Option ℕ → Bool

@@ -1,6 +1,6 @@
 -- What one token leads to: what `turn` answers. Assumes nothing.
 use Rattle.std.specs.Prelude.{ℕ, ◌≤◌, ◌≡◌, refl, List, Bool, true, false, eqb, leb, length, if◌then◌else◌, Result, Ok, Err, OnOk}
-use Rattle.std.proofs.Common.{arith, sym, ap, eqb-true, eq-eqb, ne_eqb, leb-true, leb-false}
+use Rattle.std.proofs.Common.{arith, sym, ◌∙◌, ap, eqb-true, eq-eqb, ne_eqb, leb-true, leb-false}
 use Rattle.std.proofs.lemmas.Bool.{eqb-false}
 use Rattle.text_semantics.specs.Token as Tk
 use Rattle.text_semantics.specs.Lexing.{Placed}
@@ -61,3 +61,9 @@ pub turned_same : {t : Token} (m : Reader) → Came m.names.text t
 turned_same {t} m c =
     ap (λ k. turned (reader_of m) (record { token = k; place = t.place }))
     (sym (same_token t.kind t.value (part t.place t.end m.names.text) c.1.known))
+
+-- So one of them leads to what the other leads to.
+pub turns_by : {t : Token} {m n : Reader} {r : Result (Unit {0}) Refused} → Came m.names.text t
+    → turned (reader_of m) (record { token = C.token_of t.kind t.value (part t.place t.end m.names.text); place = t.place }) ≡ outcome r n
+    → OnOk r (Ready n) → OnOk r (n.names.text ≡ m.names.text) → Turns t m r n
+turns_by {t} {m} c x y z = record { told = turned_same m c ∙ x; ready = y; text = z }

@@ -235,7 +235,7 @@ fn know(names: &mut Names, sort: Sort, token: Token, role: u32, depth: usize, ca
 // What a token makes of the draft: it was read where s was still to come.
 fn draft_after(draft: &mut Draft, sheet: &Sheet, s: u8, token: Token, named: Named)
     requires kept { length (resumed (kept_in sheet.now.levels)).body ≤ KEPT }
-    requires small { (sheet.now.total < FULL) × (named.number < FULL) }
+    requires small { (blocks_of sheet.now < FULL) × (named.number < FULL) }
     requires fits { Fits s token.kind token.value (resumed (kept_in sheet.now.levels)) }
     ensures value { (x : List ℕ) → draft.new ≡ drafted named.kind named.number (blocks_of sheet.now) token.place
         (resumed (kept_in sheet.now.levels)) (symbol_of s) (token_of token.kind token.value x) draft.old }

@@ -1,6 +1,6 @@
 -- What steps of the machine leave as it is, and steps in the other order. Assumes nothing.
 use Rattle.std.specs.Prelude.{ℕ, ◌+◌, ◌≤◌, ◌<◌, ◌≡◌, refl, Bool, true, false, List, [], ◌∷◌, ◌++◌, ◌||◌, length, get_or, leb, ltb, if◌then◌else◌}
-use Rattle.std.proofs.Common.{arith, sym, ap, ◌∙◌, get_or-set_other, leb-true, leb-false, length-append}
+use Rattle.std.proofs.Common.{arith, sym, ap, ◌∙◌, get_or-set_other, leb-false}
 use Rattle.std.proofs.Math.Option.{Option, none, some}
 use Rattle.semantics.specs.Kinds as K
 use Rattle.semantics.specs.Numbers as No
@@ -8,15 +8,7 @@ use Rattle.semantics.specs.Words.{more}
 use Rattle.text_machine.specs.Entry.{Draft, FULL}
 use Rattle.text_machine.specs.Sheet as M
 use Rattle.text_machine.specs.Sheet.{headed}
-use Rattle.text_sheet.specs.Numbers.{class_noted}
-
--- A group that has no more records than bytes, while these are counted, and few anyway.
-pub bounded : (total n : ℕ) → (total < FULL → n ≤ total) → (FULL ≤ total → n ≤ FULL) → n ≤ FULL
-bounded total n f g = go (leb FULL total) refl
-  where
-    go : (t : Bool) → leb FULL total ≡ t → n ≤ FULL
-    go true e = g (leb-true FULL total e)
-    go false e = let h = leb-false FULL total e in omega (arith, h, f h)
+use Rattle.text_sheet.specs.Numbers.{class_noted, crowded}
 
 -- A class is noted before its record is written, or after it.
 module _ (bs : List ℕ) (p : ℕ) (s : M.Sheet) where
@@ -60,17 +52,14 @@ module _ (bs : List ℕ) (p : ℕ) (s : M.Sheet) where
   unfolding M.declaring M.classed
   classes_swap = noted_then full ∙ swapped full many ∙ written_then many
 
-  pub declared_room : (M.declaring bs s).full ≡ false → length (M.declaring bs s).declared ≡ length s.declared + length bs
-  unfolding M.declaring
-  declared_room = go full
-    where
-      go : (a : Bool) → (written a).full ≡ false → length (written a).declared ≡ length s.declared + length bs
-      go true e = let z : ◌≡◌ {A = Bool} true false = e in cc
-      go false e = length-append s.declared bs
-
--- Whether there is no room for one piece more, of n bytes; and what stands then.
-abbrev pub crowded : ℕ → M.Sheet → Bool
-crowded n s = leb No.most_actions (length s.pieces) || ltb No.longest_file (s.staged + n)
+-- Where there is room for one record more; and what stands where there is none, and where there is.
+pub has_room : (n : ℕ) (s : M.Sheet) → crowded n s ≡ false → length s.pieces < No.most_actions
+has_room n s h = go (leb No.most_actions (length s.pieces)) refl h
+  where
+    go : (b : Bool) → leb No.most_actions (length s.pieces) ≡ b → b || ltb No.longest_file (s.staged + n) ≡ false
+        → length s.pieces < No.most_actions
+    go true e f = let z : ◌≡◌ {A = Bool} true false = f in cc
+    go false e f = leb-false No.most_actions (length s.pieces) e
 
 module _ (kind : ℕ) (body : List ℕ) (s : M.Sheet) where
   abbrev pub one_piece : M.Sheet

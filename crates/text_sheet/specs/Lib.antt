@@ -4,6 +4,7 @@ pub mod Numbers
 pub mod Pieces
 pub mod Classes
 pub mod Shown
+pub mod Fit
 pub mod Told
 pub mod Callers
 pub mod Same

@@ -1,9 +1,10 @@
 -- What contracts name: bytes of a record, the draft that is handed over as numbers and bytes, and a try that is kept.
 -- Assumes nothing.
-use Rattle.std.specs.Prelude.{ℕ, ◌≡◌, ◌+◌, List, [], ◌∷◌, ◌++◌, false, leb, length, Some, None, if◌then◌else◌}
+use Rattle.std.specs.Prelude.{ℕ, ◌≡◌, ◌+◌, List, [], ◌∷◌, ◌++◌, Bool, false, ◌||◌, leb, ltb, length, Some, None, if◌then◌else◌}
 use Rattle.std.specs.Prelude as Prelude
 use Rattle.std.proofs.Math.Option.{Option, none, some}
 use Rattle.semantics.specs.Numbers as No
+use Rattle.semantics.specs.Kinds as K
 use Rattle.text_machine.specs.Entry.{Draft, begin, with_body}
 use Rattle.text_machine.specs.Sheet as M
 
@@ -33,6 +34,17 @@ class_noted at line s =
     if leb No.most_classes (length s.class_at)
     then M.filled s
     else M.with_class s (s.class_at ++ (at ∷ [])) (s.class_line ++ (line ∷ [])) (length s.class_at)
+
+-- Whether there is no room for one record more in blocks, of n bytes.
+abbrev pub crowded : ℕ → M.Sheet → Bool
+crowded n s = leb No.most_actions (length s.pieces) || ltb No.longest_file (s.staged + n)
+
+-- An action is counted, and a branch of a try, whatever its body is.
+abbrev pub Counts : ℕ → ℕ → M.Sheet → M.Sheet → Type 0
+Counts line size s r = (kind : ℕ) (bs : List ℕ) → r ≡ M.counts (entry line kind size bs) s
+
+abbrev pub Branches : ℕ → ℕ → M.Sheet → M.Sheet → Type 0
+Branches line size s r = (bs : List ℕ) → r ≡ M.branches (entry line K.TRY size bs) (M.kept_in s.levels) s
 
 -- How many bytes there are with an action that opens a block, whatever its line and its body are.
 abbrev pub OpenedTotal : ℕ → ℕ → M.Sheet → ℕ → Type 0

@@ -5,7 +5,7 @@ use Rattle.std.proofs.Common.{sym, ◌∙◌, ap}
 use Rattle.semantics.specs.Kinds as K
 use Rattle.text_machine.specs.Entry.{Draft}
 use Rattle.text_machine.specs.Sheet as M
-use Rattle.text_sheet.specs.Numbers.{entry, OpenedTotal}
+use Rattle.text_sheet.specs.Numbers.{entry, Counts, Branches, OpenedTotal}
 
 -- A sheet after a step: what was written before, and the step, determine it.
 pub same_sheet : (f : M.Sheet → M.Sheet) {s r r' : M.Sheet} → r ≡ f s → r' ≡ f s → r ≡ r'
@@ -16,6 +16,13 @@ pub same_again : {d : Draft} {line line' : ℕ} {body body' : List ℕ} → d �
     → d ≡ entry line' K.TRY (length body') body' → (line ≡ line') × (body ≡ body')
 same_again h k =
     let same = sym h ∙ k in (ap (λ (d : Draft). d.line) same, ap (λ (d : Draft). d.body) same)
+
+-- An action that is counted, and a branch of a try.
+pub same_counts : (line size : ℕ) (s : M.Sheet) {r r' : M.Sheet} → Counts line size s r → Counts line size s r' → r ≡ r'
+same_counts line size s h k = h 0 [] ∙ sym (k 0 [])
+
+pub same_branches : (line size : ℕ) (s : M.Sheet) {r r' : M.Sheet} → Branches line size s r → Branches line size s r' → r ≡ r'
+same_branches line size s h k = h [] ∙ sym (k [])
 
 -- The bytes with an action that opens a block.
 pub same_opened_total : (kind size : ℕ) (s : M.Sheet) {n m : ℕ} → OpenedTotal kind size s n → OpenedTotal kind size s m → n ≡ m

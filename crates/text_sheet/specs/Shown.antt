@@ -1,11 +1,10 @@
 -- The machine's sheet that the fields show, and what is true of them.
 -- Assumes nothing.
-use Rattle.std.specs.Prelude.{ℕ, ◌≤◌, ◌<◌, ◌≡◌, false, length, get_or, map}
-use Rattle.text_machine.specs.Entry.{FULL}
+use Rattle.std.specs.Prelude.{length, map}
 use Rattle.text_machine.specs.Sheet as M
 use Rattle.text_sheet.specs.declared.Sheet.TheInside.{Inside}
 use Rattle.text_sheet.specs.Pieces.{pieces_from, Laid}
-use Rattle.text_sheet.specs.Classes.{at_of, line_of, Placed}
+use Rattle.text_sheet.specs.Classes.{at_of, line_of}
 
 abbrev pub sheet_of : Inside → M.Sheet
 sheet_of s =
@@ -25,10 +24,6 @@ sheet_of s =
       full = s.full;
     }
 
--- The bytes are counted so far and no farther, and while they are, there are no more records of a group than bytes; the records
--- in blocks have all the bytes; and the body blocks of classes stand among the declarations, while there was room for all.
+-- The records in blocks have all the bytes. No caller sees these but as the machine's pieces.
 pub record Fine (s : Inside) : Type 0 where
-  pub bytes : s.total ≤ FULL
-  pub few : s.total < FULL → (g : ℕ) → get_or s.seen g 0 ≤ s.total
   pub laid : Laid 0 (length s.stage.items) s.pieces.items
-  pub placed : s.full ≡ false → Placed (length s.declared.items) s.classes.items

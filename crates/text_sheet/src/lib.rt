@@ -1,7 +1,7 @@
 // What the text reader has written down, of the declarations and actions that it has read.
 #![tactic(auto)]
 
-ghost use Rattle.std.specs.Prelude.{ℕ, ◌≡◌, ◌++◌, ◌+◌, ◌-◌, ◌≤◌, ◌<◌, ◌||◌, List, [], ◌∷◌, leb, length, get_or, drop, true, false};
+ghost use Rattle.std.specs.Prelude.{ℕ, ◌≡◌, ◌++◌, ◌+◌, ◌-◌, ◌≤◌, ◌<◌, ◌||◌, List, [], ◌∷◌, leb, length, get_or, drop};
 ghost use Rattle.std.proofs.lemmas.List.Edits.{sets};
 ghost use Rattle.semantics.specs.Kinds as K;
 ghost use Rattle.semantics.specs.Numbers as No;
@@ -11,7 +11,7 @@ ghost use Rattle.text_semantics.specs.Written.{two as two_of};
 ghost use Rattle.text_machine.specs.Entry.{FULL};
 ghost use Rattle.text_machine.specs.Sheet.{headed, innermost, kept_in};
 ghost use Rattle.text_machine.specs.Sheet as M;
-ghost use Rattle.text_sheet.specs.Numbers.{HEAD, ROOM, entry, kept_length, class_noted, OpenedTotal};
+ghost use Rattle.text_sheet.specs.Numbers.{HEAD, ROOM, entry, kept_length, class_noted, crowded, Counts, Branches, OpenedTotal};
 ghost use Rattle.text_sheet.specs.Pieces.{pieces_from, Laid};
 ghost use Rattle.text_sheet.specs.Told.{Put};
 ghost use Rattle.std.proofs.Math.Option.{some};
@@ -20,12 +20,20 @@ use arrayvec::ArrayVec;
 use base_numbers::{group, kind, limit};
 use std::marker::Model;
 
-// How many there is room for: bytes of declarations, bytes of a kept body, classes, pieces, their bytes, and open blocks, which are
-// one more than the checks let pass.
-pub const DECLARED: usize = 4096;
+// How many bytes there is room for: of declarations; of a kept body, and of all of them.
+pub mod room {
+    use base_numbers::limit;
 
-pub const BODY: usize = 256;
+    pub const DECLARED: usize = 4096;
 
+    pub const BODY: usize = 256;
+
+    pub const BODIES: usize = BODY * limit::DEPTH;
+}
+
+pub use room::{BODY, DECLARED};
+
+// .. and how many classes, pieces, their bytes, and open blocks, which are one more than the checks let pass.
 const CLASSES: usize = limit::CLASSES;
 
 const PIECES: usize = limit::ACTIONS;
@@ -49,7 +57,7 @@ struct Piece {
 }
 
 // A try whose branches may still go on: its line, and its body so far.
-#[derive(Drop)]
+#[derive(Clone, Drop)]
 struct Kept {
     line: usize,
     body: ArrayVec<u8, BODY>,
@@ -64,7 +72,7 @@ impl Model for Kept {
 }
 
 // An open block, and the try in it that may go on.
-#[derive(Default, Drop)]
+#[derive(Clone, Default, Drop)]
 struct Level {
     block: u32,
     kept: Option<Kept>,
@@ -83,16 +91,16 @@ impl Model for Level {
 // of the file, by its block and its line; the bytes of the declarations; the classes, and the one that is being read; the
 // records in blocks, in the order of the text, and their bytes one behind the other; the open blocks, the innermost first; and
 // whether there was no room for something.
-#[derive(Drop)]
+#[derive(Clone, Drop)]
 pub struct Sheet {
     pub seen: [u32; group::MANY],
     pub total: usize,
     pub first: usize,
-    last_block: u32,
+    pub last_block: u32,
     pub last_line: usize,
     declared: ArrayVec<u8, DECLARED>,
     classes: ArrayVec<Class, CLASSES>,
-    current: usize,
+    pub current: usize,
     pieces: ArrayVec<Piece, PIECES>,
     stage: ArrayVec<u8, STAGE>,
     levels: ArrayVec<Level, LEVELS>,
@@ -145,10 +153,9 @@ fn append<const N: usize>(out: &mut ArrayVec<u8, N>, kind: u32, body: &[u8])
 }
 
 fn added(total: usize, n: usize) -> usize
-    requires { (total ≤ FULL) × (n ≤ FULL + HEAD) }
     ensures { result ≡ M.added total n }
 {
-    FULL.min(total + n)
+    FULL.min(total.saturating_add(n))
 }
 
 // Bytes put at a place; answers the place behind them.
@@ -193,7 +200,7 @@ fn write_blocks(many: u32, pieces: &[Piece], stage: &[u8], out: &mut [u8], at: u
 }
 
 // The draft with which an etry goes on: its line, and its body so far.
-#[derive(Drop)]
+#[derive(Clone, Copy)]
 pub struct Resumed<'a> {
     pub line: usize,
     pub body: &'a [u8],
@@ -229,6 +236,40 @@ impl Sheet {
         self.levels.len()
     }
 
+    // How many bytes of declarations there are, and how many classes.
+    pub fn declared(&self) -> usize
+        ensures { result ≡ length self.now.declared }
+    {
+        self.declared.len()
+    }
+
+    pub fn class_count(&self) -> usize
+        ensures { result ≡ length self.now.class_at }
+    {
+        self.classes.len()
+    }
+
+    // How many records stand in blocks, and their bytes.
+    pub fn pieces(&self) -> usize
+        ensures { result ≡ length self.now.pieces }
+    {
+        self.pieces.len()
+    }
+
+    pub fn staged(&self) -> usize
+        ensures { result ≡ self.now.staged }
+    {
+        self.stage.len()
+    }
+
+    // Whether there is no room for one record more in blocks, of n bytes.
+    pub fn crowded(&self, n: usize) -> bool
+        requires { n ≤ FULL + HEAD }
+        ensures { result ≡ crowded n self.now }
+    {
+        (limit::ACTIONS <= self.pieces.len()) | (limit::FILE < self.stage.len() + n)
+    }
+
     // The line of a class, and of the one that is being read; 0 where there is none.
     pub fn class_line(&self, class: usize) -> usize
         ensures { result ≡ get_or self.now.class_line class 0 }
@@ -246,7 +287,7 @@ impl Sheet {
     }
 
     // The block that actions stand in, or 0.
-    fn innermost(&self) -> u32
+    pub fn innermost(&self) -> u32
         ensures { result ≡ innermost self.now.levels }
     {
         if self.levels.is_empty() {
@@ -257,7 +298,7 @@ impl Sheet {
     }
 
     // How many bytes of a try are kept in it, if there is one.
-    fn kept_size(&self) -> Option<usize>
+    pub fn kept_size(&self) -> Option<usize>
         ensures { result ≡ kept_length (kept_in self.now.levels) }
     {
         if self.levels.is_empty() {
@@ -300,17 +341,14 @@ impl Sheet {
 
     // n bytes more.
     pub fn longer(&mut self, n: usize)
-        requires { n ≤ FULL + HEAD }
         ensures { self.new ≡ M.with_total self.old self.old.seen n }
     {
         self.total = added(self.total, n);
     }
 
     // One record more of a group, and n bytes.
-    fn counted(&mut self, group: usize, n: usize)
-        requires group_bound { group < K.groups }
-        requires seen_bound { FULL ≤ self.old.total → get_or self.old.seen group 0 ≤ FULL }
-        requires n_bound { (0 < n) × (n ≤ FULL + HEAD) }
+    pub fn counted(&mut self, group: usize, n: usize)
+        requires { (group < K.groups) × (get_or self.old.seen group 0 ≤ FULL) }
         ensures { self.new ≡ M.with_total self.old (more self.old.seen group 1) n }
     {
         let total = self.total;
@@ -320,9 +358,9 @@ impl Sheet {
 
     // One action more, at a line, in the innermost block.
     #[tactic(auto, unfolding(text_machine::specs::Sheet::counts))]
-    fn counts(&mut self, line: usize, size: usize)
-        requires { (self.old.total < FULL) × (size ≤ FULL) }
-        ensures { (kind : ℕ) (bs : List ℕ) → self.new ≡ M.counts (entry line kind size bs) self.old }
+    pub fn counts(&mut self, line: usize, size: usize)
+        requires { (get_or self.old.seen K.ACTION 0 ≤ FULL) × (size ≤ FULL) }
+        ensures { Counts line size self.old self.new }
     {
         let block = self.innermost();
         self.counted(ACTION, HEAD + size);
@@ -336,7 +374,7 @@ impl Sheet {
 
     // A record, if there is room for it.
     #[tactic(auto, unfolding(text_machine::specs::Sheet::declaring))]
-    fn declaring(&mut self, kind: u32, body: &[u8])
+    pub fn declaring(&mut self, kind: u32, body: &[u8])
         requires { (kind < Byte.TWO) × (length body.now ≤ ROOM) }
         ensures { self.new ≡ M.declaring (headed kind body.now) self.old }
     {
@@ -350,7 +388,7 @@ impl Sheet {
     // A declaration but that of a class.
     #[tactic(auto, unfolding(text_machine::specs::Sheet::declares))]
     pub fn declares(&mut self, kind: u32, body: &[u8])
-        requires { (self.old.total < FULL) × (kind < K.ACTION) × (length body.now ≤ ROOM) }
+        requires { (get_or self.old.seen kind 0 ≤ FULL) × (kind < K.ACTION) × (length body.now ≤ ROOM) }
         ensures { self.new ≡ M.declares (entry 0 kind (length body.now) body.now) self.old }
     {
         self.counted(kind as usize, HEAD + body.len());
@@ -359,8 +397,7 @@ impl Sheet {
 
     // A class is noted, whose body block's number stands there, if there is room for it.
     #[tactic(auto, unfolding(crate::specs::Numbers::class_noted))]
-    fn noted(&mut self, at: usize, line: usize)
-        requires { self.old.full ≡ false → at + 2 ≤ length self.old.declared }
+    pub fn noted(&mut self, at: usize, line: usize)
         ensures { self.new ≡ class_noted at line self.old }
     {
         let next = self.classes.len();
@@ -374,7 +411,7 @@ impl Sheet {
 
     // A class, at a line, with its body block.
     pub fn classes(&mut self, line: usize, block: u32)
-        requires { (self.old.total < FULL) × (block < Byte.TWO) }
+        requires { (get_or self.old.seen K.CLASS 0 ≤ FULL) × (block < Byte.TWO) }
         ensures { self.new ≡ M.classes line block self.old }
     {
         let at = self.declared.len() + HEAD;
@@ -387,7 +424,7 @@ impl Sheet {
     #[tactic(auto, unfolding(text_machine::specs::Sheet::bodied))]
     pub fn bodied(&mut self, class: usize, block: u32)
         requires class_bound { (class < length self.old.class_at) × (block < Byte.TWO) }
-        requires full { self.old.full ≡ true → get_or self.old.class_at class 0 + 2 ≤ length self.old.declared }
+        requires place { get_or self.old.class_at class 0 + 2 ≤ length self.old.declared }
         ensures { self.new ≡ M.bodied class block self.old }
     {
         let at = self.classes[class].at;
@@ -400,16 +437,15 @@ impl Sheet {
 
     // A record goes into the innermost block, if there is room for it.
     #[tactic(auto, unfolding(text_machine::specs::Sheet::stands))]
-    fn stands(&mut self, kind: u32, body: &[u8])
+    pub fn stands(&mut self, kind: u32, body: &[u8])
         requires { (kind < Byte.TWO) × (length body.now ≤ ROOM) }
         ensures { self.new ≡ M.stands kind body.now self.old }
     {
-        let end = self.stage.len() + (HEAD + body.len());
-        let crowded = (limit::ACTIONS <= self.pieces.len()) | (limit::FILE < end);
-        if crowded {
+        if self.crowded(HEAD + body.len()) {
             self.full = true;
             return;
         }
+        let end = self.stage.len() + (HEAD + body.len());
         let block = self.innermost();
         append(&mut self.stage, kind, body);
         self.pieces.push(Piece { block, end });
@@ -418,7 +454,7 @@ impl Sheet {
     // An action.
     #[tactic(auto, unfolding(text_machine::specs::Sheet::acts))]
     pub fn acts(&mut self, line: usize, kind: u32, body: &[u8])
-        requires { (self.old.total < FULL) × (kind < Byte.TWO) × (length body.now ≤ ROOM) }
+        requires { (get_or self.old.seen K.ACTION 0 ≤ FULL) × (kind < Byte.TWO) × (length body.now ≤ ROOM) }
         ensures { self.new ≡ M.acts (entry line kind (length body.now) body.now) self.old }
     {
         self.counts(line, body.len());
@@ -463,9 +499,9 @@ impl Sheet {
     }
 
     // A branch of a try is counted: the first one, or one more of a try that goes on.
-    fn branches(&mut self, line: usize, size: usize)
-        requires { (self.old.total < FULL) × (size ≤ FULL) }
-        ensures { (bs : List ℕ) → self.new ≡ M.branches (entry line K.TRY size bs) (kept_in self.old.levels) self.old }
+    pub fn branches(&mut self, line: usize, size: usize)
+        requires { (get_or self.old.seen K.ACTION 0 ≤ FULL) × (size ≤ FULL) }
+        ensures { Branches line size self.old self.new }
     {
         let kept = self.kept_size();
         match kept {
@@ -491,7 +527,7 @@ impl Sheet {
     // A branch of a try.
     #[tactic(auto, unfolding(text_machine::specs::Sheet::tries))]
     fn tries(&mut self, line: usize, body: &[u8])
-        requires { (self.old.total < FULL) × (length body.now ≤ ROOM) }
+        requires { (get_or self.old.seen K.ACTION 0 ≤ FULL) × (length body.now ≤ ROOM) }
         ensures { self.new ≡ M.tries (entry line K.TRY (length body.now) body.now) self.old }
     {
         self.branches(line, body.len());
@@ -501,13 +537,11 @@ impl Sheet {
     // A brace is opened by an action: a do, a while or a try.
     #[tactic(auto, unfolding(text_machine::specs::Sheet::opens))]
     pub fn opens(&mut self, line: usize, kind: u32, body: &[u8])
-        requires open { (self.old.total < FULL) × (length self.old.levels ≤ No.deepest) }
+        requires seen { (get_or self.old.seen K.ACTION 0 ≤ FULL) × (get_or self.old.seen K.BLOCK 0 ≤ FULL) }
+        requires deep { length self.old.levels ≤ No.deepest }
         requires kind_bound { (kind < Byte.TWO) × (length body.now ≤ ROOM) }
         ensures { self.new ≡ M.opens (entry line kind (length body.now) body.now) self.old }
     {
-        // Read for the proof alone (without it that of `braces` doesn't close): it brings the invariant, that while bytes are counted
-        // no group has more records than they are.
-        let _ = &self.total;
         let is_try = kind == kind::TRY;
         if is_try {
             self.tries(line, body);

@@ -6,9 +6,10 @@ use Rattle.semantics.specs.Kinds as K
 use Rattle.text_semantics.specs.Token as T
 use Rattle.text_machine.specs.Sheet as M
 use Rattle.text_machine.specs.Sheet.{Sheet}
-use Rattle.text_reader.specs.Sheets.{is_class, class_of}
+use Rattle.text_sheet.specs.Fit.{fit_classes, fit_braces}
+use Rattle.text_reader.specs.Sheets.{is_class, class_of, few_seen}
 use Rattle.text_reader.proofs.Troubles.{no_mark}
-use Rattle.text_reader.proofs.Cuts.{classes_levels, classes_blocks, bodied_same, braces_short, short_class, steps_by}
+use Rattle.text_reader.proofs.Cuts.{classes_levels, classes_blocks, bodied_same, braces_short, short_class, fit_class, steps_by}
 use Rattle.text_reader.proofs.body.Goals as goal
 use Rattle.text_reader.proofs.body.Goals.{in-Some, in-None}
 
@@ -17,26 +18,25 @@ returns-then-kind-eq-SEMI c = λ d v x e.
     let z = c.args.sheet.now in
     rw c.if-kind-eq-SEMI.true
     (steps_by d c.within_limits.result c.classes.ensures (c.within_limits.ensures.limits d e) refl
-    c.within_limits.ensures.small (rw (classes_levels c.args.line _ z) c.requires.sound.short))
+    c.within_limits.ensures.small (rw (classes_levels c.args.line _ z) c.requires.sound.short)
+    (fit_classes c.args.line _ c.requires.sound.fit))
 
 pub braces-requires : goal.braces-requires
 braces-requires c =
     let z = c.args.sheet.now in
-    let total : c.sheet.inside.total ≡ z.total = ap (λ y. y.total) c.sheet.view_is in
-    let seen : get_or c.sheet.inside.seen K.BLOCK 0 ≡ M.blocks_of z = ap M.blocks_of c.sheet.view_is in
-    let few = c.sheet.invariant.few (omega (arith, total, c.requires.sound.roomy)) K.BLOCK in
+    let few = few_seen c.requires.sound K.BLOCK in
     let flat = c.requires.titled.flat in
     elim c.match-class.branch [
       | in-Some w ↦ let s = bodied_same w.in-Some.class (get_or c.sheet.inside.seen K.BLOCK 0) z in
           let e = w.sheet-is ∙ w.bodied.ensures in
           let b = ap M.blocks_of e ∙ s.1 in
           let l = ap (λ (y : Sheet). length y.levels) e ∙ ap length s.0 in
-          (omega (arith, b, seen, few, total, c.requires.sound.roomy), omega (arith, l, flat))
+          (omega (arith, b, few), omega (arith, l, flat))
       | in-None w ↦ let e = w.sheet-is ∙ w.classes-in-None.ensures in
           let b = ap M.blocks_of e ∙ classes_blocks c.args.line (get_or c.sheet.inside.seen K.BLOCK 0) z in
           let l = ap (λ (y : Sheet). length y.levels) e
           ∙ ap length (classes_levels c.args.line (get_or c.sheet.inside.seen K.BLOCK 0) z) in
-          (omega (arith, b, seen, few, total, c.requires.sound.roomy), omega (arith, l, flat))
+          (omega (arith, b, few), omega (arith, l, flat))
     ]
 
 pub returns : goal.returns
@@ -53,4 +53,5 @@ returns c = λ d v x e.
     rw (no_mark c.args.kind v x T.SEMI c.if-kind-eq-SEMI.false (λ q. omega (arith, q)))
     (steps_by d c.within_limits-2.result (c.braces.ensures ∙ ap M.braces made) (c.within_limits-2.ensures.limits d e) refl
     c.within_limits-2.ensures.small
-    (braces_short _ (short_class (is_class k) (class_of k) line (M.blocks_of z) z c.requires.sound.short)))
+    (braces_short _ (short_class (is_class k) (class_of k) line (M.blocks_of z) z c.requires.sound.short))
+    (fit_braces (fit_class (is_class k) (class_of k) line (M.blocks_of z) z c.requires.sound.fit)))

@@ -4,6 +4,7 @@ use Rattle.std.proofs.Common.{sym, ◌∙◌, ap}
 use Rattle.semantics.specs.Numbers as F
 use Rattle.text_machine.specs.Machine.{over_limit}
 use Rattle.text_machine.specs.Sheet.{opens}
+use Rattle.text_sheet.specs.Fit.{fit_opens}
 use Rattle.text_reader.proofs.Cuts.{faulty_opens, opens_by, opens_short, steps_by}
 use Rattle.text_reader.proofs.brace.Goals as goal
 
@@ -34,3 +35,4 @@ returns c =
     c.opens.ensures ∙ rw (c.body.ensures.value, kind, line) (opens_by d z size) in
     steps_by d c.within_limits.result made (c.within_limits.ensures.limits d (sym line)) c.if-faulty.ensures.value
     c.within_limits.ensures.small (opens_short d z (rw c.body.ensures.value at c.body.ensures.bound) c.requires.short)
+    (fit_opens d c.requires.fit)

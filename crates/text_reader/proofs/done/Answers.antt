@@ -4,7 +4,7 @@ use Rattle.std.proofs.Common.{sym, ◌∙◌, ap}
 use Rattle.semantics.specs.Numbers as F
 use Rattle.text_machine.specs.Machine.{done, over_limit}
 use Rattle.text_machine.specs.Sheet.{added, Sheet}
-use Rattle.text_reader.proofs.Cuts.{faulty_done, done_declares, done_acts, done_short, steps_by}
+use Rattle.text_reader.proofs.Cuts.{faulty_done, done_declares, done_acts, done_short, done_fit, steps_by}
 use Rattle.text_reader.proofs.done.Goals as goal
 use Rattle.text_reader.proofs.done.Goals.{then-draft-lt-ACTION, else-draft-lt-ACTION}
 
@@ -39,4 +39,4 @@ returns c =
           (done_acts d z size (rw kind at w.if-draft-lt-ACTION.false))
     ] in
     steps_by d c.within_limits.result made (c.within_limits.ensures.limits d (sym line)) c.if-faulty.ensures.value
-    c.within_limits.ensures.small (done_short d z c.requires.short)
+    c.within_limits.ensures.small (done_short d z c.requires.short) (done_fit d z c.requires.fit)

@@ -3,6 +3,7 @@ use Rattle.std.specs.Prelude.{ℕ, ◌≡◌, ◌<◌, List, length}
 use Rattle.std.proofs.Common.{sym, ◌∙◌, ap}
 use Rattle.std.proofs.Math.Path.{refl}
 use Rattle.std.proofs.Math.Option.{none}
+use Rattle.semantics.specs.Kinds as K
 use Rattle.text_semantics.specs.Names.{trouble}
 use Rattle.text_semantics.specs.Meaning.{number_of}
 use Rattle.text_machine.specs.Entry.{Draft}
@@ -18,7 +19,7 @@ use Rattle.text_reader.specs.Sorts as Sort
 use Rattle.text_reader.specs.Sorts.{event_by, sheet_by, calls_by}
 use Rattle.text_reader.specs.Named.{sort_number}
 use Rattle.text_reader.specs.Cut.{cut_of}
-use Rattle.text_reader.specs.Sheets.{is_class, class_of}
+use Rattle.text_reader.specs.Sheets.{is_class, class_of, few_seen}
 use Rattle.text_reader.specs.Shown.{reader_of}
 use Rattle.text_reader.specs.Turn.{turned_same, within_text, placed_of}
 use Rattle.text_reader.proofs.Before.{top_shown, ready_distinct, ready_number, ready_fits, ready_name, ready_titled}
@@ -72,7 +73,7 @@ returns-in-Err c =
 pub draft_after-requires-clause-small : goal.draft_after-requires-clause-small
 draft_after-requires-clause-small c =
     let m = c.args.self.now in
-    (c.requires.ready.sheet.roomy, rw (c.in-Ok.ensures c.args.token.value).named.number (ready_number m c.requires.ready _))
+    (few_seen c.requires.ready.sheet K.BLOCK, rw (c.in-Ok.ensures c.args.token.value).named.number (ready_number m c.requires.ready _))
 
 pub draft_after-requires-clause-fits : goal.draft_after-requires-clause-fits
 draft_after-requires-clause-fits c =

@@ -1,23 +1,14 @@
 -- `text_sheet::Sheet::classes` meets its contract. Assumes nothing.
 use Rattle.std.specs.Prelude.{◌+◌, ◌/◌, ◌%◌, ◌≡◌, [], ◌∷◌, length}
-use Rattle.std.proofs.Common.{arith, sym, ap, ◌∙◌}
+use Rattle.std.proofs.Common.{arith, ap, ◌∙◌}
 use Rattle.semantics.specs.Kinds as K
 use Rattle.semantics.specs.Words.{more}
 use Rattle.text_semantics.specs.Written.{two}
 use Rattle.text_machine.specs.Sheet as M
 use Rattle.text_machine.specs.Sheet.{headed}
 use Rattle.text_sheet.specs.Numbers.{class_noted}
-use Rattle.text_sheet.proofs.Steps.{classes_swap, declared_room}
+use Rattle.text_sheet.proofs.Steps.{classes_swap}
 use Rattle.text_sheet.proofs.Sheet.classes.Goals as goal
-
-pub noted-requires : goal.noted-requires
-noted-requires c f = let a = c.args in
-    let e = c.declaring.ensures in
-    let bs = headed K.CLASS c.to_le_bytes.result in
-    let l : length c.to_le_bytes.result ≡ 2 = ap length c.to_le_bytes.ensures in
-    let n = c.len-at.ensures.value ∙ ap (λ x. length x.declared) c.self.view_is in
-    let r = declared_room bs a.line c.counted.new.self (sym (ap (λ x. x.full) e) ∙ f) in
-    omega (arith, n, l, r, ap (λ x. length x.declared) e, ap (λ x. length x.declared) c.counted.ensures)
 
 pub returns : goal.returns
 unfolding M.classes

@@ -1,27 +1,28 @@
 -- `text_sheet::Sheet::stands` meets its contract. Assumes nothing.
-use Rattle.std.specs.Prelude.{◌+◌, ◌≡◌, ◌||◌, true, false, [], ◌∷◌, ◌++◌, length, leb, ltb}
+use Rattle.std.specs.Prelude.{◌+◌, ◌<◌, ◌≡◌, true, false, [], ◌∷◌, ◌++◌, length}
 use Rattle.std.proofs.Common.{arith, sym, ap, ◌∙◌, length-append}
 use Rattle.semantics.specs.Numbers as No
 use Rattle.text_machine.specs.Sheet as M
 use Rattle.text_machine.specs.Sheet.{headed}
+use Rattle.text_sheet.specs.Numbers.{crowded}
 use Rattle.text_sheet.specs.Pieces.{pieces_length, laid_pushed, pieces_pushed}
 use Rattle.text_sheet.specs.Shown.{sheet_of}
-use Rattle.text_sheet.proofs.Steps.{crowded, stands_full, stands_room}
+use Rattle.text_sheet.proofs.Steps.{has_room, stands_full, stands_room}
 use Rattle.text_sheet.proofs.Sheet.stands.Goals as goal
 
 pub returns-then-crowded : goal.returns-then-crowded
 returns-then-crowded c = let a = c.args in
-    let i = c.self.inside in
-    let bs = headed a.kind a.body.now in
-    let k = length bs in
+    let s = a.self.now in
+    let k = length (headed a.kind a.body.now) in
     let four : k ≡ 4 + length a.body.now = omega arith in
-    let e : crowded k (sheet_of i) ≡ true =
-    ap (λ n. leb No.most_actions n || ltb No.longest_file (length i.stage.items + k))
-    (pieces_length i.stage.items 0 i.pieces.items ∙ sym c.len-2.ensures.value)
-    ∙ ap (λ n. leb No.most_actions c.len-2.result || ltb No.longest_file (n + k)) (sym c.len.ensures.value)
-    ∙ ap (λ n. leb No.most_actions c.len-2.result || ltb No.longest_file (c.len.result + n)) four
-    ∙ c.if-crowded.true in
-    stands_full a.kind a.body.now (sheet_of i) e ∙ ap (M.stands a.kind a.body.now) c.self.view_is
+    let e : crowded k s ≡ true = ap (λ n. crowded n s) four ∙ sym c.crowded.ensures ∙ c.if-crowded.true in
+    ap M.filled c.self.view_is ∙ stands_full a.kind a.body.now s e
+
+pub push-requires : goal.push-requires
+push-requires c = let a = c.args in
+    let i = c.self.inside in
+    let room = has_room (4 + length a.body.now) a.self.now (sym c.crowded.ensures ∙ c.if-crowded.false) in
+    omega (arith, room, pieces_length i.stage.items 0 i.pieces.items, ap (λ x. length x.pieces) c.self.view_is)
 
 pub invariant_of-self-2 : goal.invariant_of-self-2
 invariant_of-self-2 c = let a = c.args in
@@ -30,11 +31,8 @@ invariant_of-self-2 c = let a = c.args in
     let bs = headed a.kind a.body.now in
     let four : 4 + length a.body.now ≡ length bs = omega arith in
     record {
-      bytes = h.bytes;
-      few = h.few;
       laid = laid_pushed i.stage.items bs i.pieces.items c.innermost-block.result _ h.laid
           (ap (λ n. c.len.result + n) four ∙ ap (λ n. n + length bs) c.len.ensures.value) c.append.ensures c.push.ensures.items;
-      placed = h.placed;
     }
 
 pub returns : goal.returns
@@ -45,11 +43,7 @@ returns c = let a = c.args in
     let k = length bs in
     let four : k ≡ 4 + length a.body.now = omega arith in
     let e : crowded k z ≡ false =
-    ap (λ n. leb No.most_actions n || ltb No.longest_file (length i.stage.items + k))
-    (pieces_length i.stage.items 0 i.pieces.items ∙ sym c.len-2.ensures.value)
-    ∙ ap (λ n. leb No.most_actions c.len-2.result || ltb No.longest_file (n + k)) (sym c.len.ensures.value)
-    ∙ ap (λ n. leb No.most_actions c.len-2.result || ltb No.longest_file (c.len.result + n)) four
-    ∙ c.if-crowded.false in
+    ap (crowded k) c.self.view_is ∙ ap (λ n. crowded n a.self.now) four ∙ sym c.crowded.ensures ∙ c.if-crowded.false in
     let b = c.innermost-block.ensures ∙ sym (ap (λ x. M.innermost x.levels) c.self.view_is) in
     let ps = pieces_pushed i.stage.items bs i.pieces.items c.innermost-block.result _ c.self.invariant.laid
     (ap (λ n. c.len.result + n) (sym four) ∙ ap (λ n. n + length bs) c.len.ensures.value) c.append.ensures c.push.ensures.items in
