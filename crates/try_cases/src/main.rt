@@ -16,6 +16,9 @@ const FILE: usize = 131072;
 
 const MODEL: usize = 70000;
 
+// Room for the lines that are not written yet: they are written once they are half of it or more.
+const LINES: usize = 4096;
+
 // ---- a case's bytes
 
 // Puts one run, which the file begins with, behind the model, and answers what the file has behind it. None: the file ends
@@ -68,8 +71,12 @@ fn answer<W: Write>(n: u32, model: &[u8], writer: &mut W) -> io::Result<()> {
 
 // ---- all cases
 
-// Writes the line of each case, and answers whether the cases are as they should be.
-fn answer_all<W: Write>(file: &[u8], writer: &mut W) -> io::Result<bool> {
+// Writes the line of each case, and answers whether the cases are as they should be. `lines` has those that are not written yet.
+fn answer_all<W: Write>(
+    file: &[u8],
+    lines: &mut ArrayVec<u8, LINES>,
+    writer: &mut W,
+) -> io::Result<bool> {
     let mut model = ArrayVec::<u8, MODEL>::new();
     let Some((head, mut rest)) = file.split_at_checked(2) else {
         return Ok(false);
@@ -79,14 +86,21 @@ fn answer_all<W: Write>(file: &[u8], writer: &mut W) -> io::Result<bool> {
             return Ok(false);
         };
         rest = behind;
-        answer(n, &model, writer)?;
+        answer(n, &model, lines)?;
+        if LINES / 2 <= lines.len() {
+            writer.write_all(lines.as_slice())?;
+            lines.clear();
+        }
     }
     Ok(rest.is_empty())
 }
 
 // Writes the line of each case, and `damaged` where the cases are not as they should be.
 fn write_answers<W: Write>(file: &[u8], writer: &mut W) -> io::Result<()> {
-    if !answer_all(file, writer)? {
+    let mut lines = ArrayVec::new();
+    let whole = answer_all(file, &mut lines, writer)?;
+    writer.write_all(lines.as_slice())?;
+    if !whole {
         writer.write_all(b"damaged\n")?;
     }
     Ok(())

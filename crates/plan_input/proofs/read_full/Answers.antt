@@ -2,7 +2,7 @@
 use Rattle.std.proofs.Common.{◌≡◌, ℕ, ◌+◌, ◌-◌, ◌≤◌, List, ◌++◌, rules, arith, length, take, slice_range, sym, ap, ◌∙◌, subst, le_refl, drop_at, length-take-le}
 use Rattle.std.proofs.lemmas.Slice.{take-put_mid_below}
 use Rattle.std.specs.Io.KnownBytes.{Consumes}
-use Rattle.std.proofs.KnownBytes.{Consumes-trans}
+use Rattle.std.proofs.KnownBytes.{Consumes-trans, Consumes-kept}
 use borrow.Rule.Slice.PartMut.{put_mid, post_of}
 use lib.Seq.{take-add, take-append-le}
 use Rattle.plan_input.proofs.read_full.Goals as goal
@@ -23,6 +23,10 @@ loop-size-preserved g c =
     let from = c.loop-size.size in
     let room = length c.loop-size.room - from in
     let within = c.loop-size.invariant.0 in
-    let part = slice_range-put_mid from room c.in_ok-n.n c.loop-size.room c.read.new.buf within c.in_ok-n.ensures.bound.0 in
-    let joined = take_split from (from + c.in_ok-n.n) c.loop-size.room (put_mid from room c.loop-size.room c.read.new.buf) (omega arith) (take-put_mid_below _ _ _ _ _ (le_refl _) within) in
-    (search rules, search rules, subst (Consumes _ _) (ap (λ l. take from c.loop-size.room ++ l) (sym part) ∙ joined) (Consumes-trans _ _ _ _ _ c.loop-size.invariant.2 c.in_ok-n.ensures.bytes.0))
+    let part = slice_range-put_mid from room c.in-Ok.n c.loop-size.room c.read.new.buf within c.in-Ok.ensures.bound.0 in
+    let joined = take_split from (from + c.in-Ok.n) c.loop-size.room (put_mid from room c.loop-size.room c.read.new.buf) (omega arith) (take-put_mid_below _ _ _ _ _ (le_refl _) within) in
+    (search rules, search rules, subst (Consumes _ _) (ap (λ l. take from c.loop-size.room ++ l) (sym part) ∙ joined) (Consumes-trans _ _ _ _ _ c.loop-size.invariant.2 c.in-Ok.ensures.bytes.0))
+
+pub returns-in-Err-clause-lost : goal.returns-in-Err-clause-lost
+returns-in-Err-clause-lost g c =
+    (take c.loop-size.size c.loop-size.room, omega (arith, length-take-le c.loop-size.size c.loop-size.room c.loop-size.invariant.0), Consumes-kept _ _ _ _ c.loop-size.invariant.2 c.in-Err.ensures.bytes)
