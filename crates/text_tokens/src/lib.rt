@@ -73,7 +73,8 @@ fn commented(comment: bool, b: u8) -> bool
     if comment { !is_break(b) } else { b == b'#' }
 }
 
-// Where the next token begins.
+// Where the next token begins. It stays a function of its own: in a caller with much at hand a byte of a comment takes longer.
+#[inline(never)]
 fn begin(text: &[u8], at: usize) -> usize
     requires { at ≤ length text.now }
     ensures { Begins text.now at result }
