@@ -537,8 +537,7 @@ impl Sheet {
     // A brace is opened by an action: a do, a while or a try.
     #[tactic(auto, unfolding(text_machine::specs::Sheet::opens))]
     pub fn opens(&mut self, line: usize, kind: u32, body: &[u8])
-        requires seen { (get_or self.old.seen K.ACTION 0 ≤ FULL) × (get_or self.old.seen K.BLOCK 0 ≤ FULL) }
-        requires deep { length self.old.levels ≤ No.deepest }
+        requires open { (get_or self.old.seen K.ACTION 0 ≤ FULL) × (get_or self.old.seen K.BLOCK 0 ≤ FULL) × (length self.old.levels ≤ No.deepest) }
         requires kind_bound { (kind < Byte.TWO) × (length body.now ≤ ROOM) }
         ensures { self.new ≡ M.opens (entry line kind (length body.now) body.now) self.old }
     {

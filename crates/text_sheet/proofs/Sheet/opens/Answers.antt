@@ -13,8 +13,8 @@ braces-requires c = let a = c.args in
     elim c.if-is_try.branch [
       | then-is_try w ↦
           opens_fits s (w.self-is ∙ w.tries.ensures) (tries_blocks (entry a.line K.TRY (length a.body.now) a.body.now) s)
-          c.requires.seen.1 c.requires.deep
+          c.requires.open.1 c.requires.open.2
       | else-is_try w ↦
           let k = acts_blocks (entry a.line a.kind (length a.body.now) a.body.now) s in
-          opens_fits s (w.self-is ∙ w.acts.ensures) (k.0, ap length k.1) c.requires.seen.1 c.requires.deep
+          opens_fits s (w.self-is ∙ w.acts.ensures) (k.0, ap length k.1) c.requires.open.1 c.requires.open.2
     ]
