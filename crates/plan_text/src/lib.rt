@@ -57,8 +57,8 @@ pub fn lines<const N: usize>(journal: &[u8], n: usize, text: &mut ArrayString<N>
     ensures { text.new.bytes ≡ lines_text (tells_in journal.now n) }
 {
     text.clear();
-    for bytes in journal.chunks_exact(line::BYTES).take(n) {
-        push_line(text, bytes);
+    for k in 0..n {
+        push_line(text, &journal[line::BYTES * k..]);
     }
 }
 
