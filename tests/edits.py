@@ -87,11 +87,12 @@ def crates():
     return [line.split(':')[0].split()[0] for line in lines if line and line[0] != '#']
 
 
-def uses(body, name):
-    """Whether a body calls a function of its crate, or names a constant of it. A method goes by its name, whatever it is called on."""
+def uses(body, name, module):
+    """Whether a body, which stands in this module, calls a function of its crate, or names a constant of it. A method goes by its
+    name, whatever it is called on."""
     holder, _, name = name.rpartition('::')
     holder = holder.rpartition('::')[2]
-    before = rf'(?:\.|\bSelf::|\b{holder}::)' if holder else r'(?<![:.\w])'
+    before = rf'(?:\.|\bSelf::|\b{holder}::)' if holder not in ('', module) else r'(?<![:.\w])'
     return re.search(before + name + (r'\b' if name.isupper() else r'(?:::<.*?>)?\('), body)
 
 
@@ -102,10 +103,11 @@ class Source:
         folder = ROOT / 'crates' / crate
         self.file = PROGRAM if (folder / PROGRAM).exists() else SOURCE
         self.texts = {str(path.relative_to(folder)): path.read_text() for path in sorted((folder / 'src').glob('*.rt'))}
-        self.items, self.public, self.constants, self.cycles, self.bodies = [], set(), set(), {}, {}
+        self.items, self.public, self.constants, self.cycles, self.bodies, self.modules = [], set(), set(), {}, {}, {}
         for file in sorted(self.texts, key=lambda file: (file != self.file, file)):
             self.read(file, self.texts[file])
-        self.names = {name: {other for other in self.bodies if other != name and uses(re.sub(r'//.*', '', body), other)}
+        self.names = {name: {other for other in self.bodies
+                             if other != name and uses(re.sub(r'//.*', '', body), other, self.modules[name])}
                       for name, body in self.bodies.items()}
 
     def read(self, file, text):
@@ -116,6 +118,7 @@ class Source:
             name = '::'.join(module + [holder for start, stop, holder in holders if start < m.start() < stop] + [m[4]])
             self.items.append((file, m.start(), name))
             self.bodies[name] = text[m.start():end]
+            self.modules[name] = ''.join(module)
             if m[2]:
                 self.public.add(name)
             if m[3] == 'const':

@@ -17,6 +17,8 @@ use file_bound::Bounded;
 use itoa::Integer;
 use run_limit::Answer;
 
+pub mod slice;
+
 // The bytes of the last line and of a refusal, at most.
 pub const ENDING: usize = 45;
 
