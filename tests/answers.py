@@ -51,7 +51,8 @@ def contracts():
         for m in HEAD.finditer(text):
             within = [(trait, holder) for start, end, trait, holder in holders if start < m.start() < end]
             if m[2] or any(trait for trait, _ in within):
-                name = '::'.join([path.relative_to(ROOT).parts[1]] + [holder for _, holder in within] + [m[3]])
+                module = [] if within or path.name in ('lib.rt', 'main.rt') else [path.stem]
+                name = '::'.join([path.relative_to(ROOT).parts[1]] + module + [holder for _, holder in within] + [m[3]])
                 yield name, Contract(m[4])
 
 

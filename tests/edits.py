@@ -88,12 +88,12 @@ def crates():
     return [line.split(':')[0].split()[0] for line in lines if line and line[0] != '#']
 
 
-def uses(body, name):
-    """Whether a body calls a function of its crate, or names a constant of it. A method goes by its name, whatever it is called on;
-    a type parameter has one letter."""
+def uses(body, name, module):
+    """Whether a body, which stands in this module, calls a function of its crate, or names a constant of it. A method goes by its
+    name, whatever it is called on; a type parameter has one letter."""
     holder, _, name = name.rpartition('::')
     holder = holder.rpartition('::')[2]
-    before = rf'(?:\.|\b(?:Self|[A-Z]|{holder})::)' if holder else r'(?<![:.\w])'
+    before = rf'(?:\.|\b(?:Self|[A-Z]|{holder})::)' if holder not in ('', module) else r'(?<![:.\w])'
     return re.search(before + name + (r'\b' if name.isupper() else r'(?:::<.*?>)?\('), body)
 
 
@@ -104,10 +104,12 @@ class Source:
         folder = ROOT / 'crates' / crate
         self.file = PROGRAM if (folder / PROGRAM).exists() else SOURCE
         self.texts = {str(path.relative_to(folder)): path.read_text() for path in sorted((folder / 'src').glob('*.rt'))}
-        self.items, self.public, self.constants, self.cycles, self.bodies, self.impls = [], set(), set(), {}, {}, []
+        self.items, self.public, self.constants, self.cycles, self.bodies = [], set(), set(), {}, {}
+        self.impls, self.modules = [], {}
         for file in sorted(self.texts, key=lambda file: (file != self.file, file)):
             self.read(file, self.texts[file])
-        self.names = {name: {other for other in self.bodies if other != name and uses(re.sub(r'//.*', '', body), other)}
+        self.names = {name: {other for other in self.bodies
+                             if other != name and uses(re.sub(r'//.*', '', body), other, self.modules[name])}
                       for name, body in self.bodies.items()}
         for method, name in self.impls:
             self.names.get(method, set()).add(name)
@@ -122,6 +124,7 @@ class Source:
             self.items.append((file, m.start(), name))
             self.bodies[name] = text[m.start():end]
             self.impls += [('::'.join(module + [trait, m[4]]), name) for trait, _, _ in held if trait]
+            self.modules[name] = ''.join(module)
             if m[2] or any(public for _, public, _ in held):
                 self.public.add(name)
             if m[3] == 'const':

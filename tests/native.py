@@ -132,7 +132,7 @@ def whole(path):
     """The source of a crate, with each other file of it in place of the line that names it."""
     def file_of(line):
         text = (path.parent / (line[2] + '.rt')).read_text()
-        return '%smod %s {\n%s\n}\n' % (line[1] or '', line[2], text)
+        return '%smod %s {\nuse super::*;\n%s\n}\n' % (line[1] or '', line[2], text)
     return re.sub(r'(?m)^(pub )?mod (\w+);\n', file_of, path.read_text())
 
 

@@ -3,7 +3,7 @@ use Rattle.std.specs.Prelude.{◌≡◌, [], List, ◌++◌, ℕ, ◌^◌, ◌<�
 use Rattle.std.specs.Fmt.{decimal as library_decimal}
 use Rattle.std.proofs.Common.{sym, ◌∙◌, ap, append_assoc}
 use Rattle.semantics.specs.Run.{Answer, FAULT}
-use Rattle.semantics.specs.Bound.{Bounded, AT}
+use Rattle.semantics.specs.Bound.{Bounded, NONE, AT}
 use Rattle.plan_text.specs.Text.{ascii, decimal, answer_text, bound_text, end_text, refused_text}
 use Rattle.plan_text.proofs.Decimals.{same_decimal}
 use Rattle.plan_text.proofs.Fields.{put_on}
@@ -16,6 +16,12 @@ pub fault_put : (a : List ℕ) (n : ℕ) {b c : List ℕ} → n < 2 ^ 64 → b �
     → c ≡ b ++ (library_decimal n ++ ascii " ") → c ≡ a ++ (answer_text (FAULT n) ++ ascii " ")
 fault_put a n h word number =
     put_on a _ _ word number ∙ ap (λ l. a ++ l) (rw (sym (same_decimal n h)) (fault_parts n))
+
+-- THE BOUND, by its word or its number.
+pub bound_none : (a : List ℕ) {b : List ℕ} {n : Bounded} → n ≡ NONE → b ≡ a ++ ascii "none\n"
+    → b ≡ a ++ (bound_text n ++ ascii "\n")
+unfolding bound_text
+bound_none a e word = rw e word
 
 pub number_put : (a : List ℕ) (n : ℕ) {b : List ℕ} → n < 2 ^ 64 → b ≡ a ++ (library_decimal n ++ ascii "\n")
     → b ≡ a ++ (bound_text (AT n) ++ ascii "\n")

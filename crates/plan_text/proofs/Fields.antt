@@ -1,15 +1,16 @@
--- A line is four numbers, each with a mark behind it; lines are read from the front of a journal, one by one. Assumes nothing.
-use Rattle.std.specs.Prelude.{◌≡◌, refl, List, ◌++◌, ℕ, zero, suc, ◌+◌, ◌*◌, ◌^◌, ◌≤◌, ◌<◌, ℤ, length}
+-- A line is four numbers, each with a mark behind it; lines are read one by one. Assumes nothing.
+use Rattle.std.specs.Prelude.{◌≡◌, refl, List, [], ◌∷◌, ◌++◌, ℕ, zero, suc, ◌+◌, ◌*◌, ◌^◌, ◌-◌, ◌<◌, ℤ, length, take, drop}
 use Rattle.std.specs.Fmt.{decimal as library_decimal, signed_decimal as library_signed}
 use Rattle.std.specs.Int.{cast_unsigned, cast_signed}
-use Rattle.std.proofs.Common.{sym, ◌∙◌, ap, append_assoc, append-nil, arith, length-append, drop_at}
-use Rattle.std.proofs.lemmas.List.{get_or_append_left}
+use Rattle.std.proofs.Common.{sym, ◌∙◌, ap, append_assoc, append-nil, arith}
+use Rattle.std.proofs.lemmas.List.{take_all, drop-drop, length-drop}
 use Rattle.std.proofs.lemmas.Int.{of_z-to_z}
 use mir.Syntax.{w32}
 use Rattle.semantics.specs.Bytes.{u16, u32, signed}
 use Rattle.base_numbers.specs.Line as Line
 use Rattle.plan_text.specs.Text.{ascii, decimal, signed_decimal, line_text, lines_text}
 use Rattle.plan_text.specs.Tells.{tell_in, tells_in}
+use Rattle.plan_text.specs.Laws.{lines_append}
 use Rattle.plan_text.proofs.Decimals.{same_decimal, same_signed}
 
 -- A text put behind what was put behind a.
@@ -40,44 +41,33 @@ line_put j a {t} {p} {k} {w} {v} te pe ke we ve tf pf kf wf put_t put_p put_k pu
     let told : line_text (t, p, k, signed w) ≡ line_text (tell_in j) = rw (te, pe, ke, we) refl in
     put_on a _ _ (put_on a _ _ (put_on a _ _ put_t put_p) put_k) put_w ∙ ap (λ l. a ++ l) (fields ∙ told)
 
--- A line is read from its own bytes.
-u16_front : (x r : List ℕ) (k : ℕ) → k + 2 ≤ length x → u16 (x ++ r) k ≡ u16 x k
-u16_front x r k h = rw (get_or_append_left x r 0 k (omega arith), get_or_append_left x r 0 (k + 1) (omega arith)) refl
+-- LINES of the front of a journal: one more is that which the rest begins with.
+last_line : (bs : List ℕ) (k : ℕ) → tells_in bs (suc k) ≡ tells_in bs k ++ tell_in (drop (Line.BYTES * k) bs) ∷ []
+unfolding tells_in
+last_line bs zero = refl
+last_line bs (suc k) =
+    let same : Line.BYTES + Line.BYTES * k ≡ Line.BYTES * suc k = omega arith in
+    ap (λ ts. tell_in bs ∷ ts) (last_line (drop Line.BYTES bs) k)
+    ∙ ap (λ b. tells_in bs (suc k) ++ tell_in b ∷ []) (drop-drop (Line.BYTES * k) Line.BYTES bs ∙ ap (λ n. drop n bs) same)
 
-u32_front : (x r : List ℕ) (k : ℕ) → k + 4 ≤ length x → u32 (x ++ r) k ≡ u32 x k
-u32_front x r k h = rw (u16_front x r k (omega arith), u16_front x r (k + 2) (omega arith)) refl
+-- What `&s[n..]` is.
+abbrev pub rest_of : List ℕ → ℕ → List ℕ
+rest_of bs n = take (length bs - n) (drop n bs)
 
-tell_front : (x r : List ℕ) → length x ≡ Line.BYTES → tell_in (x ++ r) ≡ tell_in x
-tell_front x r h =
-    rw (
-      u32_front x r Line.TIME_AT (omega arith),
-      u32_front x r Line.PROCESS_AT (omega arith),
-      u16_front x r Line.KIND_AT (omega arith),
-      u32_front x r Line.VALUE_AT (omega arith),
-    ) refl
+rest_is : (bs : List ℕ) (n : ℕ) → rest_of bs n ≡ drop n bs
+rest_is bs n = take_all (length bs - n) (drop n bs) (omega (arith, length-drop n bs))
 
--- One comes: of r, with n lines to come, it is x; r' is left, with m lines to come.
-module _ (r x r' : List ℕ) (n m : ℕ) (e : r ≡ x ++ r') (l : length x ≡ Line.BYTES) (o : m + 1 ≡ n) where
-  pub bytes_left : Line.BYTES * n ≤ length r → Line.BYTES * m ≤ length r'
-  bytes_left h = let a : length r ≡ length x + length r' = rw e (length-append x r') in omega arith
+pub one_more : (bs : List ℕ) (k : ℕ) {text more : List ℕ} → text ≡ lines_text (tells_in bs k)
+    → more ≡ text ++ line_text (tell_in (rest_of bs (Line.BYTES * k))) → more ≡ lines_text (tells_in bs (k + 1))
+unfolding lines_text
+one_more bs k {text} e f =
+    let last = tell_in (drop (Line.BYTES * k) bs) in
+    let next : suc k ≡ k + 1 = omega arith in
+    f ∙ ap (λ b. text ++ line_text (tell_in b)) (rest_is bs (Line.BYTES * k)) ∙ ap (λ l. l ++ line_text last) e
+    ∙ ap (λ l. lines_text (tells_in bs k) ++ l) (sym (append-nil (line_text last)))
+    ∙ sym (lines_append (tells_in bs k) (last ∷ [])) ∙ sym (ap lines_text (last_line bs k))
+    ∙ ap (λ n. lines_text (tells_in bs n)) next
 
-  comes : lines_text (tells_in r n) ≡ line_text (tell_in x) ++ lines_text (tells_in r' m)
-  unfolding lines_text tells_in
-  comes =
-      let i : n ≡ suc m = omega arith in
-      rw (i, e, tells_in, drop_at x r' Line.BYTES l) (ap (λ t. line_text t ++ lines_text (tells_in r' m)) (tell_front x r' l))
-
-  pub one_more : (b c : List ℕ) {d : List ℕ} → b ++ lines_text (tells_in r n) ≡ c → d ≡ b ++ line_text (tell_in x)
-      → d ++ lines_text (tells_in r' m) ≡ c
-  one_more b c h k =
-      ap (λ z. z ++ lines_text (tells_in r' m)) k ∙ append_assoc b (line_text (tell_in x)) (lines_text (tells_in r' m))
-      ∙ ap (λ z. b ++ z) (sym comes) ∙ h
-
--- None comes: as many have come as were asked for.
-pub none_left : (n l : ℕ) → Line.BYTES * n ≤ l → (0 < n → l < Line.BYTES) → n ≡ 0
-none_left zero l h e = refl
-none_left (suc n) l h e = absurd (omega (arith, e (omega arith)))
-
-pub all_come : (b c r : List ℕ) {n : ℕ} → n ≡ 0 → b ++ lines_text (tells_in r n) ≡ c → b ≡ c
+pub one_line : (bs : List ℕ) → lines_text (tells_in bs 1) ≡ line_text (tell_in bs)
 unfolding lines_text tells_in
-all_come b c r e h = sym (append-nil b) ∙ rw e at h
+one_line bs = append-nil (line_text (tell_in bs))

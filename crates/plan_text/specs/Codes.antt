@@ -1,4 +1,4 @@
--- An answer and a bound as numbers, as C has them. No code of this crate needs them; they stand as theorems. Assumes nothing.
+-- The numbers by which an answer and a bound are handed over to be printed. Assumes nothing.
 use Rattle.std.specs.Prelude.{◌≡◌, ℕ, ◌≤◌, ◌<◌, eqb, ltb, if◌then◌else◌}
 use Rattle.std.proofs.Common.{arith, lt-ltb, le-ltb, ne_eqb}
 use Rattle.semantics.specs.Run.{Answer, CLOSED, IDLE, LIMIT, FAULT}

@@ -1,4 +1,4 @@
--- A text put at the front of lent bytes. No contract says it any more; it stands as a theorem. Assumes nothing.
+-- A text put at the front of lent bytes. Assumes nothing.
 use Rattle.std.specs.Prelude.{◌≡◌, List, ◌++◌, ℕ, ◌≤◌, length, drop}
 
 -- ys is t and then what xs has behind it, and r is how many bytes t has. That r fits follows; it is stated for `&out[..r]`.

@@ -17,6 +17,8 @@ use file_bound::Bounded;
 use itoa::Integer;
 use run_limit::Answer;
 
+pub mod slice;
+
 // The bytes of the last line and of a refusal, at most.
 pub const ENDING: usize = 45;
 
@@ -57,8 +59,8 @@ pub fn lines<const N: usize>(journal: &[u8], n: usize, text: &mut ArrayString<N>
     ensures { text.new.bytes ≡ lines_text (tells_in journal.now n) }
 {
     text.clear();
-    for bytes in journal.chunks_exact(line::BYTES).take(n) {
-        push_line(text, bytes);
+    for k in 0..n {
+        push_line(text, &journal[line::BYTES * k..]);
     }
 }
 

@@ -19,11 +19,13 @@ use Rattle.base_numbers.specs.Line as Line
 use Rattle.row_work.specs.Underway.{in_state}
 use Rattle.act_floor.specs.Acting.{Open}
 use Rattle.run_limit.specs.declared.Ran.{Ran}
-use Rattle.run_limit.specs.Ran.{answer_of, RanAs}
+use Rattle.run_limit.specs.Ran.{answer_of, number_of, RanAs}
 use Rattle.plan_text.specs.Text.{lines_text}
 use Rattle.plan_text.specs.Tells.{tells_in, Writable, tells_written}
+use Rattle.plan_text.specs.Put.{Front}
 use Rattle.plan_turn.specs.declared.Answered.{Answered}
 use Rattle.plan_turn.specs.Turn.{AnsweredAs}
+use Rattle.plan_turn.specs.Lent as Lent
 
 module _ {bs map w : List ℕ} (v : Open bs map w) (limit : ℕ) (j : List ℕ) {x : Ran} {w' j' : List ℕ}
     (t : RanAs (run v.run.model limit (room_in j) v.run.is) x w' j j') where
@@ -39,21 +41,34 @@ module _ {bs map w : List ℕ} (v : Open bs map w) (limit : ℕ) (j : List ℕ) 
   fits_text h = omega (arith, few)
 
 -- IT TELLS the run d, whose lines can be written.
-pub answered : {d : definition.Ran} → AllOf Writable d.lines → {x : Ran} {w' j j' : List ℕ} → RanAs d x w' j j'
-    → {text : List ℕ} → text ≡ lines_text (tells_in j' x.lines)
-    → AnsweredAs d (record { answer = x.answer; steps = x.steps }) w' j j' text
-answered {d} h {x} {j = j} {j'} t f =
-    record {
-      answer_is = t.answer_is;
-      steps_are = t.steps_are;
-      state_is = t.state_is;
-      journal_is = t.journal_is;
-      text_is =
-          let c : tells_in j' x.lines ≡ map print_line d.lines =
-          ap (tells_in j') t.lines_are ∙ ap (λ l. tells_in l (length d.lines)) t.journal_is
-          ∙ tells_written d.lines j h in
-          f ∙ ap lines_text c;
-    }
+module _ {d : definition.Ran} (h : AllOf Writable d.lines) {x : Ran} {w' j j' : List ℕ} (t : RanAs d x w' j j') where
+  told : tells_in j' x.lines ≡ map print_line d.lines
+  told =
+      ap (tells_in j') t.lines_are ∙ ap (λ l. tells_in l (length d.lines)) t.journal_is ∙ tells_written d.lines j h
+
+  pub answered : {text : List ℕ} → text ≡ lines_text (tells_in j' x.lines)
+      → AnsweredAs d (record { answer = x.answer; steps = x.steps }) w' j j' text
+  answered f =
+      record {
+        answer_is = t.answer_is;
+        steps_are = t.steps_are;
+        state_is = t.state_is;
+        journal_is = t.journal_is;
+        text_is = f ∙ ap lines_text told;
+      }
+
+  -- At the front of a slice.
+  pub answered_lent : {n b : ℕ} {out out' : List ℕ} → n ≡ number_of (answer_of x.answer)
+      → Front (lines_text (tells_in j' x.lines)) out out' b
+      → Lent.AnsweredAs d (record { answer = n; steps = x.steps; bytes = b }) w' j j' out out'
+  answered_lent e f =
+      record {
+        answer_is = e ∙ ap number_of t.answer_is;
+        steps_are = t.steps_are;
+        state_is = t.state_is;
+        journal_is = t.journal_is;
+        text_is = rw (sym told) f;
+      }
 
 -- THE RUN IS STILL OPEN.
 module _ {bs map w : List ℕ} (v : Open bs map w) (limit : ℕ) (j : List ℕ) {r : Answered} {w' j' text : List ℕ}

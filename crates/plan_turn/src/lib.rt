@@ -11,6 +11,8 @@ ghost use Rattle.plan_turn.specs.Turn.{AnsweredAs};
 use arrayvec::ArrayString;
 use run_limit::Answer;
 
+pub mod slice;
+
 // The answer, and the steps done in this turn.
 #[derive(Clone, Copy)]
 pub struct Answered {

@@ -1,14 +1,12 @@
--- `plan_text::lines` meets its contract: with the lines that are left put too, all are. Assumes nothing.
-use Rattle.std.proofs.Common.{◌≡◌, ◌++◌, ◌+◌, ◌*◌, ◌≤◌, length}
+-- `plan_text::lines` meets its contract: the text is that of the lines so far. Assumes nothing.
+use Rattle.std.proofs.Common.{◌≡◌, ◌*◌, ◌≤◌, length}
 use Rattle.base_numbers.specs.Line as Line
 use Rattle.plan_text.specs.Text.{lines_text}
 use Rattle.plan_text.specs.Tells.{tells_in}
 use Rattle.plan_text.proofs.lines.Given as goal
 
-abbrev pub invariant-loop-bytes : goal.invariant-loop-bytes
-invariant-loop-bytes g l =
-    let i = l.bytes-iterator in
-    (i.iter.size ≡ Line.BYTES)
-    × (Line.BYTES * i.n ≤ length i.iter.rest.now)
-    × (length l.text.bytes + Line.TEXT * i.n ≤ g.row.N)
-    × (l.text.bytes ++ lines_text (tells_in i.iter.rest.now i.n) ≡ lines_text (tells_in l.journal l.n))
+abbrev pub invariant-loop-k : goal.invariant-loop-k
+invariant-loop-k g l =
+    (l.k ≤ l.n)
+    × (length l.text.bytes ≤ Line.TEXT * l.k)
+    × (l.text.bytes ≡ lines_text (tells_in l.journal l.k))
