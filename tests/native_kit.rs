@@ -5,6 +5,7 @@ pub mod arrayvec {
     #[derive(Debug)]
     pub struct CapacityError;
 
+    #[derive(Clone)]
     pub struct ArrayVec<T, const CAP: usize>(Vec<T>);
 
     impl<T, const CAP: usize> ArrayVec<T, CAP> {
