@@ -550,13 +550,49 @@ pub mod op {
     pub const NODE_BYTES: usize = 6;
 }
 
-// A share of a START.
+// A share of a START; and the numbers of the tests of the parts of one size that a body has: check 6, then check 8. The crates
+// of the file name these tests by a type and its method; the numbers are for who writes them down.
 pub mod part {
+    pub const ITEM_VALID: u32 = 0;
+
+    pub const SHARE_VALID: u32 = 1;
+
+    pub const NODE_VALID: u32 = 2;
+
+    pub const ITEM_KNOWN: u32 = 3;
+
+    pub const SHARE_KNOWN: u32 = 4;
+
+    pub const NODE_KNOWN: u32 = 5;
+
+    // The bytes of a share of a START.
     pub const SHARE_BYTES: usize = 6;
 }
 
-// A branch of a TRY.
+// A branch of a TRY; and the numbers of its tests: checks 6 to 9.
 pub mod branch {
+    pub const VALID: u32 = 0;
+
+    pub const ONCE: u32 = 1;
+
+    pub const KNOWN: u32 = 2;
+
+    pub const LATER: u32 = 3;
+
     // The bytes before its claim's items: its block, and how many they are.
     pub const HEAD: usize = 4;
+}
+
+// A number of the i32 range as its two's complement: the lowest word of a negative one, and the highest.
+pub mod twos {
+    pub const NEGATIVE: u32 = 2147483648;
+
+    pub const HIGHEST: u32 = 4294967295;
+}
+
+// The answer of the bound as one word, as C is told it: a bound is its own, and these stand behind all of them.
+pub mod bound {
+    pub const NONE: u64 = 4294967296;
+
+    pub const OVER: u64 = 8589934592;
 }

@@ -2,7 +2,7 @@
 use Rattle.std.specs.Prelude.{if◌then◌else◌}
 use Prim.Native.Nat.{ℕ, ◌+◌, ◌≤◌, ◌<◌}
 use mathlib.Core.Path.{◌≡◌, refl}
-use mathlib.Core.List.{List, ◌++◌}
+use mathlib.Core.List.{List, [], ◌∷◌, ◌++◌}
 use mathlib.Core.Bool.{Bool, true, false}
 use native.Mathlib.Omega.{arith}
 use borrow.Author.Tests.{eq-eqb, eqb-true}
@@ -25,6 +25,12 @@ use Rattle.file_weight.specs.Weigh.{Acts, acts_in, cap, told}
 use Rattle.file_bound.specs.Endable.{Endable, Bodied}
 use Rattle.file_bound.proofs.Arrays.{Arrays, model_of, readable, fit}
 use Rattle.file_bound.proofs.Entities.{entity_if, entity_in, entities_of, entity_head, due, due_all, due_none, due_more}
+
+-- An empty file weighs nothing.
+pub nothing_weighs : (s : List ℕ) → eqb (length s) 0 ≡ true → 0 ≡ cap (bound (model_of s))
+unfolding records_from gather bound
+nothing_weighs [] h = refl
+nothing_weighs (x ∷ s) h = absurd (omega (arith, eqb-true (length (x ∷ s)) 0 h))
 
 -- At byte place `at` of the file s, w and what the ENTITY records to come weigh are the bound, under the cap; these name classes
 -- that there are.

@@ -55,6 +55,10 @@ fn total(s: &[u8]) -> u64
     requires { Endable s.now }
     ensures { result ≡ cap (bound_of (gather (records_from 0 s.now)).model) }
 {
+    // An empty file has nothing to weigh, so no table is made for it.
+    if s.is_empty() {
+        return 0;
+    }
     let i = file_index::index_of(s);
     let body = i.body;
     let g = file_index::graph_of(s, true, body);

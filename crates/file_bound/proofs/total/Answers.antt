@@ -1,9 +1,13 @@
 -- `file_bound::total` meets its contract. The loop's invariant, `Going`: what is summed so far with what the ENTITY records to
 -- come weigh is the bound, under the cap. Assumes nothing.
+use mathlib.Core.Path.{sym, ◌∙◌}
 use native.Mathlib.Omega.{arith}
 use Rattle.file_bound.proofs.Arrays.{readable, arrays}
-use Rattle.file_bound.proofs.Loop.{going_begun, going_ended, step, going_bodied, going_small, going_on}
+use Rattle.file_bound.proofs.Loop.{nothing_weighs, going_begun, going_ended, step, going_bodied, going_small, going_on}
 use Rattle.file_bound.proofs.total.Goals as goal
+
+pub returns-then-is_empty : goal.returns-then-is_empty
+returns-then-is_empty c = nothing_weighs _ (sym c.is_empty.ensures ∙ c.if-is_empty.true)
 
 pub index_of-i-requires : goal.index_of-i-requires
 index_of-i-requires c = readable _ c.requires
