@@ -20,6 +20,22 @@ draft_of d =
       starts = d.starts.items;
     }
 
+-- The fields that show a draft: there is one choice of them.
+abbrev pub fields_of : M.Draft → Inside
+fields_of d =
+    record {
+      line = d.line;
+      kind = d.kind;
+      role = d.role;
+      body = record { items = d.body };
+      over = d.over;
+      size = d.size;
+      count = d.count;
+      at = d.at;
+      aside = d.aside;
+      starts = record { items = d.starts };
+    }
+
 -- A length is counted so far and no farther; it is that of the body, unless the body is more than is kept: then none of it is.
 -- No more items or shares are counted than bytes are kept, and their number stands among these.
 pub record Fine (d : Inside) : Type 0 where

@@ -1,9 +1,9 @@
 // The record that a reader of texts is writing, a draft: what each token of a declaration or action adds to it.
 #![tactic(auto)]
 
-use arrayvec::ArrayVec;
 use base_numbers::{kind, op};
 use std::marker::Model;
+use text_list::{Blank, ShortList};
 use text_tokens::mark;
 
 pub mod symbol;
@@ -40,7 +40,7 @@ const ASK: u32 = 16;
 const HIGHEST: u32 = 4294967295;
 
 // Where the operands of an open expression begin in the body: its sum and its last term.
-#[derive(Clone, Copy, Default)]
+#[derive(Clone, Copy)]
 struct Start {
     sum: usize,
     term: usize,
@@ -56,21 +56,29 @@ impl Model for Start {
     ghost inverse = { λ s. record { sum = s.sum; term = s.term } };
 }
 
+impl Blank for Start {
+    ghost blank = { record { sum = 0; term = 0 } };
+
+    fn blank() -> Start {
+        Start { sum: 0, term: 0 }
+    }
+}
+
 // Where its declaration or action begins in the text, its kind, what the next name is for; its body, unless that is more than
 // is kept, and how long it is; how many items or shares it has, and where their number stands in the body; a number that waits
 // for its relation; and the expressions that are open, the innermost first.
-#[derive(Clone, Drop)]
+#[derive(Clone, Copy)]
 pub struct Draft {
     pub line: usize,
     pub kind: u32,
     pub role: u32,
-    body: ArrayVec<u8, KEPT>,
+    body: ShortList<u8, KEPT>,
     pub over: bool,
     pub size: usize,
     count: u32,
     at: usize,
     aside: u16,
-    starts: ArrayVec<Start, DEPTH>,
+    starts: ShortList<Start, DEPTH>,
 }
 
 impl Model for Draft {
@@ -78,11 +86,13 @@ impl Model for Draft {
 
     ghost Value = { DraftValue };
 
-    ghost use Rattle.text_entry.specs.Shown.{draft_of, Fine};
+    ghost use Rattle.text_entry.specs.Shown.{draft_of, fields_of, Fine};
 
     ghost view = { draft_of };
 
     ghost invariant = { Fine };
+
+    ghost inverse = { fields_of };
 }
 
 // The two's complement of -n.
@@ -157,7 +167,7 @@ fn is_expression(k: u32) -> bool
 }
 
 // A node of an operation goes in front of what stands at `at`.
-fn insert_node(body: &mut ArrayVec<u8, KEPT>, at: usize, op: u8)
+fn insert_node(body: &mut ShortList<u8, KEPT>, at: usize, op: u8)
     requires in_bounds { at ≤ length body.old.items }
     requires room { length body.old.items + NODE ≤ M.KEPT }
     ensures { body.new.items ≡ take at body.old.items ++ node op 0 ++ drop at body.old.items }
@@ -178,13 +188,13 @@ impl Draft {
             line: 0,
             kind: 0,
             role: 0,
-            body: ArrayVec::new(),
+            body: ShortList::new(),
             over: false,
             size: 0,
             count: 0,
             at: 0,
             aside: 0,
-            starts: ArrayVec::new(),
+            starts: ShortList::new(),
         }
     }
 
@@ -263,7 +273,7 @@ impl Draft {
         }
         self.size += n;
         // There is room for them.
-        let _ = self.body.try_extend_from_slice(bytes);
+        self.body.extend_from_slice(bytes);
     }
 
     fn put_two(&mut self, n: u32)
@@ -310,7 +320,7 @@ impl Draft {
         self.count += 1;
         // Behind the body nothing is written.
         if self.at < self.body.len() {
-            self.body[self.at] = self.count as u8;
+            self.body.set(self.at, self.count as u8);
         }
     }
 
@@ -320,7 +330,8 @@ impl Draft {
         ensures { self.new ≡ M.branching self.old }
     {
         if !self.body.is_empty() {
-            self.body[0] += 1;
+            let many = self.body.as_slice()[0];
+            self.body.set(0, many + 1);
         }
     }
 
@@ -370,7 +381,7 @@ impl Draft {
         if self.starts.is_empty() {
             return Start { sum: 0, term: 0 };
         }
-        self.starts[0]
+        self.starts.as_slice()[0]
     }
 
     fn new_term(&mut self)
@@ -383,7 +394,7 @@ impl Draft {
         if self.starts.is_empty() {
             self.starts.push(start);
         } else {
-            self.starts[0] = start;
+            self.starts.set(0, start);
         }
     }
 
