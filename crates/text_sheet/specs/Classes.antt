@@ -1,6 +1,6 @@
 -- Where classes have the numbers of their body blocks. Assumes nothing.
 use Rattle.std.specs.Prelude.{ℕ, zero, suc, ◌+◌, ◌≤◌, ◌<◌, ◌≡◌, refl, Bool, true, false, List, [], ◌∷◌, ◌++◌, length, get_or, map}
-use Rattle.std.proofs.Common.{arith}
+use Rattle.std.proofs.Common.{arith, ap}
 use Rattle.std.proofs.lemmas.List.{get_or-map}
 use Rattle.text_sheet.specs.declared.Class.{Class}
 
@@ -9,6 +9,16 @@ at_of c = c.at
 
 abbrev pub line_of : Class → ℕ
 line_of c = c.line
+
+-- The classes whose numbers and lines these are.
+abbrev pub classes_of : List ℕ → List ℕ → List Class
+classes_of [] ls = []
+classes_of (n ∷ ns) [] = []
+classes_of (n ∷ ns) (l ∷ ls) = record { at = n; line = l } ∷ classes_of ns ls
+
+pub classes_same : (cs : List Class) → classes_of (map at_of cs) (map line_of cs) ≡ cs
+classes_same [] = refl
+classes_same (c ∷ cs) = ap (λ ds. c ∷ ds) (classes_same cs)
 
 -- All stand in so many bytes.
 abbrev pub Placed : ℕ → List Class → Type 0

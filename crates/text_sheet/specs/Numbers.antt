@@ -1,6 +1,6 @@
 -- What contracts name: bytes of a record, the draft that is handed over as numbers and bytes, and a try that is kept.
 -- Assumes nothing.
-use Rattle.std.specs.Prelude.{ℕ, ◌≡◌, ◌+◌, List, [], ◌∷◌, ◌++◌, Bool, false, ◌||◌, leb, ltb, length, Some, None, if◌then◌else◌}
+use Rattle.std.specs.Prelude.{ℕ, ◌≡◌, refl, ◌+◌, List, [], ◌∷◌, ◌++◌, Bool, false, ◌||◌, leb, ltb, length, Some, None, if◌then◌else◌}
 use Rattle.std.specs.Prelude as Prelude
 use Rattle.std.proofs.Math.Option.{Option, none, some}
 use Rattle.semantics.specs.Numbers as No
@@ -19,11 +19,21 @@ ROOM = 256
 abbrev pub entry : ℕ → ℕ → ℕ → List ℕ → Draft
 entry line kind size body = with_body (begin line kind 0) body false size
 
--- A try that is kept, or none; and how long its body is.
+-- A try that is kept, or none, as the machine has it.
 abbrev pub kept_of : Prelude.Option M.Kept → Option M.Kept
 kept_of None = none
 kept_of (Some k) = some k
 
+-- .. and the one that is shown so.
+abbrev pub kept_from : Option M.Kept → Prelude.Option M.Kept
+kept_from none = None
+kept_from (some k) = Some k
+
+pub kept_same : (o : Prelude.Option M.Kept) → kept_from (kept_of o) ≡ o
+kept_same None = refl
+kept_same (Some k) = refl
+
+-- How long its body is.
 abbrev pub kept_length : Option M.Kept → Prelude.Option ℕ
 kept_length none = None
 kept_length (some k) = Some (length k.body)

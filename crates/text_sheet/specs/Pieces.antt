@@ -1,10 +1,11 @@
 -- The records in blocks, whose bytes stand one behind the other. Assumes nothing.
-use Rattle.std.specs.Prelude.{ℕ, suc, ◌+◌, ◌-◌, ◌≤◌, ◌≡◌, refl, List, [], ◌∷◌, ◌++◌, length}
-use Rattle.std.proofs.Common.{arith, ap, ◌∙◌, length-append}
+use Rattle.std.specs.Prelude.{ℕ, suc, ◌+◌, ◌-◌, ◌≤◌, ◌≡◌, refl, List, [], ◌∷◌, ◌++◌, length, drop}
+use Rattle.std.proofs.Common.{arith, sym, ap, ◌∙◌, length-append, drop-drop, take-append-drop}
+use Rattle.std.proofs.Math.ListN.{drop_of_length-le}
 use Rattle.text_machine.specs.Sheet as M
 use Rattle.text_sheet.specs.declared.Piece.{Piece}
 use Rattle.text_sheet.specs.Part.{part}
-use Rattle.text_sheet.specs.Laws.{part_front, part_behind}
+use Rattle.text_sheet.specs.Laws.{part_length, part_front, part_behind}
 
 -- The records, of which the first begins at `start`.
 abbrev pub pieces_from : List ℕ → ℕ → List Piece → List M.Piece
@@ -20,6 +21,35 @@ Laid start size (p ∷ ps) = (start ≤ p.end) × Laid p.end size ps
 pub laid_within : (start size : ℕ) (ps : List Piece) → Laid start size ps → start ≤ size
 laid_within start size [] h = omega (arith, h)
 laid_within start size (p ∷ ps) h = omega (arith, h.0, laid_within p.end size ps h.1)
+
+-- The bytes of all of them, and where each ends: where the first begins and the records say it.
+abbrev pub bytes_of : List M.Piece → List ℕ
+bytes_of [] = []
+bytes_of (q ∷ qs) = q.bytes ++ bytes_of qs
+
+abbrev pub ends_of : ℕ → List M.Piece → List Piece
+ends_of start [] = []
+ends_of start (q ∷ qs) = record { block = q.block; end = start + length q.bytes } ∷ ends_of (start + length q.bytes) qs
+
+pub bytes_same : (stage : List ℕ) (start : ℕ) (ps : List Piece) → Laid start (length stage) ps
+    → bytes_of (pieces_from stage start ps) ≡ drop start stage
+bytes_same stage start [] h = sym (drop_of_length-le stage (omega (arith, h)))
+bytes_same stage start (p ∷ ps) h =
+    let k : start + (p.end - start) ≡ p.end = omega (arith, h.0) in
+    ap (λ bs. part start (p.end - start) stage ++ bs) (bytes_same stage p.end ps h.1)
+    ∙ ap (λ n. part start (p.end - start) stage ++ drop n stage) (sym k)
+    ∙ ap (λ bs. part start (p.end - start) stage ++ bs) (sym (drop-drop (p.end - start) start stage))
+    ∙ take-append-drop (p.end - start) (drop start stage)
+
+pub ends_same : (stage : List ℕ) (start : ℕ) (ps : List Piece) → Laid start (length stage) ps
+    → ends_of start (pieces_from stage start ps) ≡ ps
+ends_same stage start [] h = refl
+ends_same stage start (p ∷ ps) h =
+    let w = laid_within p.end (length stage) ps h.1 in
+    let k : start + length (part start (p.end - start) stage) ≡ p.end =
+    ap (λ n. start + n) (part_length start (p.end - start) stage (omega (arith, h.0, w))) ∙ omega (arith, h.0) in
+    ap (λ n. let q : Piece = record { block = p.block; end = n } in q ∷ ends_of n (pieces_from stage p.end ps)) k
+    ∙ ap (λ qs. p ∷ qs) (ends_same stage p.end ps h.1)
 
 -- One record more.
 pub laid_more : (start size more block : ℕ) (ps : List Piece) → Laid start size ps

@@ -14,11 +14,11 @@ ghost use Rattle.text_machine.specs.Sheet as M;
 ghost use Rattle.text_sheet.specs.Numbers.{HEAD, ROOM, entry, kept_length, class_noted, crowded, Counts, Branches, OpenedTotal};
 ghost use Rattle.text_sheet.specs.Pieces.{pieces_from, Laid};
 ghost use Rattle.text_sheet.specs.Told.{Put};
-ghost use Rattle.std.proofs.Math.Option.{some};
+ghost use Rattle.std.proofs.Math.Option.{none, some};
 
-use arrayvec::ArrayVec;
 use base_numbers::{group, kind, limit};
 use std::marker::Model;
+use text_list::{Blank, ShortList};
 
 // How many bytes there is room for: of declarations; of a kept body, and of all of them.
 pub mod room {
@@ -43,24 +43,40 @@ const STAGE: usize = limit::FILE;
 pub const LEVELS: usize = limit::DEPTH + 1;
 
 // A class: where the number of its body block stands in the declarations, and its first line.
-#[derive(Clone, Copy, Default)]
+#[derive(Clone, Copy)]
 struct Class {
     at: usize,
     line: usize,
 }
 
+impl Blank for Class {
+    ghost blank = { record { at = 0; line = 0 } };
+
+    fn blank() -> Class {
+        Class { at: 0, line: 0 }
+    }
+}
+
 // A record that stands in a block: the block, and where it ends among the bytes of all of them.
-#[derive(Clone, Copy, Default)]
+#[derive(Clone, Copy)]
 struct Piece {
     block: u32,
     end: usize,
 }
 
+impl Blank for Piece {
+    ghost blank = { record { block = 0; end = 0 } };
+
+    fn blank() -> Piece {
+        Piece { block: 0, end: 0 }
+    }
+}
+
 // A try whose branches may still go on: its line, and its body so far.
-#[derive(Clone, Drop)]
+#[derive(Clone, Copy)]
 struct Kept {
     line: usize,
-    body: ArrayVec<u8, BODY>,
+    body: ShortList<u8, BODY>,
 }
 
 impl Model for Kept {
@@ -69,10 +85,12 @@ impl Model for Kept {
     ghost Value = { KeptValue };
 
     ghost view = { λ k. record { line = k.line; body = k.body.items } };
+
+    ghost inverse = { λ k. record { line = k.line; body = record { items = k.body } } };
 }
 
 // An open block, and the try in it that may go on.
-#[derive(Clone, Default, Drop)]
+#[derive(Clone, Copy)]
 struct Level {
     block: u32,
     kept: Option<Kept>,
@@ -80,30 +98,45 @@ struct Level {
 
 impl Model for Level {
     ghost use Rattle.text_machine.specs.Sheet.{Level as LevelValue};
-    ghost use Rattle.text_sheet.specs.Numbers.{kept_of};
+    ghost use Rattle.text_sheet.specs.Numbers.{kept_of, kept_from, kept_same};
 
     ghost Value = { LevelValue };
 
     ghost view = { λ l. record { block = l.block; kept = kept_of l.kept } };
+
+    ghost inverse = { λ l. record { block = l.block; kept = kept_from l.kept } };
+
+    ghost inverse_ok = { λ l h. rw (kept_same l.kept) };
+}
+
+impl Blank for Level {
+    ghost blank = { record { block = 0; kept = none } };
+
+    fn blank() -> Level {
+        Level {
+            block: 0,
+            kept: None,
+        }
+    }
 }
 
 // How many records there are of each group, and their bytes; where the first declaration begins; the last action in the order
 // of the file, by its block and its line; the bytes of the declarations; the classes, and the one that is being read; the
 // records in blocks, in the order of the text, and their bytes one behind the other; the open blocks, the innermost first; and
 // whether there was no room for something.
-#[derive(Clone, Drop)]
+#[derive(Clone, Copy)]
 pub struct Sheet {
     pub seen: [u32; group::MANY],
     pub total: usize,
     pub first: usize,
     pub last_block: u32,
     pub last_line: usize,
-    declared: ArrayVec<u8, DECLARED>,
-    classes: ArrayVec<Class, CLASSES>,
+    declared: ShortList<u8, DECLARED>,
+    classes: ShortList<Class, CLASSES>,
     pub current: usize,
-    pieces: ArrayVec<Piece, PIECES>,
-    stage: ArrayVec<u8, STAGE>,
-    levels: ArrayVec<Level, LEVELS>,
+    pieces: ShortList<Piece, PIECES>,
+    stage: ShortList<u8, STAGE>,
+    levels: ShortList<Level, LEVELS>,
     pub full: bool,
 }
 
@@ -112,11 +145,15 @@ impl Model for Sheet {
 
     ghost Value = { SheetValue };
 
-    ghost use Rattle.text_sheet.specs.Shown.{sheet_of, Fine};
+    ghost use Rattle.text_sheet.specs.Shown.{sheet_of, fields_of, fields_same, Fine};
 
     ghost view = { sheet_of };
 
     ghost invariant = { Fine };
+
+    ghost inverse = { fields_of };
+
+    ghost inverse_ok = { fields_same };
 }
 
 // A record's length and kind.
@@ -143,13 +180,13 @@ fn head(kind: u32, size: usize) -> [u8; HEAD]
 }
 
 // A record behind others, for which there is room.
-fn append<const N: usize>(out: &mut ArrayVec<u8, N>, kind: u32, body: &[u8])
+fn append<const N: usize>(out: &mut ShortList<u8, N>, kind: u32, body: &[u8])
     requires kind_bound { (kind < Byte.TWO) × (length body.now + HEAD ≤ Byte.TWO) }
     requires room { length out.old.items + (HEAD + length body.now) ≤ N }
     ensures { out.new.items ≡ out.old.items ++ headed kind body.now }
 {
-    let _ = out.try_extend_from_slice(&head(kind, body.len()));
-    let _ = out.try_extend_from_slice(body);
+    out.extend_from_slice(&head(kind, body.len()));
+    out.extend_from_slice(body);
 }
 
 fn added(total: usize, n: usize) -> usize
@@ -217,12 +254,12 @@ impl Sheet {
             first: 0,
             last_block: 0,
             last_line: 0,
-            declared: ArrayVec::new(),
-            classes: ArrayVec::new(),
+            declared: ShortList::new(),
+            classes: ShortList::new(),
             current: 0,
-            pieces: ArrayVec::new(),
-            stage: ArrayVec::new(),
-            levels: ArrayVec::new(),
+            pieces: ShortList::new(),
+            stage: ShortList::new(),
+            levels: ShortList::new(),
             full: false,
         }
     }
@@ -275,7 +312,7 @@ impl Sheet {
         ensures { result ≡ get_or self.now.class_line class 0 }
     {
         if class < self.classes.len() {
-            return self.classes[class].line;
+            return self.classes.as_slice()[class].line;
         }
         0
     }
@@ -293,7 +330,7 @@ impl Sheet {
         if self.levels.is_empty() {
             return 0;
         }
-        let inner = &self.levels[0];
+        let inner = &self.levels.as_slice()[0];
         inner.block
     }
 
@@ -304,7 +341,7 @@ impl Sheet {
         if self.levels.is_empty() {
             return None;
         }
-        let level = &self.levels[0];
+        let level = &self.levels.as_slice()[0];
         match &level.kept {
             None => None,
             Some(kept) => Some(kept.body.len()),
@@ -320,7 +357,7 @@ impl Sheet {
         if self.levels.is_empty() {
             return nothing;
         }
-        let open = &self.levels[0];
+        let open = &self.levels.as_slice()[0];
         match &open.kept {
             None => nothing,
             Some(kept) => Resumed {
@@ -427,9 +464,9 @@ impl Sheet {
         requires place { get_or self.old.class_at class 0 + 2 ≤ length self.old.declared }
         ensures { self.new ≡ M.bodied class block self.old }
     {
-        let at = self.classes[class].at;
+        let at = self.classes.as_slice()[class].at;
         let bytes = (block as u16).to_le_bytes();
-        put(&bytes, self.declared.as_mut_slice(), at);
+        self.declared.set_all(at, &bytes);
         self.current = class;
     }
 
@@ -469,8 +506,10 @@ impl Sheet {
         if self.levels.is_empty() {
             return;
         }
-        let level = &mut self.levels[0];
-        let kept = level.kept.take();
+        let open = &self.levels.as_slice()[0];
+        let block = open.block;
+        let kept = open.kept;
+        self.levels.set(0, Level { block, kept: None });
         if let Some(kept) = kept {
             self.stands(kind::TRY, kept.body.as_slice());
         }
@@ -518,10 +557,18 @@ impl Sheet {
         if self.levels.is_empty() {
             return;
         }
-        let mut bytes = ArrayVec::new();
-        let _ = bytes.try_extend_from_slice(body);
-        let level = &mut self.levels[0];
-        level.kept = Some(Kept { line, body: bytes });
+        let open = &self.levels.as_slice()[0];
+        let block = open.block;
+        let mut bytes = ShortList::new();
+        bytes.extend_from_slice(body);
+        let kept = Kept { line, body: bytes };
+        self.levels.set(
+            0,
+            Level {
+                block,
+                kept: Some(kept),
+            },
+        );
     }
 
     // A branch of a try.
