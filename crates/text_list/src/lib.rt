@@ -1,7 +1,7 @@
 // A list of at most N values, which lies in the value itself and can be copied.
 #![tactic(auto)]
 
-ghost use Rattle.std.specs.Prelude.{◌≡◌, ◌+◌, ◌-◌, ◌≤◌, ◌<◌, ◌==◌, ◌++◌, List, [], ◌∷◌, length, take, drop, replicate, slice_set, slice_index_or, insert, remove, ⊤};
+ghost use Rattle.std.specs.Prelude.{◌≡◌, ◌+◌, ◌-◌, ◌≤◌, ◌<◌, ◌==◌, ◌++◌, List, [], ◌∷◌, length, take, drop, replicate, slice_set, insert, remove, ⊤};
 
 use std::alloc::AllocError;
 use std::marker::Model;
@@ -72,9 +72,10 @@ impl<T: Blank, const N: usize> ShortList<T, N> {
         ensures value { result ≡ length self.now.items }
         ensures fits { result ≤ N }
     {
-        self.size
+        self.as_slice().len()
     }
 
+    // The values.
     pub fn as_slice(&self) -> &[T]
         ensures value { result.now ≡ self.now.items }
         ensures fits { length result.now ≤ N }
@@ -150,17 +151,14 @@ impl<T: Blank, const N: usize> ShortList<T, N> {
     }
 
     // The value at a place goes; the later ones move down.
-    pub fn remove(&mut self, index: usize) -> T
+    pub fn remove(&mut self, index: usize)
         requires { index < length self.old.items }
-        ensures value { result ≡ slice_index_or self.old.items index result }
         ensures items { self.new.items ≡ remove self.old.items index }
         ensures len { length self.new.items + 1 ≡ length self.old.items }
     {
-        let value = self.as_slice()[index];
         let size = self.size;
         remove_at(&mut self.cells, size, index, T::blank());
         self.size = size - 1;
-        value
     }
 
     // All values go.

@@ -19,12 +19,16 @@ ROOM = 256
 abbrev pub entry : ℕ → ℕ → ℕ → List ℕ → Draft
 entry line kind size body = with_body (begin line kind 0) body false size
 
--- A try that is kept, or none, as the machine has it.
+-- A try that is kept, or none; and how long its body is.
 abbrev pub kept_of : Prelude.Option M.Kept → Option M.Kept
 kept_of None = none
 kept_of (Some k) = some k
 
--- .. and the one that is shown so.
+abbrev pub kept_length : Option M.Kept → Prelude.Option ℕ
+kept_length none = None
+kept_length (some k) = Some (length k.body)
+
+-- The one that is shown so.
 abbrev pub kept_from : Option M.Kept → Prelude.Option M.Kept
 kept_from none = None
 kept_from (some k) = Some k
@@ -32,11 +36,6 @@ kept_from (some k) = Some k
 pub kept_same : (o : Prelude.Option M.Kept) → kept_from (kept_of o) ≡ o
 kept_same None = refl
 kept_same (Some k) = refl
-
--- How long its body is.
-abbrev pub kept_length : Option M.Kept → Prelude.Option ℕ
-kept_length none = None
-kept_length (some k) = Some (length k.body)
 
 -- A class is noted, whose body block's number stands there, if there is room for it.
 unfoldable pub class_noted : ℕ → ℕ → M.Sheet → M.Sheet

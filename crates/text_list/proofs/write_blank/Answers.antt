@@ -1,6 +1,5 @@
 -- `text_list::write_blank` meets its contract. Assumes nothing.
-use Rattle.std.specs.Prelude.{◌∷◌, [], ◌++◌, drop, replicate}
-use Rattle.std.proofs.Common.{arith, sym, ap, ◌∙◌}
+use Rattle.std.proofs.Common.{arith}
 use Rattle.text_list.proofs.Edits.{blanked}
 use Rattle.text_list.proofs.write_blank.Goals as goal
 
