@@ -46,16 +46,6 @@ impl<T: Blank, const N: usize> Model for ShortList<T, N> {
     ghost inverse_ok = { λ l h. let d = determined T.blank N l.cells l.size h in rw (d.0, d.1) };
 }
 
-impl<T: Blank, const N: usize> Clone for ShortList<T, N> {
-    ghost is_clone = { λ x y. y ≡ x };
-
-    ghost is_infallible = { λ _. ⊤ };
-
-    fn clone(&self) -> Result<Self, AllocError> {
-        Ok(*self)
-    }
-}
-
 impl<T: Blank, const N: usize> ShortList<T, N> {
     // No values.
     pub fn new() -> Self
@@ -168,6 +158,16 @@ impl<T: Blank, const N: usize> ShortList<T, N> {
         let size = self.size;
         write_blank(&mut self.cells, size, T::blank());
         self.size = 0;
+    }
+}
+
+impl<T: Blank, const N: usize> Clone for ShortList<T, N> {
+    ghost is_clone = { λ x y. y ≡ x };
+
+    ghost is_infallible = { λ _. ⊤ };
+
+    fn clone(&self) -> Result<Self, AllocError> {
+        Ok(*self)
     }
 }
 
