@@ -109,6 +109,9 @@ def module(text):
     inside = '|'.join(['super', 'std'] + re.findall(r'(?m)^(?:pub )?mod (\w+)', text))
     text = re.sub(r'(?m)^( *)use (?!(?:%s)\b)([a-z0-9_]+)::' % inside, r'\1use crate::\2::', text)
     text = re.sub(r'(?m)^#\[unsafe\(no_mangle\)\]\npub extern "C" ', 'pub ', text)
+    # A clone can't fail there.
+    text = re.sub(r'(?m)^use std::alloc::AllocError;\n', '', text)
+    text = re.sub(r'(fn clone\(&self\)) -> Result<Self, AllocError> (\{\s*)Ok\(\*self\)', r'\1 -> Self \2*self', text)
     # What Rust drops by itself.
     return re.sub(r'(?m)^ *#\[derive\(Drop\)\]\n|, Drop(?=\)\]$)', '', text)
 
