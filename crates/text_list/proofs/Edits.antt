@@ -19,7 +19,8 @@ module _ {T : Type 0} (blank : T) (n : ℕ) where
   held cells xs size e k f = (
     record {
       fits = f;
-      whole = ap length e ∙ length-append xs (replicate (n - size) blank) ∙ omega (arith, k, f, length-replicate (n - size) blank);
+      whole = ap length e ∙ length-append xs (replicate (n - size) blank)
+          ∙ omega (arith, k, f, length-replicate (n - size) blank);
       rest = ap (drop size) e ∙ drop_at xs (replicate (n - size) blank) size k;
     },
     ap (take size) e ∙ take_at xs (replicate (n - size) blank) size k,
@@ -106,7 +107,8 @@ module _ {T : Type 0} {blank : T} {n : ℕ} {cells : List T} {size : ℕ} (h : F
       ∙ ap (λ k. replicate k blank) (omega (arith, h.fits)))
       refl (omega arith)
 
-many : {T : Type 0} {blank : T} {n : ℕ} {cells : List T} {size : ℕ} → Fine blank n cells size → {xs : List T} → take size cells ≡ xs
+many : {T : Type 0} {blank : T} {n : ℕ} {cells : List T} {size : ℕ} → Fine blank n cells size → {xs : List T}
+    → take size cells ≡ xs
     → length xs ≡ size
 many h v = sym (ap length v) ∙ long h
 

@@ -28,4 +28,5 @@ module _ {T : Type 0} (blank : T) (n : ℕ) where
       → (filled blank n (take size cells) ≡ cells) × (length (take size cells) ≡ size)
   determined cells size h =
       let k = length-take-le size cells (omega (arith, h.fits, h.whole)) in
-      (ap (λ m. take size cells ++ replicate (n - m) blank) k ∙ ap (λ ys. take size cells ++ ys) (sym h.rest) ∙ take-append-drop size cells, k)
+      let xs = take size cells in
+      (ap (λ m. xs ++ replicate (n - m) blank) k ∙ ap (λ ys. xs ++ ys) (sym h.rest) ∙ take-append-drop size cells, k)

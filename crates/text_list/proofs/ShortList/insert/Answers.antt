@@ -4,4 +4,5 @@ use Rattle.text_list.proofs.Edits.{insert_held}
 use Rattle.text_list.proofs.ShortList.insert.Goals as goal
 
 pub invariant_of-self : goal.invariant_of-self
-invariant_of-self g c = (insert_held c.self.invariant (ap (λ v. v.items) c.self.view_is) c.args.index c.args.value c.insert_at.ensures c.requires.in_bounds c.requires.room).0
+invariant_of-self g c = let a = c.args in
+    (insert_held c.self.invariant (ap (λ v. v.items) c.self.view_is) a.index a.value c.insert_at.ensures c.requires.in_bounds c.requires.room).0

@@ -5,4 +5,6 @@ use Rattle.text_list.proofs.Edits.{remove_held}
 use Rattle.text_list.proofs.ShortList.remove.Goals as goal
 
 pub invariant_of-self : goal.invariant_of-self
-invariant_of-self g c = (remove_held c.self.invariant (ap (λ v. v.items) c.self.view_is) c.args.index (c.remove_at.ensures ∙ ap (λ b. remove (take c.self.inside.size c.self.inside.cells) c.args.index ++ b ∷ drop c.self.inside.size c.self.inside.cells) c.blank.ensures) c.requires).0
+invariant_of-self g c = let i = c.self.inside in
+    let e = c.remove_at.ensures ∙ ap (λ b. remove (take i.size i.cells) c.args.index ++ b ∷ drop i.size i.cells) c.blank.ensures in
+    (remove_held c.self.invariant (ap (λ v. v.items) c.self.view_is) c.args.index e c.requires).0
