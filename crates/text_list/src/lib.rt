@@ -1,4 +1,4 @@
-// A list of at most N values, which lies in the value itself and can be copied.
+// A list of at most N values, which needs no heap and can be copied.
 #![tactic(auto)]
 
 ghost use Rattle.std.specs.Prelude.{◌≡◌, ◌+◌, ◌-◌, ◌≤◌, ◌<◌, ◌==◌, ◌++◌, List, [], ◌∷◌, length, take, drop, replicate, slice_set, insert, remove, ⊤};

@@ -10,7 +10,7 @@ at_of c = c.at
 abbrev pub line_of : Class → ℕ
 line_of c = c.line
 
--- The classes whose numbers and lines these are.
+-- The classes with these places and lines.
 abbrev pub classes_of : List ℕ → List ℕ → List Class
 classes_of [] ls = []
 classes_of (n ∷ ns) [] = []

@@ -1,4 +1,5 @@
--- What contracts name: bytes of a record, the draft that is handed over as numbers and bytes, and a try that is kept.
+-- What contracts name: bytes of a record, the draft that is handed over as numbers and bytes, and a try that is kept; and what
+-- gives such a try back from the machine's.
 -- Assumes nothing.
 use Rattle.std.specs.Prelude.{ℕ, ◌≡◌, refl, ◌+◌, List, [], ◌∷◌, ◌++◌, Bool, false, ◌||◌, leb, ltb, length, Some, None, if◌then◌else◌}
 use Rattle.std.specs.Prelude as Prelude

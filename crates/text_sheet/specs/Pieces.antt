@@ -22,7 +22,7 @@ pub laid_within : (start size : ℕ) (ps : List Piece) → Laid start size ps �
 laid_within start size [] h = omega (arith, h)
 laid_within start size (p ∷ ps) h = omega (arith, h.0, laid_within p.end size ps h.1)
 
--- The bytes of all of them, and where each ends: where the first begins and the records say it.
+-- What stands behind the records of the machine: the bytes of all of them; and where each ends, if the first begins at `start`.
 abbrev pub bytes_of : List M.Piece → List ℕ
 bytes_of [] = []
 bytes_of (q ∷ qs) = q.bytes ++ bytes_of qs
